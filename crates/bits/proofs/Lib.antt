@@ -1,0 +1,7 @@
+pub mod Numbers
+pub mod Bytes
+pub mod Splices
+pub mod Shares
+pub mod Windows
+pub mod Frames
+pub mod Elements

@@ -1,0 +1,34 @@
+-- What the bits of bytes are, most significant first, and what number a run of bits is.
+use Prim.Native.Nat.{ℕ, zero, suc, _+_, _*_, _/_, _%_, _^_}
+use mathlib.Core.List.{List, [], _∷_, _++_}
+use mathlib.Core.Bool.{Bool, true, false}
+use lib.ListN.{length, take, drop}
+use lib.Dec.{eqb}
+
+-- one of two, by a test
+abbrev pub pick : {A : Type 0} → Bool → A → A → A
+pick true a b = a
+pick false a b = b
+
+-- a bit as a number
+abbrev pub bit : Bool → ℕ
+bit b = pick b 1 0
+
+-- the number that a run of bits is
+unfoldable pub value : List Bool → ℕ
+value [] = 0
+value (b ∷ l) = bit b * 2 ^ length l + value l
+
+-- the bits of a number at the width w: its w lowest
+unfoldable pub bitsOf : ℕ → ℕ → List Bool
+bitsOf zero v = []
+bitsOf (suc w) v = eqb (v / 2 ^ w % 2) 1 ∷ bitsOf w v
+
+-- the bits of bytes: the eight bits of each, in order
+unfoldable pub bits : List ℕ → List Bool
+bits [] = []
+bits (b ∷ s) = bitsOf 8 b ++ bits s
+
+-- these bits replaced from place `at` on, all others as they were
+abbrev pub splice : List Bool → ℕ → List Bool → List Bool
+splice l at new = take at l ++ (new ++ drop (at + length new) l)

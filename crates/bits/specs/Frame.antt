@@ -1,0 +1,19 @@
+-- A PDU is a bit length and the bytes that hold it; refusal 1 is for what is not framed so.
+use Prim.Native.Nat.{ℕ, _+_, _/_}
+use mathlib.Core.List.{List}
+use mathlib.Core.Bool.{Bool, _&&_}
+use lib.ListN.{length, take, drop}
+use lib.Dec.{eqb, leb}
+use Rattle.bits.specs.Bits.{bits, value}
+
+-- the bytes that hold n bits: n divided by 8, rounded up
+abbrev pub bytesFor : ℕ → ℕ
+bytesFor n = (n + 7) / 8
+
+-- a PDU's own bits: the first n of its bytes' bits
+abbrev pub bitsIn : ℕ → List ℕ → List Bool
+bitsIn n s = take n (bits s)
+
+-- at most 4,096 bits, exactly the bytes that hold them, and zero in the unused bits
+unfoldable pub framed : List ℕ → ℕ → Bool
+framed s n = leb n 4096 && eqb (length s) (bytesFor n) && eqb (value (drop n (bits s))) 0

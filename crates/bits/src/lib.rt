@@ -1,0 +1,199 @@
+// Bits of bytes, most significant first: a cursor that takes elements, a function that puts one in its place,
+// the counts of bits and digits, and the frame of a PDU (document 01, "The two PDUs").
+ghost use mathlib.Core.Path.{_≡_};
+ghost use Prim.Native.Nat.{_+_, _-_, _*_, _/_, _%_, _^_, _≤_, _<_, min};
+ghost use lib.ListN.{length, take, drop};
+ghost use Rattle.bits.specs.Bits.{bits, bitsOf, value, splice};
+ghost use Rattle.bits.specs.Frame.{bytesFor, framed};
+ghost use Rattle.bits.specs.Element.{takeAt, hasRoom, putAt};
+
+// A length in bits: a PDU's.
+pub struct BitCount(pub usize);
+
+// A length in digits, of four bits each: an external number's.
+pub struct DigitCount(pub u8);
+
+impl DigitCount {
+    pub fn bits(self) -> BitCount
+        ensures { λ r. ⌜ r .0 ≡ 4 * self .0 ⌝ }
+    {
+        BitCount(4 * (self.0 as usize))
+    }
+}
+
+impl BitCount {
+    // The whole digits in so many bits, as far as a digit count goes.
+    pub fn digits(self) -> DigitCount
+        ensures { λ r. ⌜ r .0 ≡ min (self .0 / 4) 255 ⌝ }
+    {
+        DigitCount(least(self.0 / 4, 255) as u8)
+    }
+
+    // The number of bytes that hold so many bits.
+    pub fn bytes(self) -> usize
+        ensures { λ r. ⌜ r ≡ bytesFor (self .0) ⌝ }
+    {
+        self.0 / 8 + (self.0 % 8 + 7) / 8
+    }
+}
+
+// A place among the bits of a PDU.
+pub struct Cursor {
+    pub at: usize,
+}
+
+pub enum Taken {
+    // The element, and the cursor after it.
+    Element(u32, Cursor),
+    // The PDU ends before or inside the element.
+    Short,
+}
+
+impl Cursor {
+    // The element of `width` bits, 1 to 32, of the PDU of n bits in s. No element is wider or narrower.
+    pub fn take(self, s: &[u8], n: BitCount, width: usize) -> Taken
+        ensures { λ r. ⌜ r ≡ takeAt (now (s .entry)) (n .0) (self .at) width ⌝ }
+    {
+        let at = self.at;
+        let end = n.0;
+        if width == 0 {
+            return Taken::Short;
+        }
+        if 32 < width {
+            return Taken::Short;
+        }
+        if end < at {
+            return Taken::Short;
+        }
+        if end - at < width {
+            return Taken::Short;
+        }
+        let next = at + width;
+        if at / 8 + 8 <= s.len() {
+            return Taken::Element(number_at(s, at, width, 8), Cursor { at: next });
+        }
+        if s.len() < BitCount(next).bytes() {
+            return Taken::Short;
+        }
+        Taken::Element(
+            number_at(s, at, width, (at % 8 + width + 7) / 8),
+            Cursor { at: next },
+        )
+    }
+}
+
+// The number that `width` bits at `at` are: the middle of the number that the `count` bytes around them are.
+fn number_at(s: &[u8], at: usize, width: usize, count: usize) -> u32
+    requires { ⌜ (1 ≤ width) × (width ≤ 32) × (count ≤ 8) × (at % 8 + width ≤ 8 * count) × (at / 8 + count ≤ length (now s)) ⌝ }
+    ensures { λ r. ⌜ r ≡ value (take width (drop at (bits (now (s .entry))))) ⌝ }
+{
+    let around = bytes_at(s, at / 8, count);
+    let after = 8 * count - at % 8 - width;
+    ((around >> after) % (1u64 << width)) as u32
+}
+
+// The number that the bits of `count` bytes from `from` on are.
+fn bytes_at(s: &[u8], from: usize, count: usize) -> u64
+    requires { ⌜ (count ≤ 8) × (from + count ≤ length (now s)) ⌝ }
+    ensures { λ r. ⌜ r ≡ value (bits (take count (drop from (now (s .entry))))) ⌝ }
+{
+    let mut sum: u64 = 0;
+    let mut i: usize = 0;
+    while i < count {
+        sum = sum * 256 + wide(s[from + i]);
+        i += 1;
+    }
+    sum
+}
+
+fn wide(b: u8) -> u64
+    ensures { λ r. ⌜ r ≡ b ⌝ }
+{
+    b as u64
+}
+
+// Puts the `width` low bits of an element, up to 32, at `at`, and says whether there was room; without it no bit changes.
+pub fn put(buf: &mut [u8], at: usize, width: usize, element: u32) -> bool
+    ensures { λ r. ⌜ (r ≡ hasRoom (now (buf .entry)) at width) × (bits (now (buf .exit)) ≡ putAt (now (buf .entry)) at width element) ⌝ }
+{
+    if 32 < width {
+        return false;
+    }
+    if buf.len() < at / 8 {
+        return false;
+    }
+    if buf.len() - at / 8 < (at % 8 + width + 7) / 8 {
+        return false;
+    }
+    put_within(buf, at, width, element);
+    true
+}
+
+// The same where there is room, a byte's share at a time.
+fn put_within(buf: &mut [u8], at: usize, width: usize, element: u32)
+    requires { ⌜ (width ≤ 32) × (at + width ≤ 8 * length (now buf)) ⌝ }
+    ensures { λ r. ⌜ bits (now (buf .exit)) ≡ splice (bits (now (buf .entry))) at (bitsOf width element) ⌝ }
+{
+    let mut done: usize = 0;
+    let mut q = at / 8;
+    let mut r = at % 8;
+    while done < width {
+        let room = 8 - r;
+        let n = least(room, width - done);
+        let share = field(element, n, width - done - n);
+        buf[q] = with_field(buf[q], n, room - n, share);
+        done += n;
+        q += (r + n) / 8;
+        r = (r + n) % 8;
+    }
+}
+
+// A byte with the n bits that have k bits after them replaced by those of f.
+fn with_field(b: u8, n: usize, k: usize, f: u32) -> u8
+    requires { ⌜ (n + k ≤ 8) × (f < 2 ^ n) ⌝ }
+    ensures { λ r. ⌜ r ≡ (b / 2 ^ (n + k) * 2 ^ n + f) * 2 ^ k + b % 2 ^ k ⌝ }
+{
+    let x = b as u32;
+    let low = pow2(k);
+    (((x >> (n + k)) * pow2(n) + f) * low + x % low) as u8
+}
+
+// The n bits of a number that have k bits after them.
+fn field(x: u32, n: usize, k: usize) -> u32
+    requires { ⌜ (n ≤ 8) × (k < 32) ⌝ }
+    ensures { λ r. ⌜ r ≡ x / 2 ^ k % 2 ^ n ⌝ }
+{
+    (x >> k) % pow2(n)
+}
+
+fn pow2(n: usize) -> u32
+    requires { ⌜ n ≤ 8 ⌝ }
+    ensures { λ r. ⌜ r ≡ 2 ^ n ⌝ }
+{
+    1u32 << n
+}
+
+fn least(a: usize, b: usize) -> usize
+    ensures { λ r. ⌜ r ≡ min a b ⌝ }
+{
+    if a < b { a } else { b }
+}
+
+// Refusal 1 is for what is not framed: at most 4,096 bits, exactly the bytes that hold them, zero in the unused bits.
+pub fn is_framed(s: &[u8], n: BitCount) -> bool
+    ensures { λ r. ⌜ r ≡ framed (now (s .entry)) (n .0) ⌝ }
+{
+    let count = n.0;
+    if 4096 < count {
+        return false;
+    }
+    if s.len() != n.bytes() {
+        return false;
+    }
+    let used = count % 8;
+    if used == 0 {
+        return true;
+    }
+    let last = count / 8;
+    field(s[last] as u32, 8 - used, 0) == 0
+}

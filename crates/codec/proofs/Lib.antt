@@ -1,0 +1,4 @@
+pub mod Whole
+pub mod Reading
+pub mod Filling
+pub mod Entries

@@ -1,0 +1,188 @@
+-- Reading at a place, one law for each way to build a codec, and for going on from where reading stands. Assumes nothing.
+use mathlib.Core.Path.{_≡_, refl, sym, ap, _∙_}
+use mathlib.Core.Bool.{Bool, true, false, _&&_}
+use mathlib.Core.List.{List, [], _∷_, _++_}
+use Prim.Native.Nat.{ℕ, zero, suc, _+_, _≤_, _<_}
+use native.Mathlib.Nat.{add-zero}
+use native.Mathlib.Omega.{arith}
+use lib.ListN.{length, take, drop, length-drop}
+use lib.Seq.{drop-drop, drop-append-seam}
+use lib.Dec.{ltb, leb}
+use borrow.Author.Tests.{ltb-true, ltb-false, leb-true}
+use Rattle.bits.specs.Bits.{pick, value}
+use Rattle.bits.specs.Frame.{bitsIn}
+use Rattle.bits.specs.Element.{elementAt, takeAt}
+use Rattle.bits.specs.declared.Taken.{Taken}
+use Rattle.bits.specs.declared.Taken.the-variants.{Element, Short}
+use Rattle.bits.proofs.Elements.{element-there, element-short}
+use Rattle.codec.specs.Codec.{Outcome, ok, no, andThen, Right, Codec}
+use Rattle.codec.specs.Parts.{number, absent, seq, unless, tested, element, shaped, mark, only}
+use Rattle.codec.specs.Places.{nil, cons}
+use Rattle.codec.specs.Reading.{Answer, got, refused, andNext, barring, answer, readAt, from, reachedOf, valueOr, elementOf, numberIs, testedIs}
+use Rattle.codec.specs.declared.Reached.{Reached}
+use Rattle.codec.specs.declared.Reached.the-variants.{At, Refused}
+use Rattle.codec.specs.declared.NumberRead.{NumberRead}
+
+pub andNext-assoc : {A B C : Type 0} (o : Answer A) (j : A → ℕ → Answer B) (k : B → ℕ → Answer C)
+    → andNext (andNext o j) k ≡ andNext o (λ a at. andNext (j a at) k)
+andNext-assoc (got a at) j k = refl
+andNext-assoc (refused n p) j k = refl
+
+pub next-got : {A : Type 0} (o : Answer A) → andNext o (λ a at. got a at) ≡ o
+next-got (got a at) = refl
+next-got (refused n p) = refl
+
+pub barring-some : {A : Type 0} (k at : ℕ) (o : Answer A) → (k ≡ 0 → ⊥) → barring k at o ≡ refused k at
+barring-some zero at o h = absurd (h refl)
+barring-some (suc k) at o h = refl
+
+-- what is left after a part is what stands at the next place
+rest-at : {A : Type 0} (c : Codec A) (s : List Bool) (at : ℕ) (o : Outcome A) → Right (c .clean) (c .fault) (c .print) at (drop at s) o
+    → (a : A) (at′ : ℕ) (r : List Bool) → o ≡ ok a at′ r → r ≡ drop at′ s
+rest-at c s at (ok b p t) h a at′ r e =
+    let q : t ≡ r = cc in
+    let q′ : p ≡ at′ = cc in
+    rw (← q, ← q′) (sym (ap (λ (n : ℕ). drop n s) (h .3) ∙ sym (drop-drop (length (c .print b)) at s) ∙ ap (drop (length (c .print b))) (h .2) ∙ drop-append-seam (c .print b) t))
+rest-at c s at (no n p) h a at′ r e = absurd (let z : _≡_ {A = ℕ} 0 1 = cc in omega arith)
+
+module _ {A B : Type 0} (c : Codec A) (k : A → ℕ → List Bool → Outcome B) (s : List Bool) (at : ℕ) where
+  then-cases : (o : Outcome A) → c .parse at (drop at s) ≡ o → answer (andThen o k) ≡ andNext (answer o) (λ a at′. answer (k a at′ (drop at′ s)))
+  then-cases (ok a at′ r) e = ap (λ (t : List Bool). answer (k a at′ t)) (rest-at c s at (c .parse at (drop at s)) (c .sound at (drop at s)) a at′ r e)
+  then-cases (no n p) e = refl
+
+  -- to go on after a part is to go on at the next place
+  then-at : answer (andThen (c .parse at (drop at s)) k) ≡ andNext (answer (c .parse at (drop at s))) (λ a at′. answer (k a at′ (drop at′ s)))
+  then-at = then-cases (c .parse at (drop at s)) refl
+
+-- ---- the laws of reading at a place, one for each way to build a codec
+
+pub readAt-seq : {A B : Type 0} (c : Codec A) (d : A → Codec B) (s : List Bool) (at : ℕ)
+    → readAt (seq c d) s at ≡ andNext (readAt c s at) (λ a at′. andNext (readAt (d a) s at′) (λ b at″. got (a, b) at″))
+unfolding readAt seq
+readAt-seq {A} {B} c d s at =
+    then-at c (λ a at′ s′. andThen (d a .parse at′ s′) (λ b at″ s″. ok (a, b) at″ s″)) s at
+    ∙ ap (andNext {B = A × B} (answer (c .parse at (drop at s))))
+    (λ i a at′. then-at (d a) (λ b at″ s″. ok (a, b) at″ s″) s at′ i)
+
+-- what the cursor takes, as an answer
+abbrev pub taken : ℕ → Taken → Answer ℕ
+taken at (Element v c) = got v (c .at)
+taken at Short = refused 2 at
+
+pub readAt-number : (w : ℕ) (s : List Bool) (at : ℕ) → 1 ≤ w → readAt (number w) s at ≡ taken at (elementAt s at w)
+unfolding readAt number
+readAt-number w s at h = go (ltb (length (drop at s)) w) refl
+  where
+    go : (t : Bool) → ltb (length (drop at s)) w ≡ t
+        → answer (pick t (no 2 at) (ok (value (take w (drop at s))) (at + w) (drop w (drop at s)))) ≡ taken at (elementAt s at w)
+    go true e =
+        let l = ltb-true (length (drop at s)) w e in
+        rw (element-short s at w (omega (arith, length-drop at s)))
+    go false e =
+        let l = ltb-false (length (drop at s)) w e in
+        rw (element-there s at w (omega (arith, length-drop at s)))
+
+-- the cursor reads the codec's numbers
+pub elementOf-taken : (s : List ℕ) (n w at : ℕ) → elementOf s n w at ≡ taken at (takeAt s n at w)
+unfolding elementOf takeAt
+elementOf-taken s n w at = go (leb 1 w) (leb w 32) refl
+  where
+    go : (a b : Bool) → leb 1 w ≡ a
+        → pick (a && b) (readAt (number w) (bitsIn n s) at) (refused 2 at) ≡ taken at (pick (a && b) (elementAt (bitsIn n s) at w) Short)
+    go true true e = readAt-number w (bitsIn n s) at (leb-true 1 w e)
+    go true false e = refl
+    go false b e = refl
+
+pub readAt-absent : (s : List Bool) (at : ℕ) → readAt absent s at ≡ got 0 at
+unfolding readAt absent
+readAt-absent s at = refl
+
+pub readAt-tested : {A : Type 0} (c : Codec A) (refuse into : A → ℕ) (s : List Bool) (at : ℕ)
+    → readAt (tested c refuse into) s at ≡ andNext (readAt c s at) (λ a at′. barring (refuse a) (at + into a) (got a at′))
+unfolding readAt tested
+readAt-tested {A} c refuse into s at =
+    then-at c (λ a at′ s′. unless (refuse a) (at + into a) (ok a at′ s′)) s at
+    ∙ ap (andNext {B = A} (answer (c .parse at (drop at s)))) (λ i a at′. unless-at (refuse a) (at + into a) a at′ (drop at′ s) i)
+  where
+    unless-at : (n p : ℕ) (a : A) (at′ : ℕ) (r : List Bool) → answer (unless n p (ok a at′ r)) ≡ barring n p (got a at′)
+    unless-at zero p a at′ r = refl
+    unless-at (suc n) p a at′ r = refl
+
+pub readAt-shaped : {A B : Type 0} (c : Codec A) (to : A → B) (from : B → A)
+    (there : (a : A) → c .clean a ≡ true → c .fault a ≡ 0 → from (to a) ≡ a) (back : (b : B) → to (from b) ≡ b) (s : List Bool) (at : ℕ)
+    → readAt (shaped c to from there back) s at ≡ andNext (readAt c s at) (λ a at′. got (to a) at′)
+unfolding readAt shaped
+readAt-shaped c to from there back s at = then-at c (λ a at′ s′. ok (to a) at′ s′) s at
+
+pub readAt-nil : {A : Type 0} (s : List Bool) (at : ℕ) → readAt (nil {A = A}) s at ≡ got [] at
+unfolding readAt nil
+readAt-nil s at = refl
+
+pub readAt-cons : {A : Type 0} (c : Codec A) (d : Codec (List A)) (s : List Bool) (at : ℕ)
+    → readAt (cons c d) s at ≡ andNext (readAt c s at) (λ a at′. andNext (readAt d s at′) (λ l at″. got (a ∷ l) at″))
+unfolding readAt cons seq
+readAt-cons {A} c d s at =
+    then-at (seq c (λ x. d)) (λ p at′ s′. ok (p .0 ∷ p .1) at′ s′) s at
+    ∙ ap (λ (o : Answer (A × List A)). andNext o (λ p at′. got (p .0 ∷ p .1) at′)) (readAt-seq c (λ x. d) s at)
+    ∙ simp andNext-assoc
+
+pub element-at : (w : ℕ) (refuse : ℕ → ℕ) (s : List Bool) (at : ℕ)
+    → readAt (element w refuse) s at ≡ andNext (readAt (number w) s at) (λ v at′. barring (refuse v) at (got v at′))
+unfolding element
+element-at w refuse s at = simp (readAt-tested, add-zero)
+
+pub mark-at : {A : Type 0} (w v : ℕ) (c : Codec A) (s : List Bool) (at : ℕ)
+    → readAt (mark w v c) s at ≡ andNext (readAt (element w (only v)) s at) (λ x at₁. readAt c s at₁)
+unfolding mark
+mark-at w v c s at = simp (readAt-shaped, readAt-seq, andNext-assoc, next-got)
+
+-- ---- from one reader to the next
+
+-- an answer as where it leaves reading, and a value
+abbrev pub placed : {A : Type 0} → Reached → A → Answer A
+placed (At c) a = got a (c .at)
+placed (Refused n p) a = refused n p
+
+placed-answer : {A : Type 0} (z : A) (o : Answer A) → o ≡ placed (reachedOf o) (valueOr z o)
+placed-answer z (got a at) = refl
+placed-answer z (refused n p) = refl
+
+pub next-placed : {A B : Type 0} (r : Reached) (a : A) (k : A → ℕ → Answer B) → andNext (placed r a) k ≡ from r (k a)
+unfolding from
+next-placed (At c) a k = refl
+next-placed (Refused n p) a k = refl
+
+from-next : {A B : Type 0} (r : Reached) (f : ℕ → Answer A) (k : A → ℕ → Answer B) → from r (λ at. andNext (f at) k) ≡ andNext (from r f) k
+unfolding from
+from-next (At c) f k = refl
+from-next (Refused n p) f k = refl
+
+-- a reader that stands at r reads f and then stands at q with the value a: what is to be read after it goes on from q
+pub go-on : {A B : Type 0} (r : Reached) (f : ℕ → Answer A) (q : Reached) (a : A) (k : A → ℕ → Answer B) → from r f ≡ placed q a
+    → from r (λ at. andNext (f at) k) ≡ from q (k a)
+go-on r f q a k e = from-next r f k ∙ ap (λ o. andNext o k) e ∙ next-placed q a k
+
+pub from-same : {A : Type 0} (r : Reached) (f g : ℕ → Answer A) → ((at : ℕ) → f at ≡ g at) → from r f ≡ from r g
+unfolding from
+from-same (At c) f g h = h (c .at)
+from-same (Refused n p) f g h = refl
+
+-- what a number's reader answers is the answer
+pub number-read : (o : Answer ℕ) {r : NumberRead} → r ≡ numberIs o → o ≡ placed (r .reached) (r .value)
+unfolding numberIs
+number-read o e = placed-answer 0 o ∙ ap (λ (r : NumberRead). placed (r .reached) (r .value)) (sym e)
+
+-- a number that is then tested is an element
+tested-at : (refuse : ℕ → ℕ) (at : ℕ) (o : Answer ℕ) {read : NumberRead} {k : ℕ} → read ≡ numberIs o → k ≡ refuse (read .value)
+    → from (read .reached) (λ next. barring k at (got (read .value) next)) ≡ andNext o (λ v at′. barring (refuse v) at (got v at′))
+tested-at refuse at o {read} {k} e f =
+    ap (λ (n : ℕ). from (read .reached) (λ next. barring n at (got (read .value) next))) f
+    ∙ sym (next-placed (read .reached) (read .value) (λ v at′. barring (refuse v) at (got v at′)))
+    ∙ sym (ap (λ (o : Answer ℕ). andNext o (λ v at′. barring (refuse v) at (got v at′))) (number-read o e))
+
+pub tested-element : (w : ℕ) (refuse : ℕ → ℕ) (s : List Bool) (p : Reached) {read : NumberRead} {k : ℕ}
+    → read ≡ numberIs (from p (readAt (number w) s)) → k ≡ refuse (read .value)
+    → testedIs p read k ≡ numberIs (from p (readAt (element w refuse) s))
+unfolding from testedIs
+tested-element w refuse s (At c) e f = ap numberIs (tested-at refuse (c .at) (readAt (number w) s (c .at)) e f ∙ sym (element-at w refuse s (c .at)))
+tested-element w refuse s (Refused n q) e f = refl

@@ -1,0 +1,49 @@
+-- Exactly the writings of legal values are accepted, each as the one value that it is the writing of. Assumes nothing.
+use mathlib.Core.Path.{_≡_, refl, sym, ap, _∙_}
+use mathlib.Core.Logic.{_↔_}
+use mathlib.Core.Bool.{Bool, true, false}
+use mathlib.Core.List.{List, [], _∷_, _++_, append-nil}
+use Prim.Native.Nat.{ℕ, _+_}
+use native.Mathlib.Nat.{zero-add}
+use native.Mathlib.Omega.{arith}
+use lib.ListN.{length}
+use Rattle.bits.specs.Bits.{pick}
+use Rattle.codec.specs.Codec.{Outcome, ok, no, andThen, Right, Codec, Legal}
+use Rattle.codec.specs.Places.{isNil}
+use Rattle.codec.specs.Whole.{wholeParse}
+
+module _ {A : Type 0} (c : Codec A) where
+  -- what is written of a legal value is read as that value
+  pub whole-reads : (a : A) → Legal c a → wholeParse c (c .print a) ≡ ok a (length (c .print a)) []
+  whole-reads a h =
+      let e : c .parse 0 (c .print a) ≡ ok a (length (c .print a)) [] =
+      simp (append-nil, zero-add) at (c .reads a (h .clean) (h .faultless) 0 []) in
+      rw e
+
+  whole-last : (s : List Bool) (a′ : A) (at : ℕ) (r′ : List Bool) → Right (c .clean) (c .fault) (c .print) 0 s (ok a′ at r′)
+      → (a : A) (n : ℕ) (r : List Bool) → pick (isNil r′) (ok a′ at r′) (no 5 at) ≡ ok a n r → Legal c a × (s ≡ c .print a)
+  whole-last s a′ at [] h a n r e =
+      let q : a′ ≡ a = cc in
+      let l : Legal c a′ = record { clean = h .0; faultless = h .1 } in
+      (rw q at l, h .2 ∙ append-nil _ ∙ ap (c .print) q)
+  whole-last s a′ at (b ∷ r′) h a n r e = absurd (let z : _≡_ {A = ℕ} 0 1 = cc in omega arith)
+
+  whole-first : (s : List Bool) (o : Outcome A) → Right (c .clean) (c .fault) (c .print) 0 s o
+      → (a : A) (n : ℕ) (r : List Bool) → andThen o (λ a at r. pick (isNil r) (ok a at r) (no 5 at)) ≡ ok a n r → Legal c a × (s ≡ c .print a)
+  whole-first s (ok a′ at r′) h a n r e = whole-last s a′ at r′ h a n r e
+  whole-first s (no k p) h a n r e = absurd (let z : _≡_ {A = ℕ} 0 1 = cc in omega arith)
+
+  -- whatever is read is legal, and it was written so
+  pub whole-sound : (s : List Bool) (a : A) (n : ℕ) (r : List Bool) → wholeParse c s ≡ ok a n r → Legal c a × (s ≡ c .print a)
+  whole-sound s a n r e = whole-first s (c .parse 0 s) (c .sound 0 s) a n r e
+
+  -- so: exactly the writings of legal values are accepted
+  pub accepted-iff : (s : List Bool) (a : A) → (wholeParse c s ≡ ok a (length s) []) ↔ (Legal c a × (s ≡ c .print a))
+  accepted-iff s a = (whole-sound s a (length s) [], λ h. rw (h .1) (whole-reads a (h .0)))
+
+  -- and two legal values that are written alike are the same
+  pub print-unique : (a b : A) → Legal c a → Legal c b → c .print a ≡ c .print b → a ≡ b
+  print-unique a b ha hb e =
+      let p : wholeParse c (c .print b) ≡ ok a (length (c .print b)) [] = rw e at (whole-reads a ha) in
+      let q = whole-reads b hb in
+      cc

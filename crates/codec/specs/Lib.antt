@@ -1,0 +1,6 @@
+pub mod Codec
+pub mod Parts
+pub mod Places
+pub mod Whole
+pub mod Reading
+pub mod Examples
