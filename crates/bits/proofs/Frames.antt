@@ -1,16 +1,17 @@
--- What framed says: the bits decide the bytes. Assumes nothing.
+-- What framed says, and that a PDU's bits and its bytes decide each other. Assumes nothing.
 use mathlib.Core.Path.{_≡_, refl, sym, ap, ap₂, _∙_}
-use mathlib.Core.List.{List, _++_}
+use mathlib.Core.List.{List, [], _∷_, _++_}
 use mathlib.Core.Bool.{Bool, true, false, _&&_}
-use Prim.Native.Nat.{ℕ, _+_, _-_, _*_, _/_, _%_, _^_, _≤_, _<_}
+use Prim.Native.Nat.{ℕ, zero, suc, _+_, _-_, _*_, _/_, _%_, _^_, _≤_, _<_}
 use native.Mathlib.Omega.{arith}
-use lib.ListN.{length, getD, take, drop, length-drop, length-take, drop-of-length-le, take-append-drop}
-use lib.Seq.{take-all, length-take-le}
+use lib.ListN.{length, getD, take, drop, length-append, length-drop, drop-of-length-le, take-append-drop}
+use lib.Seq.{take-all, take-at, drop-at, length-take-le}
+use lib.Pow.{pow-pos}
 use lib.Dec.{eqb, leb}
-use borrow.Author.Tests.{eqb-true, leb-true}
+use borrow.Author.Tests.{eqb-true, eq-eqb, leb-true, le-leb}
 use Rattle.bits.specs.Bits.{value, bitsOf, bits}
-use Rattle.bits.specs.Frame.{bytesFor, bitsIn, framed}
-use Rattle.bits.proofs.Numbers.{value-bitsOf, bits-of-value}
+use Rattle.bits.specs.Frame.{bytesFor, bitsIn, framed, bytesOf, pack}
+use Rattle.bits.proofs.Numbers.{length-bitsOf, value-bitsOf, value-of-bits, bits-of-value, value-take-fits}
 use Rattle.bits.proofs.Bytes.{length-bits, Bytes, bits-inj}
 use Rattle.bits.proofs.Shares.{read-within}
 
@@ -63,3 +64,71 @@ framed-inj s t n hs ht fs ft e =
     (sym (take-append-drop n (bits s))
     ∙ ap₂ (λ (x y : List Bool). x ++ y) e (rest s n fs ∙ sym (rest t n ft))
     ∙ take-append-drop n (bits t))
+
+-- ---- packed: the bytes that hold a run
+
+length-bytesOf : (k : ℕ) (l : List Bool) → length (bytesOf k l) ≡ k
+unfolding bytesOf
+length-bytesOf zero l = refl
+length-bytesOf (suc k) l = ap suc (length-bytesOf k (drop 8 l))
+
+bits-bytesOf : (k : ℕ) (l : List Bool) → length l ≡ 8 * k → bits (bytesOf k l) ≡ l
+unfolding bytesOf bits
+bits-bytesOf zero [] e = refl
+bits-bytesOf zero (b ∷ l) e = absurd (omega arith)
+bits-bytesOf (suc k) l e =
+    let t : length (take 8 l) ≡ 8 = length-take-le 8 l (omega arith) in
+    let f : bitsOf 8 (value (take 8 l)) ≡ take 8 l = ap (λ (w : ℕ). bitsOf w (value (take 8 l))) (sym t) ∙ bits-of-value (take 8 l) in
+    ap₂ (λ (x y : List Bool). x ++ y) f (bits-bytesOf k (drop 8 l) (omega (arith, length-drop 8 l))) ∙ take-append-drop 8 l
+
+byte-bytesOf : (k : ℕ) (l : List Bool) → Bytes (bytesOf k l)
+unfolding bytesOf
+byte-bytesOf zero l i = omega arith
+byte-bytesOf (suc k) l zero = value-take-fits 8 8 l (omega arith)
+byte-bytesOf (suc k) l (suc i) = byte-bytesOf k (drop 8 l) i
+
+module _ (l : List Bool) where
+  -- the zeros behind it
+  abbrev pub padding : List Bool
+  padding = bitsOf (8 * bytesFor (length l) - length l) 0
+
+  pub length-pack : length (pack l) ≡ bytesFor (length l)
+  unfolding pack
+  length-pack = length-bytesOf (bytesFor (length l)) (l ++ padding)
+
+  pub bits-pack : bits (pack l) ≡ l ++ padding
+  unfolding pack
+  bits-pack =
+      bits-bytesOf (bytesFor (length l)) (l ++ padding)
+      (omega (arith, length-append l padding, length-bitsOf (8 * bytesFor (length l) - length l) 0))
+
+  pub bytes-pack : Bytes (pack l)
+  unfolding pack
+  bytes-pack = byte-bytesOf (bytesFor (length l)) (l ++ padding)
+
+  -- the bits that were packed
+  pub bitsIn-pack : bitsIn (length l) (pack l) ≡ l
+  bitsIn-pack = ap (take (length l)) bits-pack ∙ take-at l padding (length l) refl
+
+  pub framed-pack : length l ≤ 4096 → Framed (pack l) (length l)
+  framed-pack h = record {
+    short = h;
+    count = length-pack;
+    unused =
+        ap (λ (x : List Bool). value (drop (length l) x)) bits-pack
+        ∙ ap value (drop-at l padding (length l) refl)
+        ∙ value-of-bits (8 * bytesFor (length l) - length l) 0 (pow-pos (8 * bytesFor (length l) - length l));
+  }
+
+-- the bytes of framed bits are those that pack them
+pub pack-bitsIn : (s : List ℕ) (n : ℕ) → Bytes s → Framed s n → pack (bitsIn n s) ≡ s
+pack-bitsIn s n b f =
+    let l : length (bitsIn n s) ≡ n = length-bitsIn s n f in
+    let g : Framed (pack (bitsIn n s)) n = rw l at (framed-pack (bitsIn n s) (omega (arith, f .short, l))) in
+    framed-inj (pack (bitsIn n s)) s n (bytes-pack (bitsIn n s)) b g f
+    (ap (λ (m : ℕ). bitsIn m (pack (bitsIn n s))) (sym l) ∙ bitsIn-pack (bitsIn n s))
+
+-- framed is exactly that
+pub framed-is : (s : List ℕ) (n : ℕ) → Framed s n → framed s n ≡ true
+unfolding framed
+framed-is s n f = rw (le-leb n 4096 (f .short), eq-eqb (length s) (bytesFor n) (f .count), eq-eqb (value (drop n (bits s))) 0 (f .unused))

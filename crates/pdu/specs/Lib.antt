@@ -1,0 +1,5 @@
+pub mod SiteSheet
+pub mod Grammar
+pub mod Read
+pub mod Write
+pub mod Examples
