@@ -7,7 +7,7 @@ use Prim.Native.Nat.{ℕ, zero, suc, _+_, _-_, _≤_, _<_}
 use native.Mathlib.Nat.{sub-zero, zero-sub, suc-sub-suc}
 use native.Mathlib.Numerals.{add-one}
 use native.Mathlib.Omega.{arith}
-use lib.ListN.{length, take, drop, getD, replicate}
+use lib.ListN.{length, take, drop, getD, replicate, length-append}
 use lib.Seq.{take-nil, drop-nil, take-suc, take-add}
 use Rattle.codec.specs.Codec.{Codec, first}
 use Rattle.codec.specs.Parts.{both, both⁻¹}
@@ -126,3 +126,10 @@ module _ {A : Type 0} (c : Codec A) where
     places-clean x hx (suc m) (suc n) (a ∷ l) r =
         let k = both (c .clean a) (cleanAll (take n l)) (r .used) in
         both⁻¹ _ _ (k .0) (places-clean x hx m n l (record { room = omega (arith, r .room); used = k .1; unused = rw (suc-sub-suc m n) at (r .unused) }))
+
+  -- the first entry is written first
+  pub first-print : (z : Codec A) (m n : ℕ) (l : List A) (d : A) → (places c z (suc m) (suc n)) .clean l ≡ true
+      → length (c .print (getD l 0 d)) ≤ length ((places c z (suc m) (suc n)) .print l)
+  unfolding places cons
+  first-print z m n [] d e = absurd (let z : _≡_ {A = ℕ} 0 1 = cc in omega arith)
+  first-print z m n (a ∷ l) d e = omega (arith, length-append (c .print a) ((places c z m n) .print l))

@@ -8,14 +8,15 @@ use native.Mathlib.Omega.{arith}
 use lib.ListN.{length, take, drop, length-drop}
 use lib.Seq.{drop-drop, drop-append-seam}
 use lib.Dec.{ltb, leb}
-use borrow.Author.Tests.{ltb-true, ltb-false, leb-true}
+use borrow.Author.Tests.{ltb-true, ltb-false, leb-true, le-leb}
 use Rattle.bits.specs.Bits.{pick, value}
 use Rattle.bits.specs.Frame.{bitsIn}
 use Rattle.bits.specs.Element.{elementAt, takeAt}
+use Rattle.bits.specs.declared.Cursor.{Cursor}
 use Rattle.bits.specs.declared.Taken.{Taken}
 use Rattle.bits.specs.declared.Taken.the-variants.{Element, Short}
 use Rattle.bits.proofs.Elements.{element-there, element-short}
-use Rattle.codec.specs.Codec.{Outcome, ok, no, andThen, Right, Codec}
+use Rattle.codec.specs.Codec.{Outcome, ok, no, andThen, Right, Codec, Legal}
 use Rattle.codec.specs.Parts.{number, absent, seq, unless, tested, element, shaped, mark, only}
 use Rattle.codec.specs.Places.{nil, cons}
 use Rattle.codec.specs.Reading.{Answer, got, refused, andNext, barring, answer, readAt, from, reachedOf, valueOr, elementOf, numberIs, testedIs}
@@ -126,6 +127,20 @@ readAt-cons {A} c d s at =
     ∙ ap (λ (o : Answer (A × List A)). andNext o (λ p at′. got (p .0 ∷ p .1) at′)) (readAt-seq c (λ x. d) s at)
     ∙ simp andNext-assoc
 
+-- what is read is legal, and ends as many bits on as its writing has
+module _ {A : Type 0} (c : Codec A) (s : List Bool) (at : ℕ) where
+  legal-cases : (o : Outcome A) → Right (c .clean) (c .fault) (c .print) at (drop at s) o
+      → (a : A) (at′ : ℕ) → answer o ≡ got a at′ → Legal c a × (at′ ≡ at + length (c .print a))
+  legal-cases (ok b p t) h a at′ e =
+      let q : b ≡ a = cc in
+      let q′ : p ≡ at′ = cc in
+      rw (← q, ← q′) (record { clean = h .0; faultless = h .1 }, h .3)
+  legal-cases (no n p) h a at′ e = absurd (let z : _≡_ {A = ℕ} 0 1 = cc in omega arith)
+
+  pub readAt-legal : (a : A) (at′ : ℕ) → readAt c s at ≡ got a at′ → Legal c a × (at′ ≡ at + length (c .print a))
+  unfolding readAt
+  readAt-legal = legal-cases (c .parse at (drop at s)) (c .sound at (drop at s))
+
 pub element-at : (w : ℕ) (refuse : ℕ → ℕ) (s : List Bool) (at : ℕ)
     → readAt (element w refuse) s at ≡ andNext (readAt (number w) s at) (λ v at′. barring (refuse v) at (got v at′))
 unfolding element
@@ -143,11 +158,17 @@ abbrev pub placed : {A : Type 0} → Reached → A → Answer A
 placed (At c) a = got a (c .at)
 placed (Refused n p) a = refused n p
 
-placed-answer : {A : Type 0} (z : A) (o : Answer A) → o ≡ placed (reachedOf o) (valueOr z o)
+pub placed-answer : {A : Type 0} (z : A) (o : Answer A) → o ≡ placed (reachedOf o) (valueOr z o)
 placed-answer z (got a at) = refl
 placed-answer z (refused n p) = refl
 
-pub next-placed : {A B : Type 0} (r : Reached) (a : A) (k : A → ℕ → Answer B) → andNext (placed r a) k ≡ from r (k a)
+pub placed-got : {A : Type 0} {o : Answer A} {r : Reached} {a : A} {c : Cursor} → o ≡ placed r a → r ≡ At c → o ≡ got a (c .at)
+placed-got {a} e f = e ∙ ap (λ (r : Reached). placed r a) f
+
+pub placed-refused : {A : Type 0} {o : Answer A} {r : Reached} (a : A) {n p : ℕ} → o ≡ placed r a → r ≡ Refused n p → o ≡ refused n p
+placed-refused a e f = e ∙ ap (λ (r : Reached). placed r a) f
+
+next-placed : {A B : Type 0} (r : Reached) (a : A) (k : A → ℕ → Answer B) → andNext (placed r a) k ≡ from r (k a)
 unfolding from
 next-placed (At c) a k = refl
 next-placed (Refused n p) a k = refl
@@ -167,22 +188,33 @@ unfolding from
 from-same (At c) f g h = h (c .at)
 from-same (Refused n p) f g h = refl
 
+-- an element's reader reads the codec's number
+pub number-at : (s : List ℕ) (n w : ℕ) (r : Reached) → 1 ≤ w → w ≤ 32 → from r (elementOf s n w) ≡ from r (readAt (number w) (bitsIn n s))
+unfolding elementOf
+number-at s n w r h k = from-same r _ _ (λ at. rw (le-leb 1 w h, le-leb w 32 k))
+
 -- what a number's reader answers is the answer
 pub number-read : (o : Answer ℕ) {r : NumberRead} → r ≡ numberIs o → o ≡ placed (r .reached) (r .value)
 unfolding numberIs
 number-read o e = placed-answer 0 o ∙ ap (λ (r : NumberRead). placed (r .reached) (r .value)) (sym e)
 
--- a number that is then tested is an element
-tested-at : (refuse : ℕ → ℕ) (at : ℕ) (o : Answer ℕ) {read : NumberRead} {k : ℕ} → read ≡ numberIs o → k ≡ refuse (read .value)
-    → from (read .reached) (λ next. barring k at (got (read .value) next)) ≡ andNext o (λ v at′. barring (refuse v) at (got v at′))
-tested-at refuse at o {read} {k} e f =
-    ap (λ (n : ℕ). from (read .reached) (λ next. barring n at (got (read .value) next))) f
-    ∙ sym (next-placed (read .reached) (read .value) (λ v at′. barring (refuse v) at (got v at′)))
-    ∙ sym (ap (λ (o : Answer ℕ). andNext o (λ v at′. barring (refuse v) at (got v at′))) (number-read o e))
+-- a part that is then tested: v was read from p on, and reading then stands at q
+pub tested-from : {A : Type 0} (c : Codec A) (refuse into : A → ℕ) (s : List Bool) (p q : Reached) (v : A) → from p (readAt c s) ≡ placed q v
+    → from p (λ at. from q (λ next. barring (refuse v) (at + into v) (got v next))) ≡ from p (readAt (tested c refuse into) s)
+unfolding from
+tested-from c refuse into s (At d) q v e =
+    sym (readAt-tested c refuse into s (d .at)
+    ∙ ap (λ o. andNext o (λ a at′. barring (refuse a) (d .at + into a) (got a at′))) e
+    ∙ next-placed q v (λ a at′. barring (refuse a) (d .at + into a) (got a at′)))
+tested-from c refuse into s (Refused n p) q v e = refl
 
+-- a number that is then tested is an element
 pub tested-element : (w : ℕ) (refuse : ℕ → ℕ) (s : List Bool) (p : Reached) {read : NumberRead} {k : ℕ}
     → read ≡ numberIs (from p (readAt (number w) s)) → k ≡ refuse (read .value)
     → testedIs p read k ≡ numberIs (from p (readAt (element w refuse) s))
-unfolding from testedIs
-tested-element w refuse s (At c) e f = ap numberIs (tested-at refuse (c .at) (readAt (number w) s (c .at)) e f ∙ sym (element-at w refuse s (c .at)))
-tested-element w refuse s (Refused n q) e f = refl
+unfolding testedIs element
+tested-element w refuse s p {read} {k} e f =
+    ap numberIs
+    (ap (λ (n : ℕ). from p (λ at. from (read .reached) (λ next. barring n at (got (read .value) next)))) f
+    ∙ from-same p _ _ (λ at. simp add-zero)
+    ∙ tested-from (number w) refuse (λ v. 0) s p (read .reached) (read .value) (number-read _ e))

@@ -1,1 +1,4 @@
 pub mod Table
+pub mod Codes
+pub mod Steps
+pub mod Readers

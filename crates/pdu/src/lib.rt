@@ -1,4 +1,5 @@
 // INTERROGATE and INTERROGATE ACK PDUs, read and written (document 01, "Site sheet" and "The two PDUs").
+mod reader;
 pub mod record;
 pub mod site;
 

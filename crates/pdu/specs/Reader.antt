@@ -1,0 +1,34 @@
+-- What the readers of the parts answer: where reading then stands, beside the value, which is zero beside a refusal.
+use mathlib.Core.List.{List}
+use Prim.Native.Nat.{ℕ, _+_, _≤_}
+use lib.ListN.{replicate}
+use Rattle.codec.specs.Reading.{Answer, got, barring, from, reachedOf, valueOr}
+use Rattle.codec.specs.declared.Reached.{Reached}
+use Rattle.codec.specs.declared.Reached.the-variants.{At, Refused}
+use Rattle.pdu.specs.Grammar.{zeroIdentity, rangeEnds, secondEnd}
+use Rattle.pdu.specs.Read.{zeroIdentities}
+use Rattle.pdu.specs.declared.record.Identity.{Identity}
+use Rattle.pdu.specs.declared.record.Identities.{Identities}
+use Rattle.pdu.specs.declared.reader.IdentityRead.{IdentityRead}
+use Rattle.pdu.specs.declared.reader.IdentitiesRead.{IdentitiesRead}
+use Rattle.pdu.specs.declared.reader.EntriesRead.{EntriesRead}
+
+unfoldable pub identityIs : Answer Identity → IdentityRead
+identityIs o = record { reached = reachedOf o; value = valueOr zeroIdentity o }
+
+unfoldable pub entriesIs : Answer (List Identity) → EntriesRead
+entriesIs o = record { reached = reachedOf o; value = valueOr (replicate 8 zeroIdentity) o }
+
+-- two entries stand between two places, so that the second end has a place
+abbrev pub EndsFit : Reached → Reached → List Identity → Type 0
+EndsFit (At c) (At d) l = c .at + secondEnd l ≤ d .at
+EndsFit (At c) (Refused n p) l = Unit {0}
+EndsFit (Refused n p) r l = Unit {0}
+
+-- entries that were read from a place on, under the rule of a range's ends
+unfoldable pub endsIs : Reached → EntriesRead → ℕ → EntriesRead
+endsIs start read code =
+    entriesIs (from start (λ at. from (read .reached) (λ next. barring (rangeEnds code (read .value)) (at + secondEnd (read .value)) (got (read .value) next))))
+
+unfoldable pub identitiesIs : Answer Identities → IdentitiesRead
+identitiesIs o = record { reached = reachedOf o; value = valueOr zeroIdentities o }
