@@ -1,8 +1,8 @@
 -- Reading at a place, one law for each way to build a codec, and for going on from where reading stands. Assumes nothing.
-use mathlib.Core.Path.{_≡_, refl, sym, ap, _∙_}
+use mathlib.Core.Path.{_≡_, refl, sym, ap, _∙_, subst}
 use mathlib.Core.Bool.{Bool, true, false, _&&_}
 use mathlib.Core.List.{List, [], _∷_, _++_}
-use Prim.Native.Nat.{ℕ, zero, suc, _+_, _≤_, _<_}
+use Prim.Native.Nat.{ℕ, zero, suc, _+_, _^_, _≤_, _<_}
 use native.Mathlib.Nat.{add-zero}
 use native.Mathlib.Omega.{arith}
 use lib.ListN.{length, take, drop, length-drop}
@@ -17,7 +17,7 @@ use Rattle.bits.specs.declared.Taken.{Taken}
 use Rattle.bits.specs.declared.Taken.the-variants.{Element, Short}
 use Rattle.bits.proofs.Elements.{element-there, element-short}
 use Rattle.codec.specs.Codec.{Outcome, ok, no, andThen, Right, Codec, Legal}
-use Rattle.codec.specs.Parts.{number, absent, seq, unless, tested, element, shaped, mark, only}
+use Rattle.codec.specs.Parts.{first-none, numberFault, narrow, number, absent, seq, unless, tested, element, shaped, mark, only}
 use Rattle.codec.specs.Places.{nil, cons}
 use Rattle.codec.specs.Reading.{Answer, got, refused, andNext, barring, answer, readAt, from, reachedOf, valueOr, elementOf, numberIs, testedIs}
 use Rattle.codec.specs.declared.Reached.{Reached}
@@ -218,3 +218,28 @@ tested-element w refuse s p {read} {k} e f =
     (ap (λ (n : ℕ). from p (λ at. from (read .reached) (λ next. barring n at (got (read .value) next)))) f
     ∙ from-same p _ _ (λ at. simp add-zero)
     ∙ tested-from (number w) refuse (λ v. 0) s p (read .reached) (read .value) (number-read _ e))
+
+-- ---- the value of an element that was read
+
+pub element-small : (w : ℕ) (refuse : ℕ → ℕ) (s : List Bool) (at v at′ : ℕ) → readAt (element w refuse) s at ≡ got v at′ → (v < 2 ^ w) × (refuse v ≡ 0)
+unfolding element tested number
+element-small w refuse s at v at′ e =
+    let h = first-none (numberFault w v) (refuse v) (readAt-legal (element w refuse) s at v at′ e .0 .faultless) in
+    (narrow w v (ltb v (2 ^ w)) refl (h .0), h .1)
+
+-- a bound of every value that is not refused bounds what is read; beside a refusal stands 0
+pub element-bound : (w : ℕ) (refuse : ℕ → ℕ) (s : List Bool) (p : Reached) {r : NumberRead} (bound : ℕ)
+    → r ≡ numberIs (from p (readAt (element w refuse) s)) → ((v : ℕ) → v < 2 ^ w → refuse v ≡ 0 → v ≤ bound) → r .value ≤ bound
+unfolding numberIs from
+element-bound w refuse s p {r} bound e h = subst (λ (r : NumberRead). r .value ≤ bound) (sym e) (go p)
+  where
+    one : (o : Answer ℕ) → ((v at′ : ℕ) → o ≡ got v at′ → v ≤ bound) → valueOr 0 o ≤ bound
+    one (got v at′) k = k v at′ refl
+    one (refused n q) k = omega arith
+
+    go : (p : Reached) → valueOr 0 (from p (readAt (element w refuse) s)) ≤ bound
+    go p = one (from p (readAt (element w refuse) s)) (λ v at′ f. read p v at′ f)
+      where
+        read : (p : Reached) (v at′ : ℕ) → from p (readAt (element w refuse) s) ≡ got v at′ → v ≤ bound
+        read (At c) v at′ f = let k = element-small w refuse s (c .at) v at′ f in h v (k .0) (k .1)
+        read (Refused n q) v at′ f = absurd (let z : _≡_ {A = ℕ} 0 1 = cc in omega arith)

@@ -37,7 +37,7 @@ numberParse w at s = pick (ltb (length s) w) (no 2 at) (ok (value (take w s)) (a
 abbrev pub numberFault : ℕ → ℕ → ℕ
 numberFault w v = pick (ltb v (2 ^ w)) 0 3
 
-narrow : (w v : ℕ) (t : Bool) → ltb v (2 ^ w) ≡ t → pick {A = ℕ} t 0 3 ≡ 0 → v < 2 ^ w
+pub narrow : (w v : ℕ) (t : Bool) → ltb v (2 ^ w) ≡ t → pick {A = ℕ} t 0 3 ≡ 0 → v < 2 ^ w
 narrow w v true e h = ltb-true v (2 ^ w) e
 narrow w v false e h = absurd (omega arith)
 

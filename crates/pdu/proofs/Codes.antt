@@ -1,6 +1,6 @@
 -- Laws of the site sheet's codes and of the ends of a range. Assumes nothing.
 use mathlib.Core.Path.{_≡_, refl, ap, _∙_}
-use mathlib.Core.Bool.{Bool, true, false}
+use mathlib.Core.Bool.{Bool, true, false, _&&_}
 use mathlib.Core.List.{[], _++_}
 use Prim.Native.Nat.{ℕ, _+_, _≤_, _<_}
 use native.Mathlib.Omega.{arith}
@@ -10,7 +10,7 @@ use lib.Dec.{eqb, leb}
 use Rattle.bits.specs.Bits.{pick, bitsOf}
 use Rattle.bits.proofs.Numbers.{length-bitsOf}
 use Rattle.codec.specs.Parts.{number, absent, seq, shaped}
-use Rattle.pdu.specs.SiteSheet.{rangeType, rowOfType, rowOf, entriesOf}
+use Rattle.pdu.specs.SiteSheet.{rangeType, rowOfType, rowOf, entriesOf, between}
 use Rattle.pdu.specs.Grammar.{extension, identity}
 use Rattle.pdu.specs.declared.record.Identity.{Identity}
 use Rattle.pdu.specs.declared.site.RangeType.{RangeType}
@@ -27,6 +27,15 @@ entriesOf-le code = go (eqb code 0) (leb code 8) refl (eqb code 9)
     go false true e d = leb-true code 8 e
     go false false e true = omega arith
     go false false e false = omega arith
+
+-- a value that is not outside its bounds
+pub between-le : (low high v : ℕ) → between low high v ≡ 0 → v ≤ high
+between-le low high v h = go (leb low v) (leb v high) refl h
+  where
+    go : (a b : Bool) → leb v high ≡ b → pick {A = ℕ} (a && b) 0 3 ≡ 0 → v ≤ high
+    go true true e h = leb-true v high e
+    go true false e h = absurd (omega arith)
+    go false b e h = absurd (omega arith)
 
 -- an identity has 25 bits, or 49 with its extension
 pub identity-length : (e : Identity) → length (identity .print e) ≡ pick (eqb (e .present) 1) 49 25

@@ -7,10 +7,19 @@ use Rattle.codec.specs.Reading.{Answer, got, refused, reachedOf, valueOr}
 use Rattle.codec.specs.declared.Reached.{Reached}
 use Rattle.codec.proofs.Reading.{placed, placed-answer}
 use Rattle.pdu.specs.Grammar.{zeroIdentity}
-use Rattle.pdu.specs.Read.{zeroIdentities}
-use Rattle.pdu.specs.Reader.{identityIs, entriesIs, identitiesIs}
+use Rattle.pdu.specs.Read.{zeroIdentities, zeroNumber, zeroNumbers, zeroServices}
+use Rattle.pdu.specs.Reader.{identityIs, entriesIs, identitiesIs, digitsIs, numberIs, numberEntriesIs, numbersIs, serviceListIs, servicesIs}
 use Rattle.pdu.specs.declared.record.Identity.{Identity}
 use Rattle.pdu.specs.declared.record.Identities.{Identities}
+use Rattle.pdu.specs.declared.record.Number.{Number}
+use Rattle.pdu.specs.declared.record.Numbers.{Numbers}
+use Rattle.pdu.specs.declared.record.Services.{Services}
+use Rattle.pdu.specs.declared.reader.DigitsRead.{DigitsRead}
+use Rattle.pdu.specs.declared.reader.ExternalRead.{ExternalRead}
+use Rattle.pdu.specs.declared.reader.NumberEntriesRead.{NumberEntriesRead}
+use Rattle.pdu.specs.declared.reader.NumbersRead.{NumbersRead}
+use Rattle.pdu.specs.declared.reader.ServiceListRead.{ServiceListRead}
+use Rattle.pdu.specs.declared.reader.ServicesRead.{ServicesRead}
 use Rattle.pdu.specs.declared.reader.IdentityRead.{IdentityRead}
 use Rattle.pdu.specs.declared.reader.EntriesRead.{EntriesRead}
 use Rattle.pdu.specs.declared.reader.IdentitiesRead.{IdentitiesRead}
@@ -26,3 +35,27 @@ entries-read o e = placed-answer (replicate 8 zeroIdentity) o ∙ ap (λ (r : En
 pub identities-read : (o : Answer Identities) {r : IdentitiesRead} → r ≡ identitiesIs o → o ≡ placed (r .reached) (r .value)
 unfolding identitiesIs
 identities-read o e = placed-answer zeroIdentities o ∙ ap (λ (r : IdentitiesRead). placed (r .reached) (r .value)) (sym e)
+
+pub digits-read : (o : Answer (List ℕ)) {r : DigitsRead} → r ≡ digitsIs o → o ≡ placed (r .reached) (r .value)
+unfolding digitsIs
+digits-read o e = placed-answer (replicate 24 0) o ∙ ap (λ (r : DigitsRead). placed (r .reached) (r .value)) (sym e)
+
+pub external-read : (o : Answer Number) {r : ExternalRead} → r ≡ numberIs o → o ≡ placed (r .reached) (r .value)
+unfolding numberIs
+external-read o e = placed-answer zeroNumber o ∙ ap (λ (r : ExternalRead). placed (r .reached) (r .value)) (sym e)
+
+pub number-entries-read : (o : Answer (List Number)) {r : NumberEntriesRead} → r ≡ numberEntriesIs o → o ≡ placed (r .reached) (r .value)
+unfolding numberEntriesIs
+number-entries-read o e = placed-answer (replicate 8 zeroNumber) o ∙ ap (λ (r : NumberEntriesRead). placed (r .reached) (r .value)) (sym e)
+
+pub numbers-read : (o : Answer Numbers) {r : NumbersRead} → r ≡ numbersIs o → o ≡ placed (r .reached) (r .value)
+unfolding numbersIs
+numbers-read o e = placed-answer zeroNumbers o ∙ ap (λ (r : NumbersRead). placed (r .reached) (r .value)) (sym e)
+
+pub service-list-read : (o : Answer (List ℕ)) {r : ServiceListRead} → r ≡ serviceListIs o → o ≡ placed (r .reached) (r .value)
+unfolding serviceListIs
+service-list-read o e = placed-answer (replicate 7 0) o ∙ ap (λ (r : ServiceListRead). placed (r .reached) (r .value)) (sym e)
+
+pub services-read : (o : Answer Services) {r : ServicesRead} → r ≡ servicesIs o → o ≡ placed (r .reached) (r .value)
+unfolding servicesIs
+services-read o e = placed-answer zeroServices o ∙ ap (λ (r : ServicesRead). placed (r .reached) (r .value)) (sym e)

@@ -6,9 +6,18 @@ use Rattle.codec.specs.Reading.{Answer, got, barring, from, reachedOf, valueOr}
 use Rattle.codec.specs.declared.Reached.{Reached}
 use Rattle.codec.specs.declared.Reached.the-variants.{At, Refused}
 use Rattle.pdu.specs.Grammar.{zeroIdentity, rangeEnds, secondEnd}
-use Rattle.pdu.specs.Read.{zeroIdentities}
+use Rattle.pdu.specs.Read.{zeroIdentities, zeroNumber, zeroNumbers, zeroServices}
 use Rattle.pdu.specs.declared.record.Identity.{Identity}
 use Rattle.pdu.specs.declared.record.Identities.{Identities}
+use Rattle.pdu.specs.declared.record.Number.{Number}
+use Rattle.pdu.specs.declared.record.Numbers.{Numbers}
+use Rattle.pdu.specs.declared.record.Services.{Services}
+use Rattle.pdu.specs.declared.reader.DigitsRead.{DigitsRead}
+use Rattle.pdu.specs.declared.reader.ExternalRead.{ExternalRead}
+use Rattle.pdu.specs.declared.reader.NumberEntriesRead.{NumberEntriesRead}
+use Rattle.pdu.specs.declared.reader.NumbersRead.{NumbersRead}
+use Rattle.pdu.specs.declared.reader.ServiceListRead.{ServiceListRead}
+use Rattle.pdu.specs.declared.reader.ServicesRead.{ServicesRead}
 use Rattle.pdu.specs.declared.reader.IdentityRead.{IdentityRead}
 use Rattle.pdu.specs.declared.reader.IdentitiesRead.{IdentitiesRead}
 use Rattle.pdu.specs.declared.reader.EntriesRead.{EntriesRead}
@@ -32,3 +41,21 @@ endsIs start read code =
 
 unfoldable pub identitiesIs : Answer Identities → IdentitiesRead
 identitiesIs o = record { reached = reachedOf o; value = valueOr zeroIdentities o }
+
+unfoldable pub digitsIs : Answer (List ℕ) → DigitsRead
+digitsIs o = record { reached = reachedOf o; value = valueOr (replicate 24 0) o }
+
+unfoldable pub numberIs : Answer Number → ExternalRead
+numberIs o = record { reached = reachedOf o; value = valueOr zeroNumber o }
+
+unfoldable pub numberEntriesIs : Answer (List Number) → NumberEntriesRead
+numberEntriesIs o = record { reached = reachedOf o; value = valueOr (replicate 8 zeroNumber) o }
+
+unfoldable pub numbersIs : Answer Numbers → NumbersRead
+numbersIs o = record { reached = reachedOf o; value = valueOr zeroNumbers o }
+
+unfoldable pub serviceListIs : Answer (List ℕ) → ServiceListRead
+serviceListIs o = record { reached = reachedOf o; value = valueOr (replicate 7 0) o }
+
+unfoldable pub servicesIs : Answer Services → ServicesRead
+servicesIs o = record { reached = reachedOf o; value = valueOr zeroServices o }

@@ -24,7 +24,7 @@ ghost use Rattle.codec.specs.Reading.{got, from, readAt};
 ghost use Rattle.codec.specs.Reading as reading;
 ghost use Rattle.pdu.specs.SiteSheet.{ssType, rangeRefusal, digitRefusal, serviceRefusal, kindRefusal, resultRefusal, between};
 ghost use Rattle.pdu.specs.Grammar.{extension, identity, noIdentity, zeroIdentity, endsRefusal, rangeEnds, secondEnd, identities, external, noExternal, externals, services, identityPart, numberPart, partOf, interrogate, interrogateAck, pdu};
-ghost use Rattle.pdu.specs.Reader.{identityIs, entriesIs, EndsFit, endsIs, identitiesIs};
+ghost use Rattle.pdu.specs.Reader.{identityIs, entriesIs, EndsFit, endsIs, identitiesIs, digitsIs, numberIs, numberEntriesIs, numbersIs, serviceListIs, servicesIs};
 
 pub struct IdentityRead {
     pub reached: Reached,
@@ -249,6 +249,256 @@ fn kept_identities(end: Reached, value: Identities) -> IdentitiesRead
         };
     };
     IdentitiesRead {
+        reached: end,
+        value,
+    }
+}
+
+pub struct DigitsRead {
+    pub reached: Reached,
+    pub value: [u8; 24],
+}
+
+// As many digits as a length says, in the first of 24 places. Each is an element of its own.
+fn digits_of(s: &[u8], n: BitCount, start: Reached, count: u32) -> DigitsRead
+    requires { ⌜ count ≤ 24 ⌝ }
+    ensures { λ r. ⌜ r ≡ digitsIs (from start (readAt (places (element 4 digitRefusal) absent 24 count) (bitsIn (n .0) (now (s .entry))))) ⌝ }
+{
+    let mut held = [0u8; 24];
+    let Reached::At(c) = start else {
+        return DigitsRead {
+            reached: start,
+            value: held,
+        };
+    };
+    let mut at = c;
+    let mut i: usize = 0;
+    while i < count as usize {
+        let number = codec::number(s, n, Reached::At(at), 4);
+        let digit = codec::tested(Reached::At(at), number, site::digit_refusal(number.value));
+        let end = digit.reached;
+        let Reached::At(next) = end else {
+            return DigitsRead {
+                reached: end,
+                value: [0u8; 24],
+            };
+        };
+        held[i] = digit.value as u8;
+        at = next;
+        i += 1;
+    }
+    DigitsRead {
+        reached: Reached::At(at),
+        value: held,
+    }
+}
+
+pub struct ExternalRead {
+    pub reached: Reached,
+    pub value: Number,
+}
+
+// An external number: its length and its digits.
+fn external_of(s: &[u8], n: BitCount, start: Reached) -> ExternalRead
+    ensures { λ r. ⌜ r ≡ numberIs (from start (readAt external (bitsIn (n .0) (now (s .entry))))) ⌝ }
+{
+    let length = bounded(s, n, start, 5, 1, 24);
+    let after_length = length.reached;
+    let digits = digits_of(s, n, after_length, length.value);
+    let end = digits.reached;
+    let held = digits.value;
+    kept_external(
+        end,
+        Number {
+            length: DigitCount(length.value as u8),
+            digits: held,
+        },
+    )
+}
+
+fn kept_external(end: Reached, value: Number) -> ExternalRead
+    ensures { λ r. ⌜ r ≡ numberIs (from end (λ at. got value at)) ⌝ }
+{
+    let Reached::At(_) = end else {
+        return ExternalRead {
+            reached: end,
+            value: Number {
+                length: DigitCount(0),
+                digits: [0u8; 24],
+            },
+        };
+    };
+    ExternalRead {
+        reached: end,
+        value,
+    }
+}
+
+pub struct NumberEntriesRead {
+    pub reached: Reached,
+    pub value: [Number; 8],
+}
+
+// The external numbers that a range type says, in the first of eight places.
+fn number_entries_of(s: &[u8], n: BitCount, start: Reached, count: u32) -> NumberEntriesRead
+    requires { ⌜ count ≤ 8 ⌝ }
+    ensures { λ r. ⌜ r ≡ numberEntriesIs (from start (readAt (places external noExternal 8 count) (bitsIn (n .0) (now (s .entry))))) ⌝ }
+{
+    let none = Number {
+        length: DigitCount(0),
+        digits: [0u8; 24],
+    };
+    let mut held = [none; 8];
+    let Reached::At(c) = start else {
+        return NumberEntriesRead {
+            reached: start,
+            value: held,
+        };
+    };
+    let mut at = c;
+    let mut i: usize = 0;
+    while i < count as usize {
+        let entry = external_of(s, n, Reached::At(at));
+        let end = entry.reached;
+        let Reached::At(next) = end else {
+            return NumberEntriesRead {
+                reached: end,
+                value: [none; 8],
+            };
+        };
+        let value = entry.value;
+        held[i] = value;
+        at = next;
+        i += 1;
+    }
+    NumberEntriesRead {
+        reached: Reached::At(at),
+        value: held,
+    }
+}
+
+pub struct NumbersRead {
+    pub reached: Reached,
+    pub value: Numbers,
+}
+
+// A range type and its external numbers.
+fn numbers_of(s: &[u8], n: BitCount, start: Reached) -> NumbersRead
+    ensures { λ r. ⌜ r ≡ numbersIs (from start (readAt externals (bitsIn (n .0) (now (s .entry))))) ⌝ }
+{
+    let number = codec::number(s, n, start, 4);
+    let code = codec::tested(start, number, site::range_refusal(Listing::Numbers, number.value));
+    let after_code = code.reached;
+    let row = site::row_of(code.value);
+    let entries = number_entries_of(s, n, after_code, row.entries);
+    let end = entries.reached;
+    let held = entries.value;
+    kept_numbers(
+        end,
+        Numbers {
+            code: code.value,
+            entries: held,
+        },
+    )
+}
+
+fn kept_numbers(end: Reached, value: Numbers) -> NumbersRead
+    ensures { λ r. ⌜ r ≡ numbersIs (from end (λ at. got value at)) ⌝ }
+{
+    let Reached::At(_) = end else {
+        let none = Number {
+            length: DigitCount(0),
+            digits: [0u8; 24],
+        };
+        return NumbersRead {
+            reached: end,
+            value: Numbers {
+                code: 0,
+                entries: [none; 8],
+            },
+        };
+    };
+    NumbersRead {
+        reached: end,
+        value,
+    }
+}
+
+pub struct ServiceListRead {
+    pub reached: Reached,
+    pub value: [u32; 7],
+}
+
+// As many services as their number says, in the first of seven places.
+fn service_list_of(s: &[u8], n: BitCount, start: Reached, count: u32) -> ServiceListRead
+    requires { ⌜ count ≤ 7 ⌝ }
+    ensures { λ r. ⌜ r ≡ serviceListIs (from start (readAt (places (element 3 serviceRefusal) absent 7 count) (bitsIn (n .0) (now (s .entry))))) ⌝ }
+{
+    let mut held = [0u32; 7];
+    let Reached::At(c) = start else {
+        return ServiceListRead {
+            reached: start,
+            value: held,
+        };
+    };
+    let mut at = c;
+    let mut i: usize = 0;
+    while i < count as usize {
+        let number = codec::number(s, n, Reached::At(at), 3);
+        let service = codec::tested(Reached::At(at), number, site::service_refusal(number.value));
+        let end = service.reached;
+        let Reached::At(next) = end else {
+            return ServiceListRead {
+                reached: end,
+                value: [0u32; 7],
+            };
+        };
+        held[i] = service.value;
+        at = next;
+        i += 1;
+    }
+    ServiceListRead {
+        reached: Reached::At(at),
+        value: held,
+    }
+}
+
+pub struct ServicesRead {
+    pub reached: Reached,
+    pub value: Services,
+}
+
+// The number of services and the services.
+fn services_of(s: &[u8], n: BitCount, start: Reached) -> ServicesRead
+    ensures { λ r. ⌜ r ≡ servicesIs (from start (readAt services (bitsIn (n .0) (now (s .entry))))) ⌝ }
+{
+    let count = bounded(s, n, start, 3, 1, 7);
+    let after_count = count.reached;
+    let list = service_list_of(s, n, after_count, count.value);
+    let end = list.reached;
+    let held = list.value;
+    kept_services(
+        end,
+        Services {
+            count: count.value,
+            list: held,
+        },
+    )
+}
+
+fn kept_services(end: Reached, value: Services) -> ServicesRead
+    ensures { λ r. ⌜ r ≡ servicesIs (from end (λ at. got value at)) ⌝ }
+{
+    let Reached::At(_) = end else {
+        return ServicesRead {
+            reached: end,
+            value: Services {
+                count: 0,
+                list: [0u32; 7],
+            },
+        };
+    };
+    ServicesRead {
         reached: end,
         value,
     }
