@@ -14,7 +14,11 @@ use Rattle.codec.proofs.Reading.{andNext-assoc, readAt-seq, readAt-absent, read
 use Rattle.codec.proofs.Filling.{places-rest}
 use Rattle.pdu.specs.SiteSheet.{ssType, entriesOf, rangeRefusal, digitRefusal, serviceRefusal, kindRefusal, resultRefusal, askedRefusal, countRefusal, lengthRefusal}
 use Rattle.pdu.specs.Grammar.{extension, identity, noIdentity, zeroIdentity, rangeEnds, secondEnd, identities, noIdentities, external, noExternal, externals, noExternals, services, noServices, identityPart, numberPart, noPart, partOf, interrogate, interrogateAck, restOf, pdu, toRecord}
-use Rattle.pdu.specs.Read.{zeroNumber}
+use Rattle.pdu.specs.Read.{zeroIdentities, zeroNumber, zeroNumbers, zeroServices, zeroLists}
+use Rattle.pdu.specs.Reader.{recordAt}
+use Rattle.pdu.specs.declared.record.Identities.{Identities}
+use Rattle.pdu.specs.declared.record.Numbers.{Numbers}
+use Rattle.pdu.specs.declared.record.Lists.{Lists}
 use Rattle.pdu.specs.declared.site.Listing.{Listing}
 use Rattle.pdu.specs.declared.site.Listing.the-variants as of
 
@@ -55,3 +59,61 @@ module _ (s : List Bool) (at : ℕ) where
       got (record { count = count; list = list }) at₂))
   unfolding services
   services-at = simp (readAt-shaped, readAt-seq, andNext-assoc)
+
+-- ---- lists and services that the PDU does not carry
+
+module _ (s : List Bool) (at : ℕ) where
+  pub noIdentities-at : readAt noIdentities s at ≡ got zeroIdentities at
+  unfolding noIdentities
+  noIdentities-at = simp (readAt-shaped, readAt-seq, readAt-absent, places-rest noIdentity noIdentity s zeroIdentity (noIdentity-at s) 8)
+
+  pub noExternals-at : readAt noExternals s at ≡ got zeroNumbers at
+  unfolding noExternals
+  noExternals-at = simp (readAt-shaped, readAt-seq, readAt-absent, places-rest noExternal noExternal s zeroNumber (noExternal-at s) 8)
+
+  pub noServices-at : readAt noServices s at ≡ got zeroServices at
+  unfolding noServices
+  noServices-at = simp (readAt-shaped, readAt-seq, readAt-absent, places-rest absent absent s 0 (readAt-absent s) 7)
+
+-- ---- the lists, by the result
+
+abbrev pub identityLists : Identities → Identities → Identities → Lists
+identityLists g r e = record { groups = g; restricted = r; exceptions = e; numbers = zeroNumbers; excepted = zeroNumbers }
+
+abbrev pub numberLists : Identities → Numbers → Numbers → Lists
+numberLists g n e = record { groups = g; restricted = zeroIdentities; exceptions = zeroIdentities; numbers = n; excepted = e }
+
+module _ (s : List Bool) (at : ℕ) where
+  pub identityPart-at : readAt identityPart s at ≡ andNext (readAt (identities of.Identities) s at) (λ g at₁.
+      andNext (readAt (identities of.Identities) s at₁) (λ r at₂. andNext (readAt (identities of.Identities) s at₂) (λ e at₃. got (identityLists g r e) at₃)))
+  unfolding identityPart
+  identityPart-at = simp (readAt-shaped, readAt-seq, andNext-assoc, noExternals-at)
+
+  pub numberPart-at : readAt numberPart s at ≡ andNext (readAt (identities of.Identities) s at) (λ g at₁.
+      andNext (readAt externals s at₁) (λ n at₂. andNext (readAt externals s at₂) (λ e at₃. got (numberLists g n e) at₃)))
+  unfolding numberPart
+  numberPart-at = simp (readAt-shaped, readAt-seq, andNext-assoc, noIdentities-at)
+
+  pub noPart-at : readAt noPart s at ≡ got zeroLists at
+  unfolding noPart
+  noPart-at =
+      rw (readAt-shaped, readAt-seq, noIdentities-at, readAt-seq, noIdentities-at, readAt-seq, noIdentities-at, readAt-seq, noExternals-at, noExternals-at)
+
+-- ---- what follows the affected users, and the whole
+
+module _ (s : List Bool) (kind : ℕ) (affected : Identities) (at : ℕ) where
+  pub interrogate-at : recordAt interrogate s kind affected at ≡ andNext (readAt (element 2 askedRefusal) s at) (λ asked at₁.
+      got (record { kind = kind; affected = affected; asked = asked; result = 0; delivery = 0; services = zeroServices; lists = zeroLists }) at₁)
+  unfolding recordAt interrogate
+  interrogate-at = simp (readAt-seq, andNext-assoc, readAt-absent, noServices-at, noPart-at)
+
+  pub interrogateAck-at : recordAt interrogateAck s kind affected at ≡ andNext (readAt (element 3 resultRefusal) s at) (λ result at₁.
+      andNext (readAt (number 2) s at₁) (λ delivery at₂. andNext (readAt services s at₂) (λ services at₃. andNext (readAt (partOf result) s at₃) (λ lists at₄.
+      got (record { kind = kind; affected = affected; asked = 0; result = result; delivery = delivery; services = services; lists = lists }) at₄))))
+  unfolding recordAt interrogateAck
+  interrogateAck-at = simp (readAt-seq, andNext-assoc, readAt-absent)
+
+pub pdu-at : (s : List Bool) (at : ℕ) → readAt pdu s at ≡ andNext (readAt (element 6 (only ssType)) s at) (λ ss at₁. andNext (readAt (element 5 kindRefusal) s at₁) (λ kind at₂.
+    andNext (readAt (identities of.Users) s at₂) (λ affected at₃. recordAt (restOf kind) s kind affected at₃)))
+unfolding pdu recordAt
+pdu-at s at = simp (mark-at, readAt-shaped, readAt-seq, andNext-assoc)

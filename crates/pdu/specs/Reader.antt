@@ -1,12 +1,14 @@
 -- What the readers of the parts answer: where reading then stands, beside the value, which is zero beside a refusal.
+use mathlib.Core.Bool.{Bool}
 use mathlib.Core.List.{List}
 use Prim.Native.Nat.{ℕ, _+_, _≤_}
 use lib.ListN.{replicate}
-use Rattle.codec.specs.Reading.{Answer, got, barring, from, reachedOf, valueOr}
+use Rattle.codec.specs.Codec.{Codec}
+use Rattle.codec.specs.Reading.{Answer, got, andNext, barring, readAt, from, reachedOf, valueOr}
 use Rattle.codec.specs.declared.Reached.{Reached}
 use Rattle.codec.specs.declared.Reached.the-variants.{At, Refused}
-use Rattle.pdu.specs.Grammar.{zeroIdentity, rangeEnds, secondEnd}
-use Rattle.pdu.specs.Read.{zeroIdentities, zeroNumber, zeroNumbers, zeroServices}
+use Rattle.pdu.specs.Grammar.{zeroIdentity, rangeEnds, secondEnd, Rest, toRecord}
+use Rattle.pdu.specs.Read.{zeroIdentities, zeroNumber, zeroNumbers, zeroServices, zeroLists, zeroRecord}
 use Rattle.pdu.specs.declared.record.Identity.{Identity}
 use Rattle.pdu.specs.declared.record.Identities.{Identities}
 use Rattle.pdu.specs.declared.record.Number.{Number}
@@ -18,6 +20,10 @@ use Rattle.pdu.specs.declared.reader.NumberEntriesRead.{NumberEntriesRea
 use Rattle.pdu.specs.declared.reader.NumbersRead.{NumbersRead}
 use Rattle.pdu.specs.declared.reader.ServiceListRead.{ServiceListRead}
 use Rattle.pdu.specs.declared.reader.ServicesRead.{ServicesRead}
+use Rattle.pdu.specs.declared.record.Lists.{Lists}
+use Rattle.pdu.specs.declared.record.Record.{Record}
+use Rattle.pdu.specs.declared.reader.ListsRead.{ListsRead}
+use Rattle.pdu.specs.declared.reader.RecordRead.{RecordRead}
 use Rattle.pdu.specs.declared.reader.IdentityRead.{IdentityRead}
 use Rattle.pdu.specs.declared.reader.IdentitiesRead.{IdentitiesRead}
 use Rattle.pdu.specs.declared.reader.EntriesRead.{EntriesRead}
@@ -59,3 +65,13 @@ serviceListIs o = record { reached = reachedOf o; value = valueOr (replicate 7 0
 
 unfoldable pub servicesIs : Answer Services → ServicesRead
 servicesIs o = record { reached = reachedOf o; value = valueOr zeroServices o }
+
+unfoldable pub listsIs : Answer Lists → ListsRead
+listsIs o = record { reached = reachedOf o; value = valueOr zeroLists o }
+
+-- what follows the affected users, as the record of a PDU of a type
+unfoldable pub recordAt : Codec Rest → List Bool → ℕ → Identities → ℕ → Answer Record
+recordAt c s kind affected at = andNext (readAt c s at) (λ rest at′. got (toRecord (kind, (affected, rest))) at′)
+
+unfoldable pub recordIs : Answer Record → RecordRead
+recordIs o = record { reached = reachedOf o; value = valueOr zeroRecord o }

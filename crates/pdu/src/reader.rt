@@ -24,7 +24,8 @@ ghost use Rattle.codec.specs.Reading.{got, from, readAt};
 ghost use Rattle.codec.specs.Reading as reading;
 ghost use Rattle.pdu.specs.SiteSheet.{ssType, rangeRefusal, digitRefusal, serviceRefusal, kindRefusal, resultRefusal, between};
 ghost use Rattle.pdu.specs.Grammar.{extension, identity, noIdentity, zeroIdentity, endsRefusal, rangeEnds, secondEnd, identities, external, noExternal, externals, services, identityPart, numberPart, partOf, interrogate, interrogateAck, pdu};
-ghost use Rattle.pdu.specs.Reader.{identityIs, entriesIs, EndsFit, endsIs, identitiesIs, digitsIs, numberIs, numberEntriesIs, numbersIs, serviceListIs, servicesIs};
+ghost use Rattle.pdu.specs.Read.{zeroIdentities, zeroNumbers, zeroServices, zeroLists, zeroRecord};
+ghost use Rattle.pdu.specs.Reader.{recordAt, identityIs, entriesIs, EndsFit, endsIs, identitiesIs, digitsIs, numberIs, numberEntriesIs, numbersIs, serviceListIs, servicesIs, listsIs, recordIs};
 
 pub struct IdentityRead {
     pub reached: Reached,
@@ -502,4 +503,247 @@ fn kept_services(end: Reached, value: Services) -> ServicesRead
         reached: end,
         value,
     }
+}
+
+fn no_identities() -> Identities
+    ensures { λ r. ⌜ r ≡ zeroIdentities ⌝ }
+{
+    let none = Identity {
+        ssi: 0,
+        present: 0,
+        extension: 0,
+    };
+    Identities {
+        code: 0,
+        entries: [none; 8],
+    }
+}
+
+fn no_numbers() -> Numbers
+    ensures { λ r. ⌜ r ≡ zeroNumbers ⌝ }
+{
+    let none = Number {
+        length: DigitCount(0),
+        digits: [0u8; 24],
+    };
+    Numbers {
+        code: 0,
+        entries: [none; 8],
+    }
+}
+
+fn no_lists() -> Lists
+    ensures { λ r. ⌜ r ≡ zeroLists ⌝ }
+{
+    let identities = no_identities();
+    let numbers = no_numbers();
+    Lists {
+        groups: identities,
+        restricted: identities,
+        exceptions: identities,
+        numbers,
+        excepted: numbers,
+    }
+}
+
+pub struct ListsRead {
+    pub reached: Reached,
+    pub value: Lists,
+}
+
+fn kept_lists(end: Reached, value: Lists) -> ListsRead
+    ensures { λ r. ⌜ r ≡ listsIs (from end (λ at. got value at)) ⌝ }
+{
+    let Reached::At(_) = end else {
+        return ListsRead {
+            reached: end,
+            value: no_lists(),
+        };
+    };
+    ListsRead {
+        reached: end,
+        value,
+    }
+}
+
+// Closed user groups, restricted identities, exceptions to them.
+fn identity_part(s: &[u8], n: BitCount, start: Reached) -> ListsRead
+    ensures { λ r. ⌜ r ≡ listsIs (from start (readAt identityPart (bitsIn (n .0) (now (s .entry))))) ⌝ }
+{
+    let first = identities_of(s, n, start, Listing::Identities);
+    let after_first = first.reached;
+    let second = identities_of(s, n, after_first, Listing::Identities);
+    let after_second = second.reached;
+    let third = identities_of(s, n, after_second, Listing::Identities);
+    let end = third.reached;
+    let groups = first.value;
+    let restricted = second.value;
+    let exceptions = third.value;
+    let none = no_numbers();
+    kept_lists(
+        end,
+        Lists {
+            groups,
+            restricted,
+            exceptions,
+            numbers: none,
+            excepted: none,
+        },
+    )
+}
+
+// Closed user groups, restricted external numbers, exceptions to them.
+fn number_part(s: &[u8], n: BitCount, start: Reached) -> ListsRead
+    ensures { λ r. ⌜ r ≡ listsIs (from start (readAt numberPart (bitsIn (n .0) (now (s .entry))))) ⌝ }
+{
+    let first = identities_of(s, n, start, Listing::Identities);
+    let after_first = first.reached;
+    let second = numbers_of(s, n, after_first);
+    let after_second = second.reached;
+    let third = numbers_of(s, n, after_second);
+    let end = third.reached;
+    let groups = first.value;
+    let numbers = second.value;
+    let excepted = third.value;
+    let none = no_identities();
+    kept_lists(
+        end,
+        Lists {
+            groups,
+            restricted: none,
+            exceptions: none,
+            numbers,
+            excepted,
+        },
+    )
+}
+
+// The lists that an interrogation result provides (table 35).
+fn lists_of(s: &[u8], n: BitCount, start: Reached, result: u32) -> ListsRead
+    ensures { λ r. ⌜ r ≡ listsIs (from start (readAt (partOf result) (bitsIn (n .0) (now (s .entry))))) ⌝ }
+{
+    match result {
+        1 => identity_part(s, n, start),
+        2 => number_part(s, n, start),
+        _ => {
+            let none = no_lists();
+            kept_lists(start, none)
+        }
+    }
+}
+
+pub struct RecordRead {
+    pub reached: Reached,
+    pub value: Record,
+}
+
+fn no_services() -> Services
+    ensures { λ r. ⌜ r ≡ zeroServices ⌝ }
+{
+    Services {
+        count: 0,
+        list: [0u32; 7],
+    }
+}
+
+pub fn no_record() -> Record
+    ensures { λ r. ⌜ r ≡ zeroRecord ⌝ }
+{
+    let affected = no_identities();
+    let services = no_services();
+    let lists = no_lists();
+    Record {
+        kind: 0,
+        affected,
+        asked: 0,
+        result: 0,
+        delivery: 0,
+        services,
+        lists,
+    }
+}
+
+fn kept_record(end: Reached, value: Record) -> RecordRead
+    ensures { λ r. ⌜ r ≡ recordIs (from end (λ at. got value at)) ⌝ }
+{
+    let Reached::At(_) = end else {
+        return RecordRead {
+            reached: end,
+            value: no_record(),
+        };
+    };
+    RecordRead {
+        reached: end,
+        value,
+    }
+}
+
+// What follows the affected users in an INTERROGATE (table 16).
+fn interrogate_of(s: &[u8], n: BitCount, start: Reached, kind: u32, affected: Identities) -> RecordRead
+    ensures { λ r. ⌜ r ≡ recordIs (from start (recordAt interrogate (bitsIn (n .0) (now (s .entry))) kind affected)) ⌝ }
+{
+    let asked = bounded(s, n, start, 2, 1, 3);
+    let end = asked.reached;
+    let services = no_services();
+    let lists = no_lists();
+    kept_record(
+        end,
+        Record {
+            kind,
+            affected,
+            asked: asked.value,
+            result: 0,
+            delivery: 0,
+            services,
+            lists,
+        },
+    )
+}
+
+// What follows the affected users in an INTERROGATE ACK (table 17).
+fn interrogate_ack_of(s: &[u8], n: BitCount, start: Reached, kind: u32, affected: Identities) -> RecordRead
+    ensures { λ r. ⌜ r ≡ recordIs (from start (recordAt interrogateAck (bitsIn (n .0) (now (s .entry))) kind affected)) ⌝ }
+{
+    let number = codec::number(s, n, start, 3);
+    let result = codec::tested(start, number, site::result_refusal(number.value));
+    let after_result = result.reached;
+    let delivery = codec::number(s, n, after_result, 2);
+    let after_delivery = delivery.reached;
+    let provided = services_of(s, n, after_delivery);
+    let after_services = provided.reached;
+    let held = lists_of(s, n, after_services, result.value);
+    let end = held.reached;
+    let services = provided.value;
+    let lists = held.value;
+    kept_record(
+        end,
+        Record {
+            kind,
+            affected,
+            asked: 0,
+            result: result.value,
+            delivery: delivery.value,
+            services,
+            lists,
+        },
+    )
+}
+
+// The whole of a PDU: SS type, PDU type, affected users, and what its type says.
+pub fn record_of(s: &[u8], n: BitCount, start: Reached) -> RecordRead
+    ensures { λ r. ⌜ r ≡ recordIs (from start (readAt pdu (bitsIn (n .0) (now (s .entry))))) ⌝ }
+{
+    let number = codec::number(s, n, start, 6);
+    let ss_type = codec::tested(start, number, site::ss_refusal(number.value));
+    let after_ss = ss_type.reached;
+    let code = codec::number(s, n, after_ss, 5);
+    let kind = codec::tested(after_ss, code, site::kind_refusal(code.value));
+    let after_kind = kind.reached;
+    let users = identities_of(s, n, after_kind, Listing::Users);
+    let after_users = users.reached;
+    let affected = users.value;
+    if kind.value == 11 {
+        return interrogate_of(s, n, after_users, kind.value, affected);
+    }
+    interrogate_ack_of(s, n, after_users, kind.value, affected)
 }

@@ -1,7 +1,17 @@
 // The site sheet's codes: range types, digits, services. Each code has its meaning or is refused.
 ghost use mathlib.Core.Path.{_≡_};
 ghost use Prim.Native.Nat.{_<_};
-ghost use Rattle.pdu.specs.SiteSheet.{rangeType, rowOf, entriesOf, rangeRefusal, digitOf, digitRefusal, serviceOf, serviceRefusal, kindRefusal, resultRefusal};
+ghost use Rattle.codec.specs.Parts.{only};
+ghost use Rattle.pdu.specs.SiteSheet.{rangeType, rowOf, entriesOf, rangeRefusal, ssType, digitOf, digitRefusal, serviceOf, serviceRefusal, kindRefusal, resultRefusal};
+
+// The SS type of BOC: a stand-in until EN 300 392-9 is supplied.
+const SS_TYPE: u32 = 18;
+
+pub fn ss_refusal(code: u32) -> u32
+    ensures { λ r. ⌜ r ≡ only ssType code ⌝ }
+{
+    if code == SS_TYPE { 0 } else { 3 }
+}
 
 // What a range type says of the entries that follow it.
 pub enum RangeType {
