@@ -8,7 +8,7 @@ use native.Mathlib.Omega.{arith}
 use lib.ListN.{length, take, drop, length-drop}
 use lib.Seq.{drop-drop, drop-append-seam}
 use lib.Dec.{ltb, leb}
-use borrow.Author.Tests.{ltb-true, ltb-false, leb-true, le-leb}
+use borrow.Author.Tests.{ltb-true, ltb-false, lt-ltb, le-ltb, leb-true, le-leb}
 use Rattle.bits.specs.Bits.{pick, value}
 use Rattle.bits.specs.Frame.{bitsIn}
 use Rattle.bits.specs.Element.{elementAt, takeAt}
@@ -18,7 +18,8 @@ use Rattle.bits.specs.declared.Taken.the-variants.{Element, Short}
 use Rattle.bits.proofs.Elements.{element-there, element-short}
 use Rattle.codec.specs.Codec.{Outcome, ok, no, andThen, Right, Codec, Legal}
 use Rattle.codec.specs.Parts.{first-none, numberFault, narrow, number, absent, seq, unless, tested, element, shaped, mark, only}
-use Rattle.codec.specs.Places.{nil, cons}
+use Rattle.codec.specs.Places.{isNil, nil, cons}
+use Rattle.codec.specs.Whole.{wholeParse}
 use Rattle.codec.specs.Reading.{Answer, got, refused, andNext, barring, answer, readAt, from, reachedOf, valueOr, elementOf, numberIs, testedIs}
 use Rattle.codec.specs.declared.Reached.{Reached}
 use Rattle.codec.specs.declared.Reached.the-variants.{At, Refused}
@@ -150,6 +151,21 @@ pub mark-at : {A : Type 0} (w v : ℕ) (c : Codec A) (s : List Bool) (at : ℕ)
     → readAt (mark w v c) s at ≡ andNext (readAt (element w (only v)) s at) (λ x at₁. readAt c s at₁)
 unfolding mark
 mark-at w v c s at = simp (readAt-shaped, readAt-seq, andNext-assoc, next-got)
+
+-- the whole of a PDU, read to its end
+pub whole-at : {A : Type 0} (c : Codec A) (s : List Bool)
+    → answer (wholeParse c s) ≡ andNext (readAt c s 0) (λ a at. pick (ltb at (length s)) (refused 5 at) (got a at))
+unfolding readAt
+whole-at {A} c s =
+    then-at c (λ a at r. pick (isNil r) (ok a at r) (no 5 at)) s 0
+    ∙ ap (andNext {B = A} (answer (c .parse 0 s))) (λ i a at. left a at i)
+  where
+    left : (a : A) (at : ℕ) → answer (pick (isNil (drop at s)) (ok a at (drop at s)) (no 5 at)) ≡ pick (ltb at (length s)) (refused 5 at) (got a at)
+    left a at = go (drop at s) refl
+      where
+        go : (r : List Bool) → drop at s ≡ r → answer (pick (isNil r) (ok a at r) (no 5 at)) ≡ pick (ltb at (length s)) (refused 5 at) (got a at)
+        go [] e = rw (le-ltb at (length s) (omega (arith, length-drop at s, ap length e)))
+        go (b ∷ r) e = rw (lt-ltb at (length s) (omega (arith, length-drop at s, ap length e)))
 
 -- ---- from one reader to the next
 

@@ -7,8 +7,8 @@ use Rattle.codec.specs.Reading.{Answer, got, refused, reachedOf, valueOr}
 use Rattle.codec.specs.declared.Reached.{Reached}
 use Rattle.codec.proofs.Reading.{placed, placed-answer}
 use Rattle.pdu.specs.Grammar.{zeroIdentity}
-use Rattle.pdu.specs.Read.{zeroIdentities, zeroNumber, zeroNumbers, zeroServices, zeroLists}
-use Rattle.pdu.specs.Reader.{identityIs, entriesIs, identitiesIs, digitsIs, numberIs, numberEntriesIs, numbersIs, serviceListIs, servicesIs, listsIs}
+use Rattle.pdu.specs.Read.{zeroIdentities, zeroNumber, zeroNumbers, zeroServices, zeroLists, zeroRecord}
+use Rattle.pdu.specs.Reader.{identityIs, entriesIs, identitiesIs, digitsIs, numberIs, numberEntriesIs, numbersIs, serviceListIs, servicesIs, listsIs, recordIs}
 use Rattle.pdu.specs.declared.record.Identity.{Identity}
 use Rattle.pdu.specs.declared.record.Identities.{Identities}
 use Rattle.pdu.specs.declared.record.Number.{Number}
@@ -22,6 +22,8 @@ use Rattle.pdu.specs.declared.reader.ServiceListRead.{ServiceListRead}
 use Rattle.pdu.specs.declared.reader.ServicesRead.{ServicesRead}
 use Rattle.pdu.specs.declared.record.Lists.{Lists}
 use Rattle.pdu.specs.declared.reader.ListsRead.{ListsRead}
+use Rattle.pdu.specs.declared.record.Record.{Record}
+use Rattle.pdu.specs.declared.reader.RecordRead.{RecordRead}
 use Rattle.pdu.specs.declared.reader.IdentityRead.{IdentityRead}
 use Rattle.pdu.specs.declared.reader.EntriesRead.{EntriesRead}
 use Rattle.pdu.specs.declared.reader.IdentitiesRead.{IdentitiesRead}
@@ -65,3 +67,7 @@ services-read o e = placed-answer zeroServices o ∙ ap (λ (r : ServicesRead). 
 pub lists-read : (o : Answer Lists) {r : ListsRead} → r ≡ listsIs o → o ≡ placed (r .reached) (r .value)
 unfolding listsIs
 lists-read o e = placed-answer zeroLists o ∙ ap (λ (r : ListsRead). placed (r .reached) (r .value)) (sym e)
+
+pub record-read : (o : Answer Record) {r : RecordRead} → r ≡ recordIs o → o ≡ placed (r .reached) (r .value)
+unfolding recordIs
+record-read o e = placed-answer zeroRecord o ∙ ap (λ (r : RecordRead). placed (r .reached) (r .value)) (sym e)

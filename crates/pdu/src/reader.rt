@@ -1,9 +1,5 @@
 // Reading the parts of a PDU, left to right. Each reader goes on from where the one before it stands and passes its refusal on;
 // beside a refusal its value is zero.
-use bits::BitCount;
-use bits::DigitCount;
-use codec::NumberRead;
-use codec::Reached;
 use crate::record::Identities;
 use crate::record::Identity;
 use crate::record::Lists;
@@ -13,7 +9,10 @@ use crate::record::Record;
 use crate::record::Services;
 use crate::site;
 use crate::site::Listing;
-
+use bits::BitCount;
+use bits::DigitCount;
+use codec::NumberRead;
+use codec::Reached;
 ghost use mathlib.Core.Path.{_≡_};
 ghost use Prim.Native.Nat.{_+_, _≤_, _<_};
 ghost use lib.ListN.{length, replicate};
@@ -388,7 +387,11 @@ fn numbers_of(s: &[u8], n: BitCount, start: Reached) -> NumbersRead
     ensures { λ r. ⌜ r ≡ numbersIs (from start (readAt externals (bitsIn (n .0) (now (s .entry))))) ⌝ }
 {
     let number = codec::number(s, n, start, 4);
-    let code = codec::tested(start, number, site::range_refusal(Listing::Numbers, number.value));
+    let code = codec::tested(
+        start,
+        number,
+        site::range_refusal(Listing::Numbers, number.value),
+    );
     let after_code = code.reached;
     let row = site::row_of(code.value);
     let entries = number_entries_of(s, n, after_code, row.entries);
@@ -679,7 +682,13 @@ fn kept_record(end: Reached, value: Record) -> RecordRead
 }
 
 // What follows the affected users in an INTERROGATE (table 16).
-fn interrogate_of(s: &[u8], n: BitCount, start: Reached, kind: u32, affected: Identities) -> RecordRead
+fn interrogate_of(
+    s: &[u8],
+    n: BitCount,
+    start: Reached,
+    kind: u32,
+    affected: Identities,
+) -> RecordRead
     ensures { λ r. ⌜ r ≡ recordIs (from start (recordAt interrogate (bitsIn (n .0) (now (s .entry))) kind affected)) ⌝ }
 {
     let asked = bounded(s, n, start, 2, 1, 3);
@@ -701,7 +710,13 @@ fn interrogate_of(s: &[u8], n: BitCount, start: Reached, kind: u32, affected: Id
 }
 
 // What follows the affected users in an INTERROGATE ACK (table 17).
-fn interrogate_ack_of(s: &[u8], n: BitCount, start: Reached, kind: u32, affected: Identities) -> RecordRead
+fn interrogate_ack_of(
+    s: &[u8],
+    n: BitCount,
+    start: Reached,
+    kind: u32,
+    affected: Identities,
+) -> RecordRead
     ensures { λ r. ⌜ r ≡ recordIs (from start (recordAt interrogateAck (bitsIn (n .0) (now (s .entry))) kind affected)) ⌝ }
 {
     let number = codec::number(s, n, start, 3);
