@@ -14,9 +14,9 @@ use Rattle.codec.specs.Codec.{Outcome, ok, no}
 use Rattle.codec.specs.Whole.{wholeParse}
 use Rattle.codec.specs.Reading.{Answer, got, refused, andNext, answer, readAt}
 use Rattle.codec.proofs.Reading.{whole-at}
-use Rattle.pdu.specs.Grammar.{pdu}
+use Rattle.grammar.specs.Grammar.{pdu}
 use Rattle.pdu.specs.Read.{refusing, answered, readIs}
-use Rattle.pdu.specs.declared.record.Record.{Record}
+use Rattle.grammar.specs.declared.record.Record.{Record}
 use Rattle.pdu.specs.declared.Answer.the-variants.{Accepted}
 use Rattle.pdu.specs.declared.Reading.{Reading}
 

@@ -8,9 +8,9 @@ use Rattle.bits.specs.Bits.{pick}
 use Rattle.bits.specs.Frame.{bytesFor, pack}
 use Rattle.codec.specs.Codec.{first}
 use Rattle.codec.specs.Parts.{isZero}
-use Rattle.pdu.specs.SiteSheet.{kindRefusal}
-use Rattle.pdu.specs.Grammar.{pdu}
-use Rattle.pdu.specs.declared.record.Record.{Record}
+use Rattle.grammar.specs.SiteSheet.{kindRefusal}
+use Rattle.grammar.specs.Grammar.{pdu}
+use Rattle.grammar.specs.declared.record.Record.{Record}
 use Rattle.pdu.specs.declared.Written.{Written}
 use Rattle.pdu.specs.declared.Written.the-variants.{Bits, Refused}
 

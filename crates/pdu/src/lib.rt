@@ -1,12 +1,8 @@
 // INTERROGATE and INTERROGATE ACK PDUs, read and written (document 01, "Site sheet" and "The two PDUs").
-mod reader;
-pub mod record;
-pub mod site;
-
 use bits::BitCount;
 use bits::Cursor;
 use codec::Reached;
-use record::Record;
+use grammar::record::Record;
 ghost use mathlib.Core.Path.{_≡_};
 ghost use Rattle.pdu.specs.Read.{refusing, readIs};
 

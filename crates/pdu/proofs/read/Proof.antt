@@ -8,7 +8,7 @@ use Rattle.bits.specs.Frame.{framed}
 use Rattle.codec.specs.Reading.{from}
 use Rattle.codec.proofs.Reading.{placed-got, placed-refused}
 use Rattle.pdu.proofs.Answers.{not-framed, refused-inside, bits-left, accepted-whole}
-use Rattle.pdu.proofs.Readers.{record-read}
+use Rattle.reader.proofs.Readers.{record-read}
 use Rattle.pdu.proofs.read.Statement.{statement}
 use Rattle.pdu.proofs.read.Tie as tie
 

@@ -1,0 +1,226 @@
+-- What legal INTERROGATE and INTERROGATE ACK PDUs are, part by part: EN 300 392-12-18, tables 16 and 17, with the site sheet.
+-- Each part is a codec: it is written, read and judged by the same description.
+use mathlib.Core.Path.{_≡_, refl}
+use mathlib.Core.Bool.{Bool, _&&_}
+use mathlib.Core.List.{List, [], _∷_}
+use Prim.Native.Nat.{ℕ, zero, suc}
+use lib.ListN.{length, getD, replicate}
+use lib.Dec.{leb, eqb}
+use Rattle.bits.specs.Bits.{pick, bitsOf, value}
+use Rattle.codec.specs.Codec.{Codec}
+use Rattle.codec.specs.Parts.{number, absent, element, seq, _>>=_, _>>_, tested, shaped, mark}
+use Rattle.codec.specs.Places.{nil, cons, places}
+use Rattle.grammar.specs.SiteSheet.{ssType, rangeType, rowOf, entriesOf, rangeRefusal, digitOf, digitRefusal, serviceOf, serviceRefusal, kindRefusal, resultRefusal, askedRefusal, countRefusal, lengthRefusal}
+use Rattle.grammar.specs.declared.site.Listing.{Listing}
+use Rattle.grammar.specs.declared.site.Listing.the-variants as of
+use Rattle.grammar.specs.declared.record.Identity.{Identity}
+use Rattle.grammar.specs.declared.record.Identities.{Identities}
+use Rattle.grammar.specs.declared.record.Number.{Number}
+use Rattle.grammar.specs.declared.record.Numbers.{Numbers}
+use Rattle.grammar.specs.declared.record.Services.{Services}
+use Rattle.grammar.specs.declared.record.Lists.{Lists}
+use Rattle.grammar.specs.declared.record.Record.{Record}
+
+-- ---- an identity: SSI, extension present, and the extension exactly if that is 1
+
+unfoldable pub extension : ℕ → Codec ℕ
+extension present = pick (eqb present 1) (number 24) absent
+
+abbrev pub toIdentity : ℕ × (ℕ × ℕ) → Identity
+toIdentity (ssi, (present, ext)) = record { ssi = ssi; present = present; extension = ext }
+
+abbrev pub fromIdentity : Identity → ℕ × (ℕ × ℕ)
+fromIdentity e = (e .ssi, (e .present, e .extension))
+
+unfoldable pub identity : Codec Identity
+identity =
+    shaped (do
+      number 24
+      present ← number 1
+      extension present)
+    toIdentity fromIdentity (λ a c f. refl) (λ e. refl)
+
+-- an unused place
+unfoldable pub noIdentity : Codec Identity
+noIdentity = shaped (do absent; absent; absent) toIdentity fromIdentity (λ a c f. refl) (λ e. refl)
+
+abbrev pub zeroIdentity : Identity
+zeroIdentity = record { ssi = 0; present = 0; extension = 0 }
+
+-- ---- a list of identities: its range type, and as many entries as that says
+
+-- the two ends of a range have the same present bit and extension, and are not reversed; otherwise 4
+unfoldable pub endsRefusal : Identity → Identity → ℕ
+endsRefusal a b = pick (eqb (a .present) (b .present) && eqb (a .extension) (b .extension) && leb (a .ssi) (b .ssi)) 0 4
+
+unfoldable pub rangeEnds : ℕ → List Identity → ℕ
+rangeEnds code l = pick (eqb code 9) (endsRefusal (getD l 0 zeroIdentity) (getD l 1 zeroIdentity)) 0
+
+-- where the second end begins
+abbrev pub secondEnd : List Identity → ℕ
+secondEnd l = length (identity .print (getD l 0 zeroIdentity))
+
+abbrev pub toIdentities : ℕ × List Identity → Identities
+toIdentities (code, entries) = record { code = code; entries = entries }
+
+abbrev pub fromIdentities : Identities → ℕ × List Identity
+fromIdentities l = (l .code, l .entries)
+
+unfoldable pub identities : Listing → Codec Identities
+identities listing =
+    shaped (do
+      code ← element 4 (rangeRefusal listing)
+      tested (places identity noIdentity 8 (entriesOf code)) (rangeEnds code) secondEnd)
+    toIdentities fromIdentities (λ a c f. refl) (λ l. refl)
+
+-- a list that the PDU does not carry
+unfoldable pub noIdentities : Codec Identities
+noIdentities = shaped (do absent; places noIdentity noIdentity 8 0) toIdentities fromIdentities (λ a c f. refl) (λ l. refl)
+
+-- ---- an external number: its length, and as many digits; a list of them
+
+abbrev pub toNumber : ℕ × List ℕ → Number
+toNumber (length, digits) = record { length = record { 0 = length }; digits = digits }
+
+abbrev pub fromNumber : Number → ℕ × List ℕ
+fromNumber n = (n .length .0, n .digits)
+
+unfoldable pub external : Codec Number
+external =
+    shaped (do
+      length ← element 5 lengthRefusal
+      places (element 4 digitRefusal) absent 24 length)
+    toNumber fromNumber (λ a c f. refl) (λ n. refl)
+
+unfoldable pub noExternal : Codec Number
+noExternal = shaped (do absent; places absent absent 24 0) toNumber fromNumber (λ a c f. refl) (λ n. refl)
+
+abbrev pub toNumbers : ℕ × List Number → Numbers
+toNumbers (code, entries) = record { code = code; entries = entries }
+
+abbrev pub fromNumbers : Numbers → ℕ × List Number
+fromNumbers l = (l .code, l .entries)
+
+unfoldable pub externals : Codec Numbers
+externals =
+    shaped (do
+      code ← element 4 (rangeRefusal of.Numbers)
+      places external noExternal 8 (entriesOf code))
+    toNumbers fromNumbers (λ a c f. refl) (λ l. refl)
+
+unfoldable pub noExternals : Codec Numbers
+noExternals = shaped (do absent; places noExternal noExternal 8 0) toNumbers fromNumbers (λ a c f. refl) (λ l. refl)
+
+-- ---- number of services, services (table 42)
+
+abbrev pub toServices : ℕ × List ℕ → Services
+toServices (count, list) = record { count = count; list = list }
+
+abbrev pub fromServices : Services → ℕ × List ℕ
+fromServices s = (s .count, s .list)
+
+unfoldable pub services : Codec Services
+services =
+    shaped (do
+      count ← element 3 countRefusal
+      places (element 3 serviceRefusal) absent 7 count)
+    toServices fromServices (λ a c f. refl) (λ s. refl)
+
+unfoldable pub noServices : Codec Services
+noServices = shaped (do absent; places absent absent 7 0) toServices fromServices (λ a c f. refl) (λ s. refl)
+
+-- ---- the lists, by the interrogation result (table 35)
+
+abbrev pub Five : Type 0
+Five = Identities × (Identities × (Identities × (Numbers × Numbers)))
+
+abbrev pub toLists : Five → Lists
+toLists (groups, (restricted, (exceptions, (numbers, excepted)))) =
+    record { groups = groups; restricted = restricted; exceptions = exceptions; numbers = numbers; excepted = excepted }
+
+abbrev pub fromLists : Lists → Five
+fromLists l = (l .groups, (l .restricted, (l .exceptions, (l .numbers, l .excepted))))
+
+-- accepted, TETRA identities provided
+unfoldable pub identityPart : Codec Lists
+identityPart =
+    shaped (do
+      identities of.Identities
+      identities of.Identities
+      identities of.Identities
+      noExternals
+      noExternals)
+    toLists fromLists (λ a c f. refl) (λ l. refl)
+
+-- accepted, external subscriber numbers provided
+unfoldable pub numberPart : Codec Lists
+numberPart =
+    shaped (do
+      identities of.Identities
+      noIdentities
+      noIdentities
+      externals
+      externals)
+    toLists fromLists (λ a c f. refl) (λ l. refl)
+
+-- any other result
+unfoldable pub noPart : Codec Lists
+noPart =
+    shaped (do
+      noIdentities
+      noIdentities
+      noIdentities
+      noExternals
+      noExternals)
+    toLists fromLists (λ a c f. refl) (λ l. refl)
+
+abbrev pub partOf : ℕ → Codec Lists
+partOf result = pick (eqb result 1) identityPart (pick (eqb result 2) numberPart noPart)
+
+-- ---- what follows the affected users: interrogation type, result, delivery status, services, lists
+
+abbrev pub Rest : Type 0
+Rest = ℕ × (ℕ × (ℕ × (Services × Lists)))
+
+-- table 16
+unfoldable pub interrogate : Codec Rest
+interrogate = do
+  element 2 askedRefusal
+  absent
+  absent
+  noServices
+  noPart
+
+-- table 17; every delivery status is legal (table 29)
+unfoldable pub interrogateAck : Codec Rest
+interrogateAck = do
+  absent
+  result ← element 3 resultRefusal
+  number 2
+  services
+  partOf result
+
+-- ---- the PDU
+
+abbrev pub toRecord : ℕ × (Identities × Rest) → Record
+toRecord (kind, (affected, (asked, (result, (delivery, (services, lists)))))) =
+    record { kind = kind; affected = affected; asked = asked; result = result; delivery = delivery; services = services; lists = lists }
+
+abbrev pub fromRecord : Record → ℕ × (Identities × Rest)
+fromRecord r = (r .kind, (r .affected, (r .asked, (r .result, (r .delivery, (r .services, r .lists))))))
+
+abbrev pub restOf : ℕ → Codec Rest
+restOf kind = pick (eqb kind 11) interrogate interrogateAck
+
+unfoldable pub pdu : Codec Record
+pdu =
+    mark 6 ssType (shaped (do
+      kind ← element 5 kindRefusal
+      identities of.Users
+      restOf kind)
+    toRecord fromRecord (λ a c f. refl) (λ r. refl))
+
+-- `unfolding grammar` opens all of it
+unfoldable pub grammar : Unit {0}
+unfolding pdu mark shaped seq element tested number absent places cons nil extension identity noIdentity endsRefusal rangeEnds identities noIdentities external noExternal externals noExternals services noServices identityPart numberPart noPart interrogate interrogateAck rangeType rowOf rangeRefusal digitOf digitRefusal serviceOf serviceRefusal kindRefusal resultRefusal bitsOf value
+grammar = tt

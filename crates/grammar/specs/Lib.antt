@@ -1,0 +1,4 @@
+pub mod SiteSheet
+pub mod Grammar
+pub mod Zero
+pub mod Examples

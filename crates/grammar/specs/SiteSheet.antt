@@ -1,0 +1,106 @@
+-- The codes: what each means, or that it is refused. The site sheet stands in for EN 300 392-9; tables are those of EN 300 392-12-18.
+use Prim.Native.Nat.{ℕ}
+use mathlib.Core.Bool.{Bool, true, false, _&&_}
+use lib.Dec.{eqb, leb}
+use Rattle.bits.specs.Bits.{pick}
+use Rattle.grammar.specs.declared.site.RangeType.{RangeType}
+use Rattle.grammar.specs.declared.site.RangeType.the-variants.{Empty, Single, FirstAndLast, NoRangeType}
+use Rattle.grammar.specs.declared.site.Listing.{Listing}
+use Rattle.grammar.specs.declared.site.Listing.the-variants.{Users, Identities, Numbers}
+use Rattle.grammar.specs.declared.site.Row.{Row}
+use Rattle.grammar.specs.declared.site.Digit.{Digit}
+use Rattle.grammar.specs.declared.site.Digit.the-variants.{Decimal, Star, Hash, Plus, NoDigit}
+use Rattle.grammar.specs.declared.site.Service.{Service}
+use Rattle.grammar.specs.declared.site.Service.the-variants.{All, Speech, CircuitData, ShortData, NoService}
+
+-- the SS type of BOC, our stand-in until EN 300 392-9 is supplied
+abbrev pub ssType : ℕ
+ssType = 18
+
+-- ---- range types
+
+-- 0: empty list; 1 to 8: so many single entries; 9: first and last of a range; 10 to 15: refused
+unfoldable pub rangeType : ℕ → RangeType
+rangeType code = pick (eqb code 0) Empty (pick (leb code 8) (Single code) (pick (eqb code 9) FirstAndLast NoRangeType))
+
+-- how many entries follow, and whether the code is refused
+abbrev pub rowOfType : RangeType → Row
+rowOfType Empty = record { entries = 0; refused = false }
+rowOfType (Single n) = record { entries = n; refused = false }
+rowOfType FirstAndLast = record { entries = 2; refused = false }
+rowOfType NoRangeType = record { entries = 0; refused = true }
+
+unfoldable pub rowOf : ℕ → Row
+rowOf code = rowOfType (rangeType code)
+
+abbrev pub entriesOf : ℕ → ℕ
+entriesOf code = rowOf code .entries
+
+-- 0 is refused for affected users, 9 for external numbers
+abbrev pub refusalIn : Listing → RangeType → ℕ
+refusalIn Users Empty = 3
+refusalIn Identities Empty = 0
+refusalIn Numbers Empty = 0
+refusalIn l (Single n) = 0
+refusalIn Users FirstAndLast = 0
+refusalIn Identities FirstAndLast = 0
+refusalIn Numbers FirstAndLast = 3
+refusalIn l NoRangeType = 3
+
+unfoldable pub rangeRefusal : Listing → ℕ → ℕ
+rangeRefusal l code = refusalIn l (rangeType code)
+
+-- ---- digits: 0 to 9, then *, # and +
+
+unfoldable pub digitOf : ℕ → Digit
+digitOf d = pick (leb d 9) (Decimal d) (pick (eqb d 10) Star (pick (eqb d 11) Hash (pick (eqb d 12) Plus NoDigit)))
+
+abbrev pub refusalOfDigit : Digit → ℕ
+refusalOfDigit (Decimal d) = 0
+refusalOfDigit Star = 0
+refusalOfDigit Hash = 0
+refusalOfDigit Plus = 0
+refusalOfDigit NoDigit = 3
+
+unfoldable pub digitRefusal : ℕ → ℕ
+digitRefusal d = refusalOfDigit (digitOf d)
+
+-- ---- services: table 42
+
+unfoldable pub serviceOf : ℕ → Service
+serviceOf v = pick (eqb v 0) All (pick (eqb v 1) Speech (pick (eqb v 2) CircuitData (pick (eqb v 3) ShortData NoService)))
+
+abbrev pub refusalOfService : Service → ℕ
+refusalOfService All = 0
+refusalOfService Speech = 0
+refusalOfService CircuitData = 0
+refusalOfService ShortData = 0
+refusalOfService NoService = 3
+
+unfoldable pub serviceRefusal : ℕ → ℕ
+serviceRefusal v = refusalOfService (serviceOf v)
+
+-- ---- the other elements
+
+abbrev pub between : ℕ → ℕ → ℕ → ℕ
+between low high v = pick (leb low v && leb v high) 0 3
+
+-- PDU type, table 23: INTERROGATE is 11 and INTERROGATE ACK 12; 0 to 10 and 13 are named there too; others are reserved
+unfoldable pub kindRefusal : ℕ → ℕ
+kindRefusal v = pick (leb 11 v && leb v 12) 0 (pick (leb v 13) 10 3)
+
+-- interrogation result, table 35: 5 is reserved
+unfoldable pub resultRefusal : ℕ → ℕ
+resultRefusal v = pick (eqb v 5) 3 0
+
+-- interrogation type, table 36: 0 is reserved
+abbrev pub askedRefusal : ℕ → ℕ
+askedRefusal = between 1 3
+
+-- number of services, table 37: 0 is reserved
+abbrev pub countRefusal : ℕ → ℕ
+countRefusal = between 1 7
+
+-- length of an external number: 1 to 24 digits
+abbrev pub lengthRefusal : ℕ → ℕ
+lengthRefusal = between 1 24

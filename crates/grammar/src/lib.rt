@@ -1,0 +1,3 @@
+// The meaning of a BOC PDU: its record, the codes of its elements, and the grammar in specs/ (document 01, "Site sheet" and "The two PDUs").
+pub mod record;
+pub mod site;

@@ -1,0 +1,234 @@
+// The site sheet's codes: range types, digits, services. Each code has its meaning or is refused.
+ghost use mathlib.Core.Path.{_≡_};
+ghost use Prim.Native.Nat.{_<_};
+ghost use Rattle.codec.specs.Parts.{only};
+ghost use Rattle.grammar.specs.SiteSheet.{rangeType, rowOf, entriesOf, rangeRefusal, ssType, digitOf, digitRefusal, serviceOf, serviceRefusal, kindRefusal, resultRefusal};
+
+// The SS type of BOC: a stand-in until EN 300 392-9 is supplied.
+const SS_TYPE: u32 = 18;
+
+pub fn ss_refusal(code: u32) -> u32
+    ensures { λ r. ⌜ r ≡ only ssType code ⌝ }
+{
+    if code == SS_TYPE { 0 } else { 3 }
+}
+
+// What a range type says of the entries that follow it.
+pub enum RangeType {
+    Empty,
+    Single(u32),
+    FirstAndLast,
+    NoRangeType,
+}
+
+// The three kinds of list, by which a range type may be refused.
+pub enum Listing {
+    Users,
+    Identities,
+    Numbers,
+}
+
+// A row of the site sheet: how many entries follow, and whether the code is refused.
+pub struct Row {
+    pub entries: u32,
+    pub refused: bool,
+}
+
+const RANGE_TYPES: [Row; 16] = [
+    Row {
+        entries: 0,
+        refused: false,
+    },
+    Row {
+        entries: 1,
+        refused: false,
+    },
+    Row {
+        entries: 2,
+        refused: false,
+    },
+    Row {
+        entries: 3,
+        refused: false,
+    },
+    Row {
+        entries: 4,
+        refused: false,
+    },
+    Row {
+        entries: 5,
+        refused: false,
+    },
+    Row {
+        entries: 6,
+        refused: false,
+    },
+    Row {
+        entries: 7,
+        refused: false,
+    },
+    Row {
+        entries: 8,
+        refused: false,
+    },
+    Row {
+        entries: 2,
+        refused: false,
+    },
+    Row {
+        entries: 0,
+        refused: true,
+    },
+    Row {
+        entries: 0,
+        refused: true,
+    },
+    Row {
+        entries: 0,
+        refused: true,
+    },
+    Row {
+        entries: 0,
+        refused: true,
+    },
+    Row {
+        entries: 0,
+        refused: true,
+    },
+    Row {
+        entries: 0,
+        refused: true,
+    },
+];
+
+// The site sheet's row of a range type; a code of more than 4 bits is refused.
+pub fn row_of(code: u32) -> Row
+    ensures { λ r. ⌜ r ≡ rowOf code ⌝ }
+{
+    if 16 <= code {
+        return Row {
+            entries: 0,
+            refused: true,
+        };
+    }
+    let i = code as usize;
+    RANGE_TYPES[i]
+}
+
+pub fn range_type(code: u32) -> RangeType
+    ensures { λ r. ⌜ r ≡ rangeType code ⌝ }
+{
+    match code {
+        0 => RangeType::Empty,
+        1..=8 => RangeType::Single(code),
+        9 => RangeType::FirstAndLast,
+        _ => RangeType::NoRangeType,
+    }
+}
+
+// The refusal number of a range type in a kind of list, 0 for none.
+pub fn range_refusal(listing: Listing, code: u32) -> u32
+    ensures { λ r. ⌜ r ≡ rangeRefusal listing code ⌝ }
+{
+    match range_type(code) {
+        RangeType::Empty => match listing {
+            Listing::Users => 3,
+            Listing::Identities => 0,
+            Listing::Numbers => 0,
+        },
+        RangeType::Single(_) => 0,
+        RangeType::FirstAndLast => match listing {
+            Listing::Users => 0,
+            Listing::Identities => 0,
+            Listing::Numbers => 3,
+        },
+        RangeType::NoRangeType => 3,
+    }
+}
+
+// A digit of an external number.
+pub enum Digit {
+    Decimal(u32),
+    Star,
+    Hash,
+    Plus,
+    NoDigit,
+}
+
+pub fn digit_of(code: u32) -> Digit
+    ensures { λ r. ⌜ r ≡ digitOf code ⌝ }
+{
+    match code {
+        0..=9 => Digit::Decimal(code),
+        10 => Digit::Star,
+        11 => Digit::Hash,
+        12 => Digit::Plus,
+        _ => Digit::NoDigit,
+    }
+}
+
+pub fn digit_refusal(code: u32) -> u32
+    ensures { λ r. ⌜ r ≡ digitRefusal code ⌝ }
+{
+    match digit_of(code) {
+        Digit::Decimal(_) => 0,
+        Digit::Star => 0,
+        Digit::Hash => 0,
+        Digit::Plus => 0,
+        Digit::NoDigit => 3,
+    }
+}
+
+// A service (table 42).
+pub enum Service {
+    All,
+    Speech,
+    CircuitData,
+    ShortData,
+    NoService,
+}
+
+pub fn service_of(code: u32) -> Service
+    ensures { λ r. ⌜ r ≡ serviceOf code ⌝ }
+{
+    match code {
+        0 => Service::All,
+        1 => Service::Speech,
+        2 => Service::CircuitData,
+        3 => Service::ShortData,
+        _ => Service::NoService,
+    }
+}
+
+pub fn service_refusal(code: u32) -> u32
+    ensures { λ r. ⌜ r ≡ serviceRefusal code ⌝ }
+{
+    match service_of(code) {
+        Service::All => 0,
+        Service::Speech => 0,
+        Service::CircuitData => 0,
+        Service::ShortData => 0,
+        Service::NoService => 3,
+    }
+}
+
+// The refusal number of a PDU type (table 23): 10 for one that is named there and not read.
+pub fn kind_refusal(code: u32) -> u32
+    ensures { λ r. ⌜ r ≡ kindRefusal code ⌝ }
+{
+    match code {
+        11..=12 => 0,
+        0..=10 | 13 => 10,
+        _ => 3,
+    }
+}
+
+// The refusal number of an interrogation result (table 35): 5 is reserved.
+pub fn result_refusal(code: u32) -> u32
+    ensures { λ r. ⌜ r ≡ resultRefusal code ⌝ }
+{
+    match code {
+        5 => 3,
+        _ => 0,
+    }
+}

@@ -1,0 +1,25 @@
+-- Each way out is between's own case. Assumes nothing.
+use mathlib.Core.Path.{sym, ap}
+use mathlib.Core.Bool.{Bool, _&&_, and-false}
+use Prim.Native.Nat.{ℕ}
+use borrow.Author.Tests.{le-leb, lt-leb}
+use lib.Dec.{leb}
+use Rattle.bits.specs.Bits.{pick}
+use Rattle.reader.proofs.outside.Statement.{statement}
+use Rattle.reader.proofs.outside.Tie as tie
+
+returns : tie.Need-returns
+returns c = rw (lt-leb (c .before .args .low) (c .before .args .v) (c .if1 .taken))
+
+returns-2 : tie.Need-returns-2
+returns-2 c =
+    let a = c .before .before .args in
+    rw (le-leb (a .low) (a .v) (c .before .if1 .left), lt-leb (a .v) (a .high) (c .if2 .taken))
+
+returns-3 : tie.Need-returns-3
+returns-3 c =
+    let a = c .before .before .args in
+    rw (le-leb (a .low) (a .v) (c .before .if1 .left), le-leb (a .v) (a .high) (c .if2 .left))
+
+pub outside-spec : {M : Type 1} → statement M
+outside-spec = tie.close (tie.spec returns returns-2 returns-3)
