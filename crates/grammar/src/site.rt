@@ -2,7 +2,10 @@
 ghost use mathlib.Core.Path.{_≡_};
 ghost use Prim.Native.Nat.{_<_};
 ghost use Rattle.codec.specs.Parts.{only};
-ghost use Rattle.grammar.specs.SiteSheet.{rangeType, rowOf, entriesOf, rangeRefusal, ssType, digitOf, digitRefusal, serviceOf, serviceRefusal, kindRefusal, resultRefusal};
+ghost use Rattle.grammar.specs.SiteSheet.{rangeType, rowOf, entriesOf, rangeRefusal, ssType, digitOf, digitRefusal, serviceOf, serviceRefusal, kindRefusal, resultRefusal, between};
+ghost use Rattle.grammar.specs.Grammar.{endsRefusal};
+
+use crate::record::Identity;
 
 // The SS type of BOC: a stand-in until EN 300 392-9 is supplied.
 const SS_TYPE: u32 = 18;
@@ -231,4 +234,33 @@ pub fn result_refusal(code: u32) -> u32
         5 => 3,
         _ => 0,
     }
+}
+
+// The refusal number of a value that is to be from low to high.
+pub fn between_refusal(low: u32, high: u32, v: u32) -> u32
+    ensures { λ r. ⌜ r ≡ between low high v ⌝ }
+{
+    if v < low {
+        return 3;
+    }
+    if high < v {
+        return 3;
+    }
+    0
+}
+
+// The refusal number of the two ends of a range, 0 for none.
+pub fn ends_refusal(first: Identity, last: Identity) -> u32
+    ensures { λ r. ⌜ r ≡ endsRefusal first last ⌝ }
+{
+    if first.present != last.present {
+        return 4;
+    }
+    if first.extension != last.extension {
+        return 4;
+    }
+    if last.ssi < first.ssi {
+        return 4;
+    }
+    0
 }

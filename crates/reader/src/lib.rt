@@ -37,19 +37,7 @@ fn bounded(s: &[u8], n: BitCount, start: Reached, width: usize, low: u32, high: 
     ensures { λ r. ⌜ r ≡ reading.numberIs (from start (readAt (element width (between low high)) (bitsIn (n .0) (now (s .entry))))) ⌝ }
 {
     let read = codec::number(s, n, start, width);
-    codec::tested(start, read, outside(low, high, read.value))
-}
-
-fn outside(low: u32, high: u32, v: u32) -> u32
-    ensures { λ r. ⌜ r ≡ between low high v ⌝ }
-{
-    if v < low {
-        return 3;
-    }
-    if high < v {
-        return 3;
-    }
-    0
+    codec::tested(start, read, site::between_refusal(low, high, read.value))
 }
 
 fn extension_of(s: &[u8], n: BitCount, start: Reached, present: u32) -> NumberRead
@@ -143,22 +131,6 @@ fn entries_of(s: &[u8], n: BitCount, start: Reached, count: u32) -> EntriesRead
     }
 }
 
-// The refusal number of the two ends of a range, 0 for none.
-pub fn ends_refusal(first: Identity, last: Identity) -> u32
-    ensures { λ r. ⌜ r ≡ endsRefusal first last ⌝ }
-{
-    if first.present != last.present {
-        return 4;
-    }
-    if first.extension != last.extension {
-        return 4;
-    }
-    if last.ssi < first.ssi {
-        return 4;
-    }
-    0
-}
-
 // The bits of an identity.
 fn width_of(e: Identity) -> usize
     ensures { λ r. ⌜ r ≡ length (identity .print e) ⌝ }
@@ -198,7 +170,7 @@ fn checked_ends(start: Reached, read: EntriesRead, code: u32) -> EntriesRead
     let held = read.value;
     let first = held[0];
     let last = held[1];
-    if ends_refusal(first, last) == 0 {
+    if site::ends_refusal(first, last) == 0 {
         return read;
     }
     let second = c.at + width_of(first);

@@ -10,7 +10,7 @@ use Rattle.reader.proofs.bounded.Tie as tie
 returns : tie.Need-returns
 returns c =
     let d = c .before .before in
-    c .tested .ensures ∙ tested-element _ _ _ _ (d .number .ensures ∙ ap numberIs (number-at _ _ _ _ (omega arith) (omega arith))) (c .before .outside .ensures)
+    c .tested .ensures ∙ tested-element _ _ _ _ (d .number .ensures ∙ ap numberIs (number-at _ _ _ _ (omega arith) (omega arith))) (c .before .between-refusal .ensures)
 
 pub bounded-spec : {M : Type 1} → statement M
 bounded-spec = tie.close (tie.spec (λ c κs. search needs) (λ c κs. search needs) (λ c κs. search needs) returns)

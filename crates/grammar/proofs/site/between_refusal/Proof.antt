@@ -5,8 +5,8 @@ use Prim.Native.Nat.{ℕ}
 use borrow.Author.Tests.{le-leb, lt-leb}
 use lib.Dec.{leb}
 use Rattle.bits.specs.Bits.{pick}
-use Rattle.reader.proofs.outside.Statement.{statement}
-use Rattle.reader.proofs.outside.Tie as tie
+use Rattle.grammar.proofs.site.between_refusal.Statement.{statement}
+use Rattle.grammar.proofs.site.between_refusal.Tie as tie
 
 returns : tie.Need-returns
 returns c = rw (lt-leb (c .before .args .low) (c .before .args .v) (c .if1 .taken))
@@ -21,5 +21,5 @@ returns-3 c =
     let a = c .before .before .args in
     rw (le-leb (a .low) (a .v) (c .before .if1 .left), le-leb (a .v) (a .high) (c .if2 .left))
 
-pub outside-spec : {M : Type 1} → statement M
-outside-spec = tie.close (tie.spec returns returns-2 returns-3)
+pub between-refusal-spec : {M : Type 1} → statement M
+between-refusal-spec = tie.close (tie.spec returns returns-2 returns-3)

@@ -1,9 +1,9 @@
 -- The first test that fails decides. Assumes nothing.
 use mathlib.Core.Bool.{and-false}
 use borrow.Author.Tests.{eq-eqb, ne-eqb, le-leb, lt-leb}
 use Rattle.grammar.specs.Grammar.{endsRefusal}
-use Rattle.reader.proofs.ends_refusal.Statement.{statement}
-use Rattle.reader.proofs.ends_refusal.Tie as tie
+use Rattle.grammar.proofs.site.ends_refusal.Statement.{statement}
+use Rattle.grammar.proofs.site.ends_refusal.Tie as tie
 
 returns : tie.Need-returns
 unfolding endsRefusal

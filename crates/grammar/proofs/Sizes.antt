@@ -1,0 +1,195 @@
+-- How long a part of a PDU can be: the sum of what its elements can be. Assumes nothing.
+use mathlib.Core.Path.{_≡_}
+use mathlib.Core.Bool.{Bool, true, false}
+use mathlib.Core.List.{List, [], _∷_, _++_}
+use Prim.Native.Nat.{ℕ, zero, suc, _+_, _*_, _≤_}
+use native.Mathlib.Nat.{suc-mul}
+use native.Mathlib.Omega.{arith}
+use lib.ListN.{length, length-append}
+use lib.Dec.{eqb}
+use Rattle.bits.specs.Bits.{pick, bitsOf}
+use Rattle.bits.proofs.Numbers.{length-bitsOf}
+use Rattle.codec.specs.Codec.{Codec}
+use Rattle.codec.specs.Parts.{number, absent, element, seq, tested, shaped, mark, only}
+use Rattle.codec.specs.Places.{nil, cons, places}
+use Rattle.grammar.specs.SiteSheet.{ssType, entriesOf, rangeRefusal, digitRefusal, serviceRefusal, kindRefusal, resultRefusal, askedRefusal, countRefusal, lengthRefusal}
+use Rattle.grammar.specs.Grammar.{extension, identity, noIdentity, rangeEnds, secondEnd, identities, noIdentities, external, noExternal, externals, noExternals, services, noServices, identityPart, numberPart, noPart, partOf, interrogate, interrogateAck, restOf, fromRecord, pdu}
+use Rattle.grammar.specs.declared.site.Listing.{Listing}
+use Rattle.grammar.specs.declared.site.Listing.the-variants as of
+use Rattle.grammar.specs.declared.record.Identities.{Identities}
+use Rattle.grammar.specs.declared.record.Numbers.{Numbers}
+use Rattle.grammar.specs.declared.record.Record.{Record}
+
+-- no writing of the part is longer than n bits
+pub record Within {A : Type 0} (n : ℕ) (c : Codec A) : Type 0 where
+  pub size : (a : A) → length (c .print a) ≤ n
+
+-- ---- the ways to build a part
+
+size-number : (w : ℕ) → Within w (number w)
+unfolding number
+size-number w = record { size = λ v. omega (arith, length-bitsOf w v) }
+
+pub size-absent : Within 0 absent
+unfolding absent
+size-absent = record { size = λ v. omega arith }
+
+pub size-more : {A : Type 0} {c : Codec A} {m n : ℕ} → Within m c → m ≤ n → Within n c
+size-more {c} h l = record { size = λ a. omega (arith, h .size a) }
+
+size-seq : {A B : Type 0} {c : Codec A} {d : A → Codec B} {m n : ℕ} → Within m c → ((a : A) → Within n (d a)) → Within (m + n) (seq c d)
+unfolding seq
+size-seq {c} {d} h k =
+    record { size = λ p. omega (arith, h .size (p .0), k (p .0) .size (p .1), length-append (c .print (p .0)) (d (p .0) .print (p .1))) }
+
+size-tested : {A : Type 0} (c : Codec A) (refuse into : A → ℕ) {m : ℕ} → Within m c → Within m (tested c refuse into)
+unfolding tested
+size-tested c refuse into h = record { size = h .size }
+
+pub size-element : (w : ℕ) (refuse : ℕ → ℕ) → Within w (element w refuse)
+unfolding element
+size-element w refuse = size-tested (number w) refuse (λ v. 0) (size-number w)
+
+size-shaped : {A B : Type 0} (c : Codec A) (to : A → B) (from : B → A) (there : (a : A) → c .clean a ≡ true → c .fault a ≡ 0 → from (to a) ≡ a)
+    (back : (b : B) → to (from b) ≡ b) {m : ℕ} → Within m c → Within m (shaped c to from there back)
+unfolding shaped
+size-shaped c to from there back h = record { size = λ b. h .size (from b) }
+
+pub size-pick : {A : Type 0} (t : Bool) {c d : Codec A} {n : ℕ} → Within n c → Within n d → Within n (pick t c d)
+size-pick true h k = h
+size-pick false h k = k
+
+size-cons : {A : Type 0} (c : Codec A) (d : Codec (List A)) (k n : ℕ) → Within k c → Within n d → Within (k + n) (cons c d)
+unfolding cons
+size-cons c d k n h hd = record { size = λ l. elim l [ [] ↦ omega arith | a ∷ t ↦ omega (arith, h .size a, hd .size t, length-append (c .print a) (d .print t)) ] }
+
+pub size-places : {A : Type 0} (c z : Codec A) (k : ℕ) → Within k c → Within k z → (m n : ℕ) → Within (m * k) (places c z m n)
+unfolding places nil
+size-places c z k h hz zero n = record { size = λ l. omega arith }
+size-places c z k h hz (suc m) zero = size-more (size-cons z (places c z m zero) k (m * k) hz (size-places c z k h hz m zero)) (omega (arith, suc-mul m k))
+size-places c z k h hz (suc m) (suc n) = size-more (size-cons c (places c z m n) k (m * k) h (size-places c z k h hz m n)) (omega (arith, suc-mul m k))
+
+-- ---- the parts
+
+size-extension : (present : ℕ) → Within 24 (extension present)
+unfolding extension
+size-extension present = size-pick (eqb present 1) (size-number 24) (size-more size-absent (omega arith))
+
+pub size-identity : Within 49 identity
+unfolding identity
+size-identity = size-shaped _ _ _ _ _ (size-seq (size-number 24) (λ a. size-seq (size-number 1) size-extension))
+
+pub size-noIdentity : Within 0 noIdentity
+unfolding noIdentity
+size-noIdentity = size-shaped _ _ _ _ _ (size-seq size-absent (λ a. size-seq size-absent (λ b. size-absent)))
+
+-- a place, used or not
+pub size-identity-place : (used : Bool) → Within 49 (pick used identity noIdentity)
+size-identity-place used = size-pick used size-identity (size-more size-noIdentity (omega arith))
+
+size-identity-places : (n : ℕ) → Within 392 (places identity noIdentity 8 n)
+size-identity-places n = size-places identity noIdentity 49 size-identity (size-more size-noIdentity (omega arith)) 8 n
+
+pub size-identities : (listing : Listing) → Within 396 (identities listing)
+unfolding identities
+size-identities listing =
+    size-shaped _ _ _ _ _ (size-seq (size-element 4 (rangeRefusal listing)) (λ code. size-tested _ _ _ (size-identity-places (entriesOf code))))
+
+pub size-noIdentities : Within 0 noIdentities
+unfolding noIdentities
+size-noIdentities = size-shaped _ _ _ _ _ (size-seq size-absent (λ a. size-places noIdentity noIdentity 0 size-noIdentity size-noIdentity 8 0))
+
+pub size-digit-place : (used : Bool) → Within 4 (pick used (element 4 digitRefusal) absent)
+size-digit-place used = size-pick used (size-element 4 digitRefusal) (size-more size-absent (omega arith))
+
+size-external : Within 101 external
+unfolding external
+size-external =
+    size-shaped _ _ _ _ _ (size-seq (size-element 5 lengthRefusal) (λ count.
+    size-places (element 4 digitRefusal) absent 4 (size-element 4 digitRefusal) (size-more size-absent (omega arith)) 24 count))
+
+pub size-noExternal : Within 0 noExternal
+unfolding noExternal
+size-noExternal = size-shaped _ _ _ _ _ (size-seq size-absent (λ a. size-places absent absent 0 size-absent size-absent 24 0))
+
+pub size-external-place : (used : Bool) → Within 101 (pick used external noExternal)
+size-external-place used = size-pick used size-external (size-more size-noExternal (omega arith))
+
+pub size-externals : Within 812 externals
+unfolding externals
+size-externals =
+    size-shaped _ _ _ _ _ (size-seq (size-element 4 (rangeRefusal of.Numbers)) (λ code.
+    size-places external noExternal 101 size-external (size-more size-noExternal (omega arith)) 8 (entriesOf code)))
+
+pub size-noExternals : Within 0 noExternals
+unfolding noExternals
+size-noExternals = size-shaped _ _ _ _ _ (size-seq size-absent (λ a. size-places noExternal noExternal 0 size-noExternal size-noExternal 8 0))
+
+pub size-service-place : (used : Bool) → Within 3 (pick used (element 3 serviceRefusal) absent)
+size-service-place used = size-pick used (size-element 3 serviceRefusal) (size-more size-absent (omega arith))
+
+pub size-services : Within 24 services
+unfolding services
+size-services =
+    size-shaped _ _ _ _ _ (size-seq (size-element 3 countRefusal) (λ n.
+    size-places (element 3 serviceRefusal) absent 3 (size-element 3 serviceRefusal) (size-more size-absent (omega arith)) 7 n))
+
+pub size-noServices : Within 0 noServices
+unfolding noServices
+size-noServices = size-shaped _ _ _ _ _ (size-seq size-absent (λ a. size-places absent absent 0 size-absent size-absent 7 0))
+
+-- five lists
+size-lists : {a b c d e : ℕ} {g r x : Codec Identities} {n y : Codec Numbers}
+    → Within a g → Within b r → Within c x → Within d n → Within e y
+    → Within (a + (b + (c + (d + e)))) (seq g (λ p. seq r (λ q. seq x (λ s. seq n (λ t. y)))))
+size-lists h i j k l = size-seq h (λ p. size-seq i (λ q. size-seq j (λ s. size-seq k (λ t. l))))
+
+size-noPart : Within 0 noPart
+unfolding noPart
+size-noPart = size-shaped _ _ _ _ _ (size-lists size-noIdentities size-noIdentities size-noIdentities size-noExternals size-noExternals)
+
+pub size-part : (result : ℕ) → Within 2020 (partOf result)
+unfolding identityPart numberPart
+size-part result =
+    size-pick (eqb result 1)
+    (size-shaped _ _ _ _ _ (size-more (size-lists (size-identities of.Identities) (size-identities of.Identities) (size-identities of.Identities) size-noExternals size-noExternals) (omega arith)))
+    (size-pick (eqb result 2)
+    (size-shaped _ _ _ _ _ (size-lists (size-identities of.Identities) size-noIdentities size-noIdentities size-externals size-externals))
+    (size-more size-noPart (omega arith)))
+
+size-interrogate : Within 2 interrogate
+unfolding interrogate
+size-interrogate =
+    size-seq (size-element 2 askedRefusal) (λ a. size-seq size-absent (λ b. size-seq size-absent (λ c. size-seq size-noServices (λ d. size-noPart))))
+
+size-ack : Within 2049 interrogateAck
+unfolding interrogateAck
+size-ack =
+    size-seq size-absent (λ a. size-seq (size-element 3 resultRefusal) (λ result. size-seq (size-number 2) (λ c. size-seq size-services (λ d. size-part result))))
+
+-- SS type, PDU type and affected users are at most 407 bits
+size-pdu : (r : Record) (n : ℕ) → Within n (restOf (r .kind)) → length (pdu .print r) ≤ 407 + n
+unfolding pdu mark shaped seq
+size-pdu r n h =
+    let users = (identities of.Users) .print (r .affected) in
+    let rest = (restOf (r .kind)) .print (fromRecord r .1 .1) in
+    let kind = (element 5 kindRefusal) .print (r .kind) in
+    let ss = (element 6 (only ssType)) .print ssType in
+    omega (
+      arith,
+      length-append ss (kind ++ (users ++ rest)),
+      length-append kind (users ++ rest),
+      length-append users rest,
+      size-element 6 (only ssType) .size ssType,
+      size-element 5 kindRefusal .size (r .kind),
+      size-identities of.Users .size (r .affected),
+      h .size (fromRecord r .1 .1),
+    )
+
+-- An INTERROGATE is at most 409 bits.
+pub interrogate-size : (r : Record) → r .kind ≡ 11 → length (pdu .print r) ≤ 409
+interrogate-size r e = size-pdu r 2 (rw e size-interrogate)
+
+-- An INTERROGATE ACK is at most 2,456 bits, and no PDU is longer.
+pub pdu-size : (r : Record) → length (pdu .print r) ≤ 2456
+pdu-size r = size-pdu r 2049 (size-pick (eqb (r .kind) 11) (size-more size-interrogate (omega arith)) size-ack)
