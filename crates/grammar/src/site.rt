@@ -4,7 +4,6 @@ ghost use Prim.Native.Nat.{_<_};
 ghost use Rattle.codec.specs.Parts.{only};
 ghost use Rattle.grammar.specs.SiteSheet.{rangeType, rowOf, entriesOf, rangeRefusal, ssType, digitOf, digitRefusal, serviceOf, serviceRefusal, kindRefusal, resultRefusal, between};
 ghost use Rattle.grammar.specs.Grammar.{endsRefusal};
-
 use crate::record::Identity;
 
 // The SS type of BOC: a stand-in until EN 300 392-9 is supplied.
