@@ -7,13 +7,13 @@ use native.Mathlib.Nat.{suc-mul}
 use native.Mathlib.Omega.{arith}
 use lib.ListN.{length, length-append}
 use lib.Dec.{eqb}
-use Rattle.bits.specs.Bits.{pick, bitsOf}
+use Rattle.bits.specs.Bits.{pick}
 use Rattle.bits.proofs.Numbers.{length-bitsOf}
 use Rattle.codec.specs.Codec.{Codec}
 use Rattle.codec.specs.Parts.{number, absent, element, seq, tested, shaped, mark, only}
 use Rattle.codec.specs.Places.{nil, cons, places}
 use Rattle.grammar.specs.SiteSheet.{ssType, entriesOf, rangeRefusal, digitRefusal, serviceRefusal, kindRefusal, resultRefusal, askedRefusal, countRefusal, lengthRefusal}
-use Rattle.grammar.specs.Grammar.{extension, identity, noIdentity, rangeEnds, secondEnd, identities, noIdentities, external, noExternal, externals, noExternals, services, noServices, identityPart, numberPart, noPart, partOf, interrogate, interrogateAck, restOf, fromRecord, pdu}
+use Rattle.grammar.specs.Grammar.{extension, identity, noIdentity, identities, noIdentities, external, noExternal, externals, noExternals, services, noServices, identityPart, numberPart, noPart, partOf, interrogate, interrogateAck, restOf, fromRecord, pdu}
 use Rattle.grammar.specs.declared.site.Listing.{Listing}
 use Rattle.grammar.specs.declared.site.Listing.the-variants as of
 use Rattle.grammar.specs.declared.record.Identities.{Identities}
@@ -37,7 +37,7 @@ size-absent = record { size = λ v. omega arith }
 pub size-more : {A : Type 0} {c : Codec A} {m n : ℕ} → Within m c → m ≤ n → Within n c
 size-more {c} h l = record { size = λ a. omega (arith, h .size a) }
 
-size-seq : {A B : Type 0} {c : Codec A} {d : A → Codec B} {m n : ℕ} → Within m c → ((a : A) → Within n (d a)) → Within (m + n) (seq c d)
+pub size-seq : {A B : Type 0} {c : Codec A} {d : A → Codec B} {m n : ℕ} → Within m c → ((a : A) → Within n (d a)) → Within (m + n) (seq c d)
 unfolding seq
 size-seq {c} {d} h k =
     record { size = λ p. omega (arith, h .size (p .0), k (p .0) .size (p .1), length-append (c .print (p .0)) (d (p .0) .print (p .1))) }
@@ -55,7 +55,7 @@ size-shaped : {A B : Type 0} (c : Codec A) (to : A → B) (from : B → A) (ther
 unfolding shaped
 size-shaped c to from there back h = record { size = λ b. h .size (from b) }
 
-pub size-pick : {A : Type 0} (t : Bool) {c d : Codec A} {n : ℕ} → Within n c → Within n d → Within n (pick t c d)
+size-pick : {A : Type 0} (t : Bool) {c d : Codec A} {n : ℕ} → Within n c → Within n d → Within n (pick t c d)
 size-pick true h k = h
 size-pick false h k = k
 
@@ -75,7 +75,7 @@ size-extension : (present : ℕ) → Within 24 (extension present)
 unfolding extension
 size-extension present = size-pick (eqb present 1) (size-number 24) (size-more size-absent (omega arith))
 
-pub size-identity : Within 49 identity
+size-identity : Within 49 identity
 unfolding identity
 size-identity = size-shaped _ _ _ _ _ (size-seq (size-number 24) (λ a. size-seq (size-number 1) size-extension))
 
@@ -144,11 +144,11 @@ size-lists : {a b c d e : ℕ} {g r x : Codec Identities} {n y : Codec Numbers}
     → Within (a + (b + (c + (d + e)))) (seq g (λ p. seq r (λ q. seq x (λ s. seq n (λ t. y)))))
 size-lists h i j k l = size-seq h (λ p. size-seq i (λ q. size-seq j (λ s. size-seq k (λ t. l))))
 
-size-noPart : Within 0 noPart
+pub size-noPart : Within 0 noPart
 unfolding noPart
 size-noPart = size-shaped _ _ _ _ _ (size-lists size-noIdentities size-noIdentities size-noIdentities size-noExternals size-noExternals)
 
-pub size-part : (result : ℕ) → Within 2020 (partOf result)
+size-part : (result : ℕ) → Within 2020 (partOf result)
 unfolding identityPart numberPart
 size-part result =
     size-pick (eqb result 1)

@@ -7,7 +7,7 @@ ghost use Rattle.grammar.specs.Grammar.{endsRefusal};
 use crate::record::Identity;
 
 // The SS type of BOC: a stand-in until EN 300 392-9 is supplied.
-const SS_TYPE: u32 = 18;
+pub const SS_TYPE: u32 = 18;
 
 pub fn ss_refusal(code: u32) -> u32
     ensures { λ r. ⌜ r ≡ only ssType code ⌝ }

@@ -24,12 +24,12 @@ use Rattle.grammar.specs.Grammar.{pdu, identities, restOf, fromRecord}
 use Rattle.grammar.specs.declared.site.Listing.the-variants.{Users}
 use Rattle.grammar.specs.declared.record.Record.{Record}
 use Rattle.grammar.proofs.Sizes.{pdu-size}
-use Rattle.pdu.specs.Read.{refusing, answered, readIs}
-use Rattle.pdu.specs.Write.{recordRefusal, lengthOf, writeRefusal, written, writeIs, outIs}
-use Rattle.pdu.specs.declared.Answer.the-variants.{Accepted, Refused}
-use Rattle.pdu.specs.declared.Reading.{Reading}
-use Rattle.pdu.specs.declared.Written.{Written}
-use Rattle.pdu.specs.declared.Written.the-variants.{Bits}
+use Rattle.reader.specs.Read.{refusing, answered, readIs}
+use Rattle.writer.specs.Write.{recordRefusal, lengthOf, writeRefusal, written, writeIs, outIs}
+use Rattle.reader.specs.declared.Answer.the-variants.{Accepted, Refused}
+use Rattle.reader.specs.declared.Reading.{Reading}
+use Rattle.writer.specs.declared.Written.{Written}
+use Rattle.writer.specs.declared.Written.the-variants.{Bits}
 
 -- a PDU that is accepted with a record
 abbrev pub accepting : Record → Reading

@@ -1,6 +1,7 @@
 // Reading the parts of a PDU, left to right. Each reader goes on from where the one before it stands and passes its refusal on;
 // beside a refusal its value is zero.
 use bits::BitCount;
+use bits::Cursor;
 use bits::DigitCount;
 use codec::NumberRead;
 use codec::Reached;
@@ -24,6 +25,7 @@ ghost use Rattle.codec.specs.Reading as reading;
 ghost use Rattle.grammar.specs.SiteSheet.{ssType, rangeRefusal, digitRefusal, serviceRefusal, kindRefusal, resultRefusal, between};
 ghost use Rattle.grammar.specs.Grammar.{extension, identity, noIdentity, zeroIdentity, endsRefusal, rangeEnds, secondEnd, identities, external, noExternal, externals, services, identityPart, numberPart, partOf, interrogate, interrogateAck, pdu};
 ghost use Rattle.grammar.specs.Zero.{zeroIdentities, zeroNumbers, zeroServices, zeroLists, zeroRecord};
+ghost use Rattle.reader.specs.Read.{refusing, readIs};
 ghost use Rattle.reader.specs.Reader.{recordAt, identityIs, entriesIs, EndsFit, endsIs, identitiesIs, digitsIs, numberIs, numberEntriesIs, numbersIs, serviceListIs, servicesIs, listsIs, recordIs};
 
 pub struct IdentityRead {
@@ -733,4 +735,50 @@ pub fn record_of(s: &[u8], n: BitCount, start: Reached) -> RecordRead
         return interrogate_of(s, n, after_users, kind.value, affected);
     }
     interrogate_ack_of(s, n, after_users, kind.value, affected)
+}
+
+// Whether a PDU is accepted, or the number with which it is refused.
+pub enum Answer {
+    Accepted,
+    Refused(u32),
+}
+
+// The answer, and the record of an accepted PDU. Beside a refusal all of it is zero.
+pub struct Reading {
+    pub answer: Answer,
+    pub found: Record,
+}
+
+// Reads the PDU of n bits in s: refusal 1 first, then element by element, 5 last.
+pub fn read(s: &[u8], n: BitCount) -> Reading
+    ensures { λ r. ⌜ r ≡ readIs (now (s .entry)) (n .0) ⌝ }
+{
+    if !bits::is_framed(s, n) {
+        return refused(1);
+    }
+    let read = record_of(s, n, Reached::At(Cursor { at: 0 }));
+    let end = read.reached;
+    match end {
+        Reached::Refused(number, _) => refused(number),
+        Reached::At(c) => {
+            if c.at < n.0 {
+                return refused(5);
+            }
+            let found = read.value;
+            Reading {
+                answer: Answer::Accepted,
+                found,
+            }
+        }
+    }
+}
+
+fn refused(number: u32) -> Reading
+    ensures { λ r. ⌜ r ≡ refusing number ⌝ }
+{
+    let found = no_record();
+    Reading {
+        answer: Answer::Refused(number),
+        found,
+    }
 }

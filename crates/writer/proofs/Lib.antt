@@ -1,0 +1,7 @@
+pub mod Faults
+pub mod Fills
+pub mod Puts
+pub mod PutsPlaces
+pub mod Writes
+pub mod Writing
+pub mod WritingPlaces

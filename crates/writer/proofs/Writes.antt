@@ -1,0 +1,54 @@
+-- Writing by cases: which refusal is given, and when there is none. Assumes nothing.
+use mathlib.Core.Path.{_≡_, refl}
+use mathlib.Core.Bool.{Bool, true, false}
+use Prim.Native.Nat.{ℕ, zero, suc, _≤_}
+use native.Mathlib.Omega.{arith}
+use borrow.Author.Tests.{leb-true}
+use lib.Dec.{leb}
+use Rattle.bits.specs.Bits.{pick}
+use Rattle.bits.specs.Frame.{bytesFor}
+use Rattle.bits.specs.declared.BitCount.{BitCount}
+use Rattle.codec.specs.Codec.{first}
+use Rattle.codec.specs.Parts.{isZero, first-none}
+use Rattle.grammar.specs.SiteSheet.{kindRefusal}
+use Rattle.grammar.specs.Grammar.{pdu}
+use Rattle.writer.specs.Write.{recordRefusal, lengthOf, writeRefusal, written}
+use Rattle.grammar.specs.declared.record.Record.{Record}
+use Rattle.writer.specs.declared.Written.the-variants.{Bits, Refused}
+use Rattle.writer.proofs.Writing.{and-false, not-zero}
+
+module _ (r : Record) (room : ℕ) where
+  pub other-kind : (kindRefusal (r .kind) ≡ 0 → ⊥) → writeRefusal r room ≡ 3
+  unfolding writeRefusal recordRefusal
+  other-kind h = rw (not-zero (kindRefusal (r .kind)) h)
+
+  pub not-clean : pdu .clean r ≡ false → writeRefusal r room ≡ 3
+  unfolding writeRefusal recordRefusal
+  not-clean e = rw (e, and-false (isZero (kindRefusal (r .kind))))
+
+  pub then-fault : kindRefusal (r .kind) ≡ 0 → pdu .clean r ≡ true → writeRefusal r room ≡ first (pdu .fault r) (pick (leb (bytesFor (lengthOf r)) room) 0 8)
+  unfolding writeRefusal recordRefusal
+  then-fault kind clean = rw (kind, clean)
+
+  -- what is not refused has room
+  pub has-room : writeRefusal r room ≡ 0 → bytesFor (lengthOf r) ≤ room
+  unfolding writeRefusal
+  has-room e = go (leb (bytesFor (lengthOf r)) room) refl (first-none (recordRefusal r) _ e .1)
+    where
+      go : (t : Bool) → leb (bytesFor (lengthOf r)) room ≡ t → pick {A = ℕ} t 0 8 ≡ 0 → bytesFor (lengthOf r) ≤ room
+      go true e h = leb-true (bytesFor (lengthOf r)) room e
+      go false e h = absurd (omega arith)
+
+-- ---- the answer of a refusal number
+
+pub written-some : (bits n : ℕ) → (n ≡ 0 → ⊥) → written bits n ≡ Refused n
+written-some bits zero h = absurd (h refl)
+written-some bits (suc n) h = refl
+
+pub refused-some : (bits n : ℕ) {k : ℕ} → written bits n ≡ Refused k → isZero n ≡ false
+refused-some bits zero e = absurd (let z : _≡_ {A = ℕ} 0 1 = cc in omega arith)
+refused-some bits (suc n) e = refl
+
+pub bits-none : (bits n : ℕ) {k : BitCount} → written bits n ≡ Bits k → n ≡ 0
+bits-none bits zero e = refl
+bits-none bits (suc n) e = absurd (let z : _≡_ {A = ℕ} 0 1 = cc in omega arith)

@@ -1,0 +1,66 @@
+-- Each way out is the definition's own case. Assumes nothing.
+use mathlib.Core.Path.{_≡_, sym, ap, ap₂, _∙_}
+use Prim.Native.Nat.{ℕ}
+use native.Mathlib.Nat.{zero-add}
+use borrow.Author.Needs.{needs}
+use borrow.Author.Tests.{not-true, not-false}
+use lib.Dec.{leb}
+use Rattle.bits.specs.Bits.{pick}
+use Rattle.bits.specs.Frame.{bytesFor}
+use Rattle.codec.specs.Codec.{first}
+use Rattle.writer.specs.Write.{lengthOf, writeRefusal, written}
+use Rattle.writer.specs.declared.Written.the-variants.{Bits}
+use Rattle.writer.proofs.Writes.{other-kind, not-clean, then-fault, written-some}
+use Rattle.writer.proofs.checked.Statement.{statement}
+use Rattle.writer.proofs.checked.Tie as tie
+
+returns : tie.Need-returns
+returns c =
+    let a = c .before .before .args in
+    rw (other-kind (a .r) (a .room) (λ e. c .if1 .taken (c .before .kind-refusal .ensures ∙ e)))
+
+returns-2 : tie.Need-returns-2
+returns-2 c =
+    let t = c .before .before in
+    let a = t .before .before .before .args in
+    rw (not-clean (a .r) (a .room) (sym (t .tally-record .ensures .clean) ∙ not-true _ (c .if2 .taken)))
+
+size : (c : tie.After-tally-record) → c .tally-record .result .bits ≡ lengthOf (c .before .before .before .args .r)
+size c = c .tally-record .ensures .bits ∙ zero-add (lengthOf (c .before .before .before .args .r))
+
+-- the refusal number that is computed
+given : (c : tie.After-first-refusal) →
+    let a = c .before .before .before .before .before .before .before .args in
+    c .first-refusal .result ≡ writeRefusal (a .r) (a .room)
+given c =
+    let d = c .before .before in
+    let t = d .before .before in
+    let k = t .before in
+    let a = k .before .before .args in
+    c .first-refusal .ensures
+    ∙ ap₂ first (t .tally-record .ensures .refusal) (c .before .room-refusal .ensures ∙ ap (λ (n : ℕ). pick (leb (bytesFor n) (a .room)) 0 8) (size t))
+    ∙ sym (then-fault (a .r) (a .room) (sym (k .before .kind-refusal .ensures) ∙ k .if1 .left) (sym (t .tally-record .ensures .clean) ∙ not-false _ (d .if2 .left)))
+
+returns-3 : tie.Need-returns-3
+returns-3 c =
+    let t = c .before .before .before .before .before in
+    ap (λ (n : ℕ). Bits (record { 0 = n })) (size t)
+    ∙ sym (ap (written (lengthOf (t .before .before .before .args .r))) (sym (given (c .before)) ∙ c .if3 .taken))
+
+returns-4 : tie.Need-returns-4
+returns-4 c =
+    let a = c .before .before .before .before .before .before .before .before .args in
+    sym (written-some (lengthOf (a .r)) (c .before .first-refusal .result) (c .if3 .left)) ∙ ap (written (lengthOf (a .r))) (given (c .before))
+
+pub checked-spec : {M : Type 1} → statement M
+checked-spec =
+    tie.close
+    (tie.spec
+    (λ c κs. search needs)
+    returns
+    (λ c κs. search needs)
+    returns-2
+    (λ c κs. search needs)
+    (λ c κs. search needs)
+    returns-3
+    returns-4)
