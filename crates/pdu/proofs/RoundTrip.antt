@@ -63,6 +63,12 @@ pub record WritingOf (s : List ℕ) (n : ℕ) (r : Record) : Type 0 where
 pub accepted-framed : (s : List ℕ) (n : ℕ) (r : Record) → readIs s n ≡ accepting r → Framed s n
 accepted-framed s n r e = framed-says s n (framed-first s n r e)
 
+pub accepted-legal : (s : List ℕ) (n : ℕ) (r : Record) → readIs s n ≡ accepting r → Legal pdu r
+unfolding readIs
+accepted-legal s n r e =
+    let e′ : answered (wholeParse pdu (bitsIn n s)) ≡ accepting r = rw (framed-first s n r e) at e in
+    read-as (bitsIn n s) r (wholeParse pdu (bitsIn n s)) refl e′ .0
+
 pub accepted-writing : (s : List ℕ) (n : ℕ) (r : Record) → Bytes s → readIs s n ≡ accepting r → WritingOf s n r
 unfolding readIs
 accepted-writing s n r b e =
