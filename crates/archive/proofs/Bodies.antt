@@ -1,0 +1,107 @@
+-- What the rules say of a body and its entry, and that the numbers of such an entry fit their bytes. Assumes nothing.
+use mathlib.Core.Path.{_≡_, refl, sym, ap, subst}
+use mathlib.Core.Bool.{Bool, true, false, _&&_}
+use Prim.Native.Nat.{ℕ, _≤_, _<_}
+use native.Mathlib.Omega.{arith}
+use lib.ListN.{length}
+use lib.Dec.{leb, eqb}
+use borrow.Author.Tests.{leb-true}
+use Rattle.bits.specs.Bits.{pick}
+use Rattle.reader.specs.Read.{readIs}
+use Rattle.grammar.specs.declared.record.Identity.{Identity}
+use Rattle.grammar.specs.declared.record.Record.{Record}
+use Rattle.reader.specs.declared.Answer.{Answer}
+use Rattle.reader.specs.declared.Answer.the-variants.{Accepted, Refused}
+use Rattle.reader.specs.declared.Reading.{Reading}
+use Rattle.pdu.proofs.Accepted.{accepted-framed, accepted-small}
+use Rattle.archive.specs.Model.{Held, bodySize}
+use Rattle.archive.specs.Filing.{mayHold, networkOf, entryFor, filingOf, isAccepted, agrees, bodyAgrees}
+use Rattle.archive.specs.Seeking.{EntryFits}
+use Rattle.archive.specs.declared.contents.Entry.{Entry}
+use Rattle.archive.specs.declared.filing.Filing.{Filing}
+use Rattle.archive.specs.declared.filing.Filing.the-variants.{Under, Nowhere}
+use Rattle.archive.proofs.Tests.{differ, and-true, named, is-named}
+
+-- ---- a body and its entry
+
+-- what reading a body found decides
+module _ (home : ℕ) (h : Held) {r : Reading} (is : r ≡ readIs (h .body) (h .entry .bits .0)) where
+  pub body-refused : {k : ℕ} → r .answer ≡ Refused k → bodyAgrees home h ≡ false
+  unfolding bodyAgrees
+  body-refused e = rw (← is, e)
+
+  pub body-filed : {f : Filing} → r .answer ≡ Accepted → f ≡ filingOf home (r .found) (h .entry .bits .0) → bodyAgrees home h ≡ agrees f (h .entry)
+  unfolding bodyAgrees
+  body-filed e g = rw (← is, e, g)
+
+-- the body is a legal PDU that may be held, and its entry is the one that it is filed under
+pub record Agrees (home : ℕ) (h : Held) : Type 0 where
+  pub accepted : readIs (h .body) (h .entry .bits .0) .answer ≡ Accepted
+  pub may : mayHold (readIs (h .body) (h .entry .bits .0) .found) ≡ true
+  pub entry : h .entry ≡ entryFor home (readIs (h .body) (h .entry .bits .0) .found) (h .entry .bits .0)
+
+was-accepted : (a : Answer) → isAccepted a ≡ true → a ≡ Accepted
+was-accepted Accepted e = refl
+was-accepted (Refused k) e = differ (sym e)
+
+agreed : (home : ℕ) (r : Record) (n : ℕ) (e : Entry) (p : Bool) → mayHold r ≡ p
+    → agrees (pick p (Under (entryFor home r n)) Nowhere) e ≡ true → (mayHold r ≡ true) × (e .network ≡ entryFor home r n .network) × (e .ssi ≡ entryFor home r n .ssi) × (e .part ≡ r .result)
+agreed home r n e false m a = differ (sym a)
+agreed home r n e true m a =
+    let s = named (entryFor home r n) (e .network) (e .ssi) (e .part) a in
+    (m, sym (s .0), sym (s .1), sym (s .2))
+
+pub agrees-says : (home : ℕ) (h : Held) → bodyAgrees home h ≡ true → Agrees home h
+unfolding bodyAgrees filingOf
+agrees-says home h e =
+    let n = h .entry .bits .0 in
+    let r = readIs (h .body) n .found in
+    let p = and-true (isAccepted (readIs (h .body) n .answer)) (agrees (filingOf home r n) (h .entry)) e in
+    let q = agreed home r n (h .entry) (mayHold r) refl (p .1) in
+    record {
+      accepted = was-accepted (readIs (h .body) n .answer) (p .0);
+      may = q .0;
+      entry = λ i. record { network = q .1 i; ssi = q .2 i; part = q .3 i; bits = h .entry .bits };
+    }
+
+pub agrees-is : (home : ℕ) (h : Held) → Agrees home h → bodyAgrees home h ≡ true
+unfolding bodyAgrees filingOf
+agrees-is home h a =
+    let n = h .entry .bits .0 in
+    let x = h .entry in
+    let same = sym (a .entry) in
+    rw (a .accepted, a .may)
+    (is-named (entryFor home (readIs (h .body) n .found) n) (x .network) (x .ssi) (x .part)
+    (ap (λ (y : Entry). y .network) same) (ap (λ (y : Entry). y .ssi) same) (ap (λ (y : Entry). y .part) same))
+
+-- ---- numbers fit their bytes
+
+-- a PDU that may be held is of part 1 or 2
+pub part-is : (r : Record) → mayHold r ≡ true → (1 ≤ r .result) × (r .result ≤ 2)
+part-is r m =
+    let p = and-true (eqb (r .kind) 12) (leb 1 (r .result) && (leb (r .result) 2 && eqb (r .affected .code) 1)) m in
+    let q = and-true (leb 1 (r .result)) (leb (r .result) 2 && eqb (r .affected .code) 1) (p .1) in
+    let t = and-true (leb (r .result) 2) (eqb (r .affected .code) 1) (q .1) in
+    (leb-true 1 (r .result) (q .0), leb-true (r .result) 2 (t .0))
+
+pub record Fits (h : Held) : Type 0 where
+  pub entry : EntryFits (h .entry)
+  pub full : length (h .body) ≡ bodySize h
+
+network-small : (home : ℕ) (u : Identity) → home < 16777216 → u .extension < 16777216 → networkOf home u < 16777216
+unfolding networkOf
+network-small home u h k = go (eqb (u .present) 1)
+  where
+    go : (p : Bool) → pick p (u .extension) home < 16777216
+    go true = k
+    go false = h
+
+pub fits : (home : ℕ) (h : Held) → home < 16777216 → Agrees home h → Fits h
+fits home h k a =
+    let n = h .entry .bits .0 in
+    let r = readIs (h .body) n .found in
+    let f = accepted-framed (h .body) n (a .accepted) in
+    let s = accepted-small (h .body) n (a .accepted) in
+    let p = part-is r (a .may) in
+    let e : EntryFits (entryFor home r n) = record { network = network-small home _ k (s .1); ssi = s .0; part = omega (arith, p .1); bits = omega (arith, f .short) } in
+    record { entry = subst EntryFits (sym (a .entry)) e; full = f .count }

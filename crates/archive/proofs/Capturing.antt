@@ -1,0 +1,95 @@
+-- What capture answers, case by case, and that what it files keeps the rules. Assumes nothing.
+use mathlib.Core.Path.{_≡_, refl, ap, sym}
+use mathlib.Core.Bool.{Bool, true, false, _&&_}
+use mathlib.Core.List.{List}
+use Prim.Native.Nat.{ℕ, _<_, _≤_}
+use native.Mathlib.Omega.{arith}
+use lib.ListN.{length}
+use Rattle.bits.specs.Bits.{pick}
+use Rattle.reader.specs.Read.{readIs}
+use Rattle.grammar.specs.declared.record.Record.{Record}
+use Rattle.reader.specs.declared.Answer.the-variants as reader
+use Rattle.archive.specs.Model.{bytesOf, Archive, lengthOf, withinLimits}
+use Rattle.archive.specs.Filing.{mayHold, entryFor, filingOf}
+use Rattle.archive.specs.Reading.{homeOf, reading, isArchive}
+use Rattle.archive.specs.Keeping.{leaves, heldFor, captured, placed, captureIs, captureOut}
+use Rattle.archive.specs.declared.Archived.{Archived}
+use Rattle.archive.specs.declared.Archived.the-variants.{Bytes, Refused}
+use Rattle.archive.specs.declared.contents.Entry.{Entry}
+use Rattle.archive.specs.declared.filing.Filing.the-variants.{Under, Nowhere}
+use Rattle.archive.proofs.Bodies.{Agrees}
+use Rattle.archive.proofs.Tests.{and-false, and-both}
+use Rattle.archive.proofs.Walks.{home-is, sound}
+use lib.Dec.{leb}
+use borrow.Author.Tests.{le-leb, lt-leb}
+
+-- the home network of an archive
+pub home-read : (b : List ℕ) → isArchive b ≡ true → homeOf b ≡ reading b .home
+unfolding reading
+home-read b ok = home-is b (omega (arith, sound b ok .whole))
+
+pub home-fits : (b : List ℕ) → isArchive b ≡ true → reading b .home < 16777216
+unfolding reading
+home-fits b ok = sound b ok .home
+
+-- ---- filing
+
+pub filed-nowhere : (home : ℕ) (r : Record) (n : ℕ) → filingOf home r n ≡ Nowhere → mayHold r ≡ false
+unfolding filingOf
+filed-nowhere home r n = go (mayHold r) refl
+  where
+    go : (p : Bool) → mayHold r ≡ p → pick p (Under (entryFor home r n)) Nowhere ≡ Nowhere → mayHold r ≡ false
+    go true e f = absurd (let z : _≡_ {A = ℕ} 0 1 = cc in omega arith)
+    go false e f = e
+
+pub filed-under : (home : ℕ) (r : Record) (n : ℕ) {e : Entry} → filingOf home r n ≡ Under e → (mayHold r ≡ true) × (entryFor home r n ≡ e)
+unfolding filingOf
+filed-under home r n = go (mayHold r) refl
+  where
+    go : (p : Bool) → mayHold r ≡ p → {e : Entry} → pick p (Under (entryFor home r n)) Nowhere ≡ Under e → (mayHold r ≡ true) × (entryFor home r n ≡ e)
+    go true e f = (e, cc)
+    go false e f = absurd (let z : _≡_ {A = ℕ} 0 1 = cc in omega arith)
+
+-- a PDU that is filed agrees with its entry
+pub offered-agrees : (home : ℕ) (s : List ℕ) (n : ℕ) → readIs s n .answer ≡ reader.Accepted → mayHold (readIs s n .found) ≡ true → Agrees home (heldFor home s n)
+offered-agrees home s n a m = record { accepted = a; may = m; entry = refl }
+
+-- ---- the answer
+
+module _ (b s : List ℕ) (n room : ℕ) where
+  pub no-archive : isArchive b ≡ false → captureIs b s n room ≡ Refused 7
+  unfolding captureIs
+  no-archive e = rw e
+
+  pub pdu-refused : {k : ℕ} → isArchive b ≡ true → readIs s n .answer ≡ reader.Refused k → captureIs b s n room ≡ Refused k
+  unfolding captureIs
+  pdu-refused e f = rw (e, f)
+
+  pub may-not : isArchive b ≡ true → readIs s n .answer ≡ reader.Accepted → mayHold (readIs s n .found) ≡ false → captureIs b s n room ≡ Refused 6
+  unfolding captureIs
+  may-not e f g = rw (e, f, g)
+
+  pub as-placed : isArchive b ≡ true → readIs s n .answer ≡ reader.Accepted → mayHold (readIs s n .found) ≡ true → captureIs b s n room ≡ placed (captured b s n) room
+  unfolding captureIs
+  as-placed e f g = rw (e, f, g)
+
+-- ---- what placing answers
+
+module _ (a : Archive) (room : ℕ) where
+  pub placed-over : withinLimits (length (a .held)) (lengthOf a) ≡ false → Refused 8 ≡ placed a room
+  unfolding placed
+  placed-over e = sym (ap (λ (p : Bool). pick (p && leb (lengthOf a) room) (Bytes (lengthOf a)) (Refused 8)) e)
+
+  pub placed-short : room < lengthOf a → Refused 8 ≡ placed a room
+  unfolding placed
+  placed-short h =
+      sym (ap (λ (p : Bool). pick p (Bytes (lengthOf a)) (Refused 8)) (and-false (withinLimits (length (a .held)) (lengthOf a)) (lt-leb (lengthOf a) room h)))
+
+  pub placed-whole : withinLimits (length (a .held)) (lengthOf a) ≡ true → lengthOf a ≤ room → Bytes (lengthOf a) ≡ placed a room
+  unfolding placed
+  placed-whole e h = sym (ap (λ (p : Bool). pick p (Bytes (lengthOf a)) (Refused 8)) (and-both e (le-leb (lengthOf a) room h)))
+
+-- what is left in the lent buffer goes by the answer
+pub capture-leaves : (b s : List ℕ) (n : ℕ) (out : List ℕ) {r : Archived} → captureIs b s n (length out) ≡ r → captureOut b s n out ≡ leaves r (bytesOf (captured b s n)) out
+unfolding captureOut
+capture-leaves b s n out e = ap (λ (r : Archived). leaves r (bytesOf (captured b s n)) out) e

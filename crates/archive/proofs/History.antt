@@ -1,0 +1,128 @@
+-- Whatever is offered, restoring gives the last PDU accepted for the user and part, or 11: each capture puts its PDU in or changes nothing.
+-- Assumes nothing.
+use mathlib.Core.Path.{_≡_, refl, sym, ap, _∙_, subst}
+use mathlib.Core.Bool.{Bool, true, false}
+use mathlib.Core.List.{List, [], _∷_}
+use mathlib.Core.Option.{Option, none, some}
+use Prim.Native.Nat.{ℕ, _≤_}
+use native.Mathlib.Omega.{arith}
+use lib.ListN.{length, take, drop}
+use lib.Seq.{take-at}
+use lib.Dec.{ltb, leb}
+use borrow.Author.Tests.{ltb-true, le-leb}
+use Rattle.bits.specs.Bits.{pick}
+use Rattle.bits.specs.Frame.{bytesFor}
+use Rattle.bits.specs.declared.BitCount.{BitCount}
+use Rattle.archive.specs.Model.{Held, Archive, keyFor, headerWidth, bytesOf}
+use Rattle.archive.specs.Filing.{names, keepsRules, wellFormed}
+use Rattle.archive.specs.Reading.{reading, isArchive}
+use Rattle.archive.specs.Keeping.{over, leaves, emptyOf, emptyIs, emptyOut, heldFor, captureOut}
+use Rattle.archive.specs.Restoring.{inRange, lookup, delivered, bodyOf, restoreIs, restores, restoreOut}
+use Rattle.archive.specs.History.{Offer, keptOf, answerTo, after, afterAll, entryOf, latest, lastAccepted, givenOf, pduOf}
+use Rattle.archive.specs.declared.Archived.{Archived}
+use Rattle.archive.specs.declared.Archived.the-variants.{Bytes, Refused}
+use Rattle.archive.specs.declared.Restored.the-variants as restored
+use Rattle.archive.proofs.Rules.{is-formed}
+use Rattle.archive.proofs.Writing.{length-written, read-as-written, passes}
+use Rattle.archive.proofs.Restoring.{as-delivered, restore-leaves}
+use Rattle.archive.proofs.Theorems.{new-archive, held-after}
+
+-- ---- the empty archive
+
+empty-formed : (home : ℕ) → ltb home 16777216 ≡ true → wellFormed (emptyOf home) ≡ true
+unfolding keepsRules
+empty-formed home h = is-formed (emptyOf home) (record { home = ltb-true home 16777216 h; few = omega arith; small = omega arith; rules = refl })
+
+was-empty : (home room m : ℕ) → emptyIs home room ≡ Bytes m → (ltb home 16777216 ≡ true) × (m ≡ headerWidth)
+unfolding emptyIs
+was-empty home room m = go (ltb home 16777216) refl (leb headerWidth room)
+  where
+    go : (p : Bool) → ltb home 16777216 ≡ p → (q : Bool) → pick p (pick q (Bytes headerWidth) (Refused 8)) (Refused 9) ≡ Bytes m → (ltb home 16777216 ≡ true) × (m ≡ headerWidth)
+    go true h true e = (h, cc)
+    go true h false e = absurd (let z : _≡_ {A = ℕ} 0 1 = cc in omega arith)
+    go false h q e = absurd (let z : _≡_ {A = ℕ} 0 1 = cc in omega arith)
+
+-- what `empty` writes is an archive that holds nothing
+pub empty-holds : (home : ℕ) (out : List ℕ) (m : ℕ) → emptyIs home (length out) ≡ Bytes m
+    → (isArchive (take m (emptyOut home out)) ≡ true) × (reading (take m (emptyOut home out)) ≡ emptyOf home)
+unfolding emptyOut
+empty-holds home out m e =
+    let r = was-empty home (length out) m e in
+    let f = empty-formed home (r .0) in
+    let w = bytesOf (emptyOf home) in
+    let l : length w ≡ m = length-written (emptyOf home) f ∙ sym (r .1) in
+    let is : take m (emptyOut home out) ≡ w = ap (λ (x : Archived). take m (leaves x w out)) e ∙ take-at w (drop (length w) out) m l in
+    (ap isArchive is ∙ passes (emptyOf home) f, ap reading is ∙ read-as-written (emptyOf home) f)
+
+-- ---- one offer
+
+-- what is held is the last PDU accepted
+abbrev Matches : Option Held → Option Offer → Type 0
+Matches none none = Unit {0}
+Matches (some h) (some o) = (h .body ≡ o .pdu) × (h .entry .bits ≡ record { 0 = o .bits })
+Matches none (some o) = ⊥
+Matches (some h) none = ⊥
+
+module _ (network ssi part : ℕ) (r : inRange network ssi part ≡ true) where
+  abbrev heldIn : List ℕ → Option Held
+  heldIn b = lookup (keyFor network ssi part) (reading b .held)
+
+  step : (b : List ℕ) (o : Offer) (last : Option Offer) → isArchive b ≡ true → Matches (heldIn b) last
+      → (isArchive (after b o) ≡ true) × (Matches (heldIn (after b o)) (latest (answerTo b o) (names (entryOf b o) network ssi part) o last))
+  unfolding after
+  step b o last ok m = go (answerTo b o) refl
+    where
+      now : (x : Archived) → List ℕ
+      now x = keptOf x b (captureOut b (o .pdu) (o .bits) (o .lent))
+
+      picked : (p : Bool) {l : Option Held} → l ≡ pick p (some (heldFor (reading b .home) (o .pdu) (o .bits))) (heldIn b) → (n : ℕ) → Matches l (latest (Bytes n) p o last)
+      picked true e n = subst (λ (l : Option Held). Matches l (some o)) (sym e) (refl, refl)
+      picked false e n = subst (λ (l : Option Held). Matches l last) (sym e) m
+
+      go : (x : Archived) → answerTo b o ≡ x → (isArchive (now (answerTo b o)) ≡ true) × (Matches (heldIn (now (answerTo b o))) (latest (answerTo b o) (names (entryOf b o) network ssi part) o last))
+      go (Bytes n) e =
+          rw e (new-archive b (o .pdu) (o .bits) n (o .lent) e, picked (names (entryOf b o) network ssi part) (held-after b (o .pdu) (o .bits) n (o .lent) e network ssi part r) n)
+      go (Refused k) e = rw e (ok, m)
+
+  steps : (b : List ℕ) (os : List Offer) (last : Option Offer) → isArchive b ≡ true → Matches (heldIn b) last
+      → (isArchive (afterAll b os) ≡ true) × (Matches (heldIn (afterAll b os)) (lastAccepted network ssi part b last os))
+  unfolding afterAll lastAccepted
+  steps b [] last ok m = (ok, m)
+  steps b (o ∷ os) last ok m =
+      let s = step b o last ok m in
+      steps (after b o) os (latest (answerTo b o) (names (entryOf b o) network ssi part) o last) (s .0) (s .1)
+
+  gives : (l : Option Held) (last : Option Offer) (room : ℕ) → Matches l last → (delivered l room ≡ givenOf last room) × (bodyOf l ≡ pduOf last)
+  gives none none room m = (refl, refl)
+  gives (some h) (some o) room m = (ap (λ (n : BitCount). pick (leb (bytesFor (n .0)) room) (restored.Bits n) (restored.Refused 8)) (m .1), m .0)
+  gives none (some o) room m = absurd m
+  gives (some h) none room m = absurd m
+
+-- ---- the history
+
+-- from an empty archive, for any offers: what restoring gives, for any user and either part, is the last PDU accepted for them, or 11
+module _ (home : ℕ) (lent : List ℕ) (m : ℕ) (e : emptyIs home (length lent) ≡ Bytes m) (os : List Offer) (network ssi part : ℕ) (r : inRange network ssi part ≡ true) (out : List ℕ) where
+  abbrev pub start : List ℕ
+  start = take m (emptyOut home lent)
+
+  abbrev pub last : Option Offer
+  last = lastAccepted network ssi part start none os
+
+  pub history : (restoreIs (afterAll start os) network ssi part (length out) ≡ givenOf last (length out))
+      × (restoreOut (afterAll start os) network ssi part out ≡ restores (givenOf last (length out)) (pduOf last) out)
+  history =
+      let z = empty-holds home lent m e in
+      let none-held : Matches (heldIn network ssi part r start) none = subst (λ (a : Archive). Matches (lookup (keyFor network ssi part) (a .held)) none) (sym (z .1)) tt in
+      let s = steps network ssi part r start os none (z .0) none-held in
+      let g = gives network ssi part r (heldIn network ssi part r (afterAll start os)) last (length out) (s .1) in
+      let x = as-delivered (afterAll start os) network ssi part (length out) r (s .0) ∙ g .0 in
+      (x, restore-leaves (afterAll start os) network ssi part out x ∙ ap (λ (w : List ℕ). restores (givenOf last (length out)) w out) (g .1))
+
+  -- none was accepted for them: 11, and no byte changed
+  pub never : last ≡ none → (restoreIs (afterAll start os) network ssi part (length out) ≡ restored.Refused 11) × (restoreOut (afterAll start os) network ssi part out ≡ out)
+  never n = rw n at history
+
+  -- otherwise, with room for it, exactly the bits of the last
+  pub always : (o : Offer) → last ≡ some o → bytesFor (o .bits) ≤ length out
+      → (restoreIs (afterAll start os) network ssi part (length out) ≡ restored.Bits (record { 0 = o .bits })) × (restoreOut (afterAll start os) network ssi part out ≡ over (o .pdu) out)
+  always o l h = rw (l, le-leb (bytesFor (o .bits)) (length out) h) at history

@@ -1,0 +1,60 @@
+-- The place that the search finds is that of the body held. Assumes nothing.
+use mathlib.Core.Path.{_≡_, sym, ap, _∙_}
+use mathlib.Core.Bool.{true}
+use native.Mathlib.Omega.{arith}
+use borrow.Author.Needs.{needs}
+use borrow.Author.Tests.{not-true, not-false, eq-eqb, ne-eqb}
+use denote.Ref.{now}
+use Rattle.archive.specs.Reading.{isArchive}
+use Rattle.archive.specs.Restoring.{inRange, fetchIs}
+use Rattle.archive.proofs.Placing.{placeIn}
+use Rattle.archive.proofs.Lookup.{fetchedOf, fetch-none, fetch-out, fetch-place, ranged}
+use Rattle.archive.proofs.fetch.Statement.{statement}
+use Rattle.archive.proofs.fetch.Tie as tie
+
+ok : (c : tie.Else1) → isArchive (now (c .before .before .before .args .archive)) ≡ true
+ok c = sym (c .before .check .ensures) ∙ not-false _ (c .if1 .left)
+
+within : (c : tie.Else2) → inRange (c .before .before .before .before .before .args .network) (c .before .before .before .before .before .args .ssi) (c .before .before .before .before .before .args .part) ≡ true
+within c = sym (c .before .in-range .ensures) ∙ not-false _ (c .if2 .left)
+
+-- the answer of the place that was found
+found : (c : tie.After-find)
+    → fetchIs (now (c .before .before .before .before .before .before .before .args .archive)) (c .before .before .before .before .before .before .before .args .network) (c .before .before .before .before .before .before .before .args .ssi) (c .before .before .before .before .before .before .before .args .part)
+    ≡ fetchedOf (c .find .result)
+unfolding placeIn
+found c =
+    let test = c .before .before in
+    let a = test .before .before .before .before .before .args in
+    fetch-place (now (a .archive)) (a .network) (a .ssi) (a .part) (ok (test .before .before)) (within test)
+    ∙ sym (ap fetchedOf (c .find .ensures ∙ ap (placeIn (now (a .archive))) (c .before .key-of .ensures)))
+
+returns : tie.Need-returns
+returns c = sym (fetch-none _ _ _ _ (sym (c .before .check .ensures) ∙ not-true _ (c .if1 .taken)))
+
+returns-2 : tie.Need-returns-2
+returns-2 c = sym (fetch-out _ _ _ _ (ok (c .before .before)) (sym (c .before .in-range .ensures) ∙ not-true _ (c .if2 .taken)))
+
+key-of-requires : tie.Need-key-of-requires
+key-of-requires c κs =
+    let r = ranged _ _ _ (within c) in
+    (r .network, r .ssi, omega (arith, r .high))
+
+returns-3 : tie.Need-returns-3
+returns-3 c = sym (found (c .before .before) ∙ rw (eq-eqb _ _ (c .if3 .taken)))
+
+returns-4 : tie.Need-returns-4
+returns-4 c = sym (found (c .before .before .before) ∙ rw (ne-eqb _ _ (c .before .if3 .left)))
+
+pub fetch-spec : {M : Type 1} → statement M
+fetch-spec =
+    tie.close
+    (tie.spec
+    (λ c κs. search needs)
+    returns
+    (λ c κs. search needs)
+    returns-2
+    key-of-requires
+    (λ c κs. ok (c .before .before .before))
+    returns-3
+    returns-4)

@@ -1,0 +1,36 @@
+-- The 32-byte example of document 01: profile A captured at home network 1.
+use mathlib.Core.Path.{_≡_, refl}
+use mathlib.Core.List.{List, [], _∷_}
+use Prim.Native.Nat.{ℕ}
+use lib.ListN.{length}
+use Rattle.archive.specs.Model.{Archive, headerBytes, entryBytes, bytesOf, lengthOf}
+use Rattle.archive.specs.Reading.{heldFrom, reading}
+
+-- profile A as a PDU of 138 bits
+abbrev pub profileA : List ℕ
+profileA =
+    0x49 ∷ 0x82 ∷ 0x00 ∷ 0x00 ∷ 0x0a ∷ 0x21 ∷ 0x21 ∷ 0x20 ∷ 0x00 ∷ 0x0c ∷ 0x80 ∷ 0x00 ∷ 0x0c ∷ 0x70 ∷ 0x80 ∷ 0x00 ∷ 0x4b ∷ 0x00 ∷ []
+
+-- held for user 1/5, part 1
+abbrev pub holdingA : Archive
+holdingA = record {
+  home = 1;
+  held = record { entry = record { network = 1; ssi = 5; part = 1; bits = record { 0 = 138 } }; body = profileA } ∷ [];
+}
+
+abbrev pub bytesA : List ℕ
+bytesA = 0x00 ∷ 0x00 ∷ 0x01 ∷ 0x00 ∷ 0x01 ∷ 0x00 ∷ 0x00 ∷ 0x01 ∷ 0x00 ∷ 0x00 ∷ 0x05 ∷ 0x01 ∷ 0x00 ∷ 0x8a ∷ profileA
+
+written-a : bytesOf holdingA ≡ bytesA
+unfolding headerBytes entryBytes
+written-a = refl
+
+read-a : reading bytesA ≡ holdingA
+unfolding reading heldFrom
+read-a = refl
+
+length-a : length bytesA ≡ 32
+length-a = refl
+
+as-long : lengthOf holdingA ≡ 32
+as-long = refl

@@ -1,0 +1,65 @@
+-- Which PDUs an archive may hold, under which entry, and which archives keep the rules.
+use mathlib.Core.Bool.{Bool, true, false, _&&_}
+use mathlib.Core.List.{List, [], _∷_}
+use Prim.Native.Nat.{ℕ}
+use lib.ListN.{length, getD}
+use lib.Dec.{ltb, leb, eqb}
+use Rattle.bits.specs.Bits.{pick}
+use Rattle.grammar.specs.Grammar.{zeroIdentity}
+use Rattle.reader.specs.Read.{readIs}
+use Rattle.grammar.specs.declared.record.Identity.{Identity}
+use Rattle.grammar.specs.declared.record.Record.{Record}
+use Rattle.reader.specs.declared.Answer.{Answer}
+use Rattle.reader.specs.declared.Answer.the-variants.{Accepted, Refused}
+use Rattle.archive.specs.Model.{Held, Archive, keyOf, lengthOf, withinLimits}
+use Rattle.archive.specs.declared.contents.Entry.{Entry}
+use Rattle.archive.specs.declared.filing.Filing.{Filing}
+use Rattle.archive.specs.declared.filing.Filing.the-variants.{Under, Nowhere}
+
+-- an INTERROGATE ACK (PDU type 12), accepting (interrogation result 1 or 2), with affected range type 1
+abbrev pub mayHold : Record → Bool
+mayHold r = eqb (r .kind) 12 && (leb 1 (r .result) && (leb (r .result) 2 && eqb (r .affected .code) 1))
+
+-- its affected user
+abbrev pub userOf : Record → Identity
+userOf r = getD (r .affected .entries) 0 zeroIdentity
+
+-- a user's network is the extension if present, otherwise the home network
+unfoldable pub networkOf : ℕ → Identity → ℕ
+networkOf home user = pick (eqb (user .present) 1) (user .extension) home
+
+-- results 1 and 2 are parts 1 and 2: identities, numbers
+abbrev pub entryFor : ℕ → Record → ℕ → Entry
+entryFor home r n = record { network = networkOf home (userOf r); ssi = userOf r .ssi; part = r .result; bits = record { 0 = n } }
+
+unfoldable pub filingOf : ℕ → Record → ℕ → Filing
+filingOf home r n = pick (mayHold r) (Under (entryFor home r n)) Nowhere
+
+-- ---- an archive that keeps the rules
+
+abbrev pub isAccepted : Answer → Bool
+isAccepted Accepted = true
+isAccepted (Refused k) = false
+
+-- the entry is of that network, SSI and part
+abbrev pub names : Entry → ℕ → ℕ → ℕ → Bool
+names e network ssi part = eqb (e .network) network && (eqb (e .ssi) ssi && eqb (e .part) part)
+
+-- network, SSI and part agree
+abbrev pub agrees : Filing → Entry → Bool
+agrees (Under f) e = names f (e .network) (e .ssi) (e .part)
+agrees Nowhere e = false
+
+-- the body is a legal PDU that is filed under its entry
+unfoldable pub bodyAgrees : ℕ → Held → Bool
+bodyAgrees home h =
+    isAccepted (readIs (h .body) (h .entry .bits .0) .answer)
+    && agrees (filingOf home (readIs (h .body) (h .entry .bits .0) .found) (h .entry .bits .0)) (h .entry)
+
+-- entries rise strictly, from above a key on, and each body agrees with its entry
+unfoldable pub keepsRules : ℕ → ℕ → List Held → Bool
+keepsRules home last [] = true
+keepsRules home last (h ∷ hs) = ltb last (keyOf h) && (bodyAgrees home h && keepsRules home (keyOf h) hs)
+
+unfoldable pub wellFormed : Archive → Bool
+wellFormed a = ltb (a .home) 16777216 && (withinLimits (length (a .held)) (lengthOf a) && keepsRules (a .home) 0 (a .held))

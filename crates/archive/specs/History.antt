@@ -1,0 +1,65 @@
+-- A history of offered PDUs: each is captured into a buffer that is lent for it; after a refusal one goes on with the old archive.
+use mathlib.Core.Bool.{Bool, true, false}
+use mathlib.Core.List.{List, [], _∷_}
+use mathlib.Core.Option.{Option, none, some}
+use Prim.Native.Nat.{ℕ}
+use lib.ListN.{length, take}
+use lib.Dec.{leb}
+use Rattle.bits.specs.Bits.{pick}
+use Rattle.bits.specs.Frame.{bytesFor}
+use Rattle.reader.specs.Read.{readIs}
+use Rattle.archive.specs.Filing.{entryFor, names}
+use Rattle.archive.specs.Reading.{reading}
+use Rattle.archive.specs.Keeping.{captureIs, captureOut}
+use Rattle.archive.specs.declared.Archived.{Archived}
+use Rattle.archive.specs.declared.Archived.the-variants.{Bytes, Refused}
+use Rattle.archive.specs.declared.Restored.{Restored}
+use Rattle.archive.specs.declared.Restored.the-variants as restored
+use Rattle.archive.specs.declared.contents.Entry.{Entry}
+
+-- an offered PDU, its bit length, and the buffer lent for its capture
+pub record Offer : Type 0 where
+  pub pdu : List ℕ
+  pub bits : ℕ
+  pub lent : List ℕ
+
+-- the archive to go on with: what was written, or the old one
+abbrev pub keptOf : Archived → List ℕ → List ℕ → List ℕ
+keptOf (Bytes n) old out = take n out
+keptOf (Refused k) old out = old
+
+abbrev pub answerTo : List ℕ → Offer → Archived
+answerTo b o = captureIs b (o .pdu) (o .bits) (length (o .lent))
+
+unfoldable pub after : List ℕ → Offer → List ℕ
+after b o = keptOf (answerTo b o) b (captureOut b (o .pdu) (o .bits) (o .lent))
+
+unfoldable pub afterAll : List ℕ → List Offer → List ℕ
+afterAll b [] = b
+afterAll b (o ∷ os) = afterAll (after b o) os
+
+-- ---- the last PDU accepted for a user and part
+
+-- the entry under which an offer is filed
+abbrev pub entryOf : List ℕ → Offer → Entry
+entryOf b o = entryFor (reading b .home) (readIs (o .pdu) (o .bits) .found) (o .bits)
+
+-- an accepted offer for that user and part is the last; any other offer leaves it
+abbrev pub latest : Archived → Bool → Offer → Option Offer → Option Offer
+latest (Bytes n) true o last = some o
+latest (Bytes n) false o last = last
+latest (Refused k) same o last = last
+
+unfoldable pub lastAccepted : ℕ → ℕ → ℕ → List ℕ → Option Offer → List Offer → Option Offer
+lastAccepted network ssi part b last [] = last
+lastAccepted network ssi part b last (o ∷ os) =
+    lastAccepted network ssi part (after b o) (latest (answerTo b o) (names (entryOf b o) network ssi part) o last) os
+
+-- restoring gives its bits, or 11 if there was none
+abbrev pub givenOf : Option Offer → ℕ → Restored
+givenOf none room = restored.Refused 11
+givenOf (some o) room = pick (leb (bytesFor (o .bits)) room) (restored.Bits (record { 0 = o .bits })) (restored.Refused 8)
+
+abbrev pub pduOf : Option Offer → List ℕ
+pduOf none = []
+pduOf (some o) = o .pdu

@@ -1,0 +1,86 @@
+-- What `empty` and `capture` answer, and what they leave in the lent buffer.
+use mathlib.Core.Bool.{_&&_}
+use mathlib.Core.List.{List, [], _∷_, _++_}
+use Prim.Native.Nat.{ℕ}
+use lib.ListN.{length, drop}
+use lib.Dec.{ltb, leb, eqb}
+use Rattle.bits.specs.Bits.{pick}
+use Rattle.reader.specs.Read.{readIs}
+use Rattle.reader.specs.declared.Answer.{Answer}
+use Rattle.reader.specs.declared.Answer.the-variants as reader
+use Rattle.archive.specs.Model.{Held, Archive, keyOf, headerWidth, bytesOf, lengthOf, withinLimits}
+use Rattle.archive.specs.Filing.{mayHold, entryFor}
+use Rattle.archive.specs.Reading.{reading, isArchive}
+use Rattle.archive.specs.declared.contents.Entry.{Entry}
+use Rattle.archive.specs.declared.Archived.{Archived}
+use Rattle.archive.specs.declared.Archived.the-variants.{Bytes, Refused}
+
+-- the paper's number of an answer, 0 for success, and its length in bytes, 0 for a refusal
+abbrev pub archivedNumber : Archived → ℕ
+archivedNumber (Bytes n) = 0
+archivedNumber (Refused k) = k
+
+abbrev pub archivedBytes : Archived → ℕ
+archivedBytes (Bytes n) = n
+archivedBytes (Refused k) = 0
+
+-- these bytes first, and the buffer's own after them
+abbrev pub over : List ℕ → List ℕ → List ℕ
+over w out = w ++ drop (length w) out
+
+-- a refusal changes no byte
+abbrev pub leaves : Archived → List ℕ → List ℕ → List ℕ
+leaves (Bytes n) w out = over w out
+leaves (Refused k) w out = out
+
+-- ---- empty: 9 for a home network out of range, then 8
+
+abbrev pub emptyOf : ℕ → Archive
+emptyOf home = record { home = home; held = [] }
+
+unfoldable pub emptyIs : ℕ → ℕ → Archived
+emptyIs home room = pick (ltb home 16777216) (pick (leb headerWidth room) (Bytes headerWidth) (Refused 8)) (Refused 9)
+
+unfoldable pub emptyOut : ℕ → List ℕ → List ℕ
+emptyOut home out = leaves (emptyIs home (length out)) (bytesOf (emptyOf home)) out
+
+-- ---- capture
+
+-- a PDU in its place, instead of the one of its key if there is one
+abbrev pub put : Held → List Held → List Held
+put h [] = h ∷ []
+put h (x ∷ xs) = pick (ltb (keyOf x) (keyOf h)) (x ∷ put h xs) (pick (eqb (keyOf x) (keyOf h)) (h ∷ xs) (h ∷ x ∷ xs))
+
+abbrev pub with : Archive → Held → Archive
+with a h = record { home = a .home; held = put h (a .held) }
+
+-- the archive of some bytes with a body under an entry
+abbrev pub filedIn : List ℕ → Entry → List ℕ → Archive
+filedIn b e body = with (reading b) (record { entry = e; body = body })
+
+-- what a PDU of n bits is held as
+abbrev pub heldFor : ℕ → List ℕ → ℕ → Held
+heldFor home s n = record { entry = entryFor home (readIs s n .found) n; body = s }
+
+-- the archive after the capture
+unfoldable pub captured : List ℕ → List ℕ → ℕ → Archive
+captured b s n = with (reading b) (heldFor (reading b .home) s n)
+
+-- the reader's refusal is passed on
+abbrev pub ifAccepted : Answer → Archived → Archived
+ifAccepted reader.Accepted r = r
+ifAccepted (reader.Refused k) r = Refused k
+
+-- 8 for one entry too many, or a result over the limit or the lent buffer
+unfoldable pub placed : Archive → ℕ → Archived
+placed a room = pick (withinLimits (length (a .held)) (lengthOf a) && leb (lengthOf a) room) (Bytes (lengthOf a)) (Refused 8)
+
+-- 7, the PDU's own, 6, 8
+unfoldable pub captureIs : List ℕ → List ℕ → ℕ → ℕ → Archived
+captureIs b s n room =
+    pick (isArchive b)
+    (ifAccepted (readIs s n .answer) (pick (mayHold (readIs s n .found)) (placed (captured b s n) room) (Refused 6)))
+    (Refused 7)
+
+unfoldable pub captureOut : List ℕ → List ℕ → ℕ → List ℕ → List ℕ
+captureOut b s n out = leaves (captureIs b s n (length out)) (bytesOf (captured b s n)) out

@@ -1,0 +1,73 @@
+-- Where a key stands in an archive's bytes, and the bytes of a capture as parts of the old archive around the new entry and body.
+use mathlib.Core.Path.{_≡_}
+use mathlib.Core.List.{List, [], _∷_, _++_}
+use Prim.Native.Nat.{ℕ, _+_, _-_, _*_, _≤_, _<_}
+use lib.ListN.{length, take, drop}
+use lib.Dec.{ltb, eqb}
+use Rattle.bits.specs.Bits.{pick}
+use Rattle.bits.specs.Frame.{bytesFor}
+use Rattle.archive.specs.Model.{Held, keyOf, headerWidth, entryWidth, headerBytes, entryBytes, bodySize}
+use Rattle.archive.specs.Reading.{homeOf}
+use Rattle.archive.specs.declared.contents.Entry.{Entry}
+use Rattle.archive.specs.declared.checking.Place.{Place}
+
+-- a place with so many entries, none or one, and a body of so many bits
+abbrev pub placeOf : ℕ → ℕ → ℕ → ℕ → Place
+placeOf at off entries bits = record { at = at; off = off; entries = entries; bits = record { 0 = bits } }
+
+-- the search, by order: the entry of the key, or the gap where it would go
+unfoldable pub seek : ℕ → ℕ → ℕ → List Held → Place
+seek key at off [] = placeOf at off 0 0
+seek key at off (h ∷ hs) =
+    pick (ltb (keyOf h) key)
+    (seek key (at + entryWidth) (off + bodySize h) hs)
+    (pick (eqb (keyOf h) key) (placeOf at off 1 (h .entry .bits .0)) (placeOf at off 0 0))
+
+-- ---- a new entry and body for those at a place
+
+-- where the contents and the bodies go on after the place
+abbrev pub nextAt : Place → ℕ
+nextAt p = p .at + entryWidth * p .entries
+
+abbrev pub restAt : Place → ℕ
+restAt p = p .off + bytesFor (p .bits .0)
+
+-- the place lies within an archive's bytes
+pub record Within (p : Place) (b : List ℕ) : Type 0 where
+  pub first : headerWidth ≤ p .at
+  pub contents : nextAt p ≤ p .off
+  pub bodies : restAt p ≤ length b
+  pub small : length b ≤ 65536
+
+-- an entry's numbers fit their bytes
+pub record EntryFits (e : Entry) : Type 0 where
+  pub network : e .network < 16777216
+  pub ssi : e .ssi < 16777216
+  pub part : e .part < 256
+  pub bits : e .bits .0 < 65536
+
+-- header, contents before the place, the new entry
+unfoldable pub frontOf : List ℕ → ℕ → ℕ → Entry → List ℕ
+frontOf b at count e = headerBytes (homeOf b) count ++ take (at - headerWidth) (drop headerWidth b) ++ entryBytes e
+
+-- contents after it and bodies before it, which stand side by side; the new body; bodies after it
+unfoldable pub backOf : List ℕ → Place → List ℕ → List ℕ
+backOf b p body =
+    take (p .off - nextAt p) (drop (nextAt p) b) ++ body ++ take (length b - restAt p) (drop (restAt p) b)
+
+abbrev pub spliced : List ℕ → Place → ℕ → Entry → List ℕ → List ℕ
+spliced b p count e body = frontOf b (p .at) count e ++ backOf b p body
+
+-- its length, from the place on and in all
+abbrev pub backLength : List ℕ → Place → ℕ → ℕ
+backLength b p size = p .off - nextAt p + size + (length b - restAt p)
+
+abbrev pub splicedLength : List ℕ → Place → ℕ → ℕ
+splicedLength b p size = p .at + entryWidth + backLength b p size
+
+-- ---- laid out in a buffer
+
+-- from `at` to `end` the buffer has s, and before and after that what it had
+pub record Laid (out : List ℕ) (at : ℕ) (s : List ℕ) (out′ : List ℕ) (end : ℕ) : Type 0 where
+  pub ends : end ≡ at + length s
+  pub same : out′ ≡ take at out ++ (s ++ drop (at + length s) out)

@@ -1,0 +1,74 @@
+// Which PDUs an archive may hold, under which entry, and whether a body agrees with its entry.
+use crate::contents::Entry;
+use bits::BitCount;
+use grammar::record::Identity;
+use grammar::record::Record;
+use pdu::Answer;
+ghost use mathlib.Core.Path.{_≡_};
+ghost use Rattle.archive.specs.Filing.{networkOf, filingOf, bodyAgrees};
+
+// The entry under which a PDU is filed; nowhere if no archive entry may hold it.
+pub enum Filing {
+    Under(Entry),
+    Nowhere,
+}
+
+// A user's network: the extension if present, otherwise the home network.
+pub fn network_of(home: u32, user: Identity) -> u32
+    ensures { λ r. ⌜ r ≡ networkOf home user ⌝ }
+{
+    if user.present == 1 {
+        user.extension
+    } else {
+        home
+    }
+}
+
+// Only an accepting INTERROGATE ACK for one user is filed.
+pub fn filing_of(home: u32, found: Record, n: BitCount) -> Filing
+    ensures { λ r. ⌜ r ≡ filingOf home found (n .0) ⌝ }
+{
+    if found.kind != 12 {
+        return Filing::Nowhere;
+    }
+    if found.result < 1 {
+        return Filing::Nowhere;
+    }
+    if 2 < found.result {
+        return Filing::Nowhere;
+    }
+    let affected = found.affected;
+    if affected.code != 1 {
+        return Filing::Nowhere;
+    }
+    let users = affected.entries;
+    let user = users[0];
+    Filing::Under(Entry {
+        network: network_of(home, user),
+        ssi: user.ssi,
+        part: found.result,
+        bits: n,
+    })
+}
+
+// Whether a body is a legal PDU that is filed under its entry.
+pub(crate) fn body_agrees(home: u32, entry: Entry, body: &[u8]) -> bool
+    ensures { λ r. ⌜ r ≡ bodyAgrees home (record { entry = entry; body = now (body .entry) }) ⌝ }
+{
+    let reading = pdu::read(body, entry.bits);
+    let answer = reading.answer;
+    let Answer::Accepted = answer else {
+        return false;
+    };
+    let filing = filing_of(home, reading.found, entry.bits);
+    let Filing::Under(found) = filing else {
+        return false;
+    };
+    if found.network != entry.network {
+        return false;
+    }
+    if found.ssi != entry.ssi {
+        return false;
+    }
+    found.part == entry.part
+}

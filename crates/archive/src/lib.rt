@@ -1,0 +1,174 @@
+// The archive of INTERROGATE ACKs: an empty one, capture into it, restore from it (document 01, "The archive").
+pub mod checking;
+pub mod contents;
+mod copying;
+pub mod filing;
+
+use bits::BitCount;
+pub use checking::check;
+use contents::Entry;
+pub use contents::home;
+use filing::Filing;
+use pdu::Answer;
+ghost use mathlib.Core.Path.{_≡_};
+ghost use mathlib.Core.Bool.{true};
+ghost use Prim.Native.Nat.{_+_, _≤_};
+ghost use lib.ListN.{length, take, drop};
+ghost use lib.Dec.{leb};
+ghost use Rattle.bits.specs.Bits.{pick};
+ghost use Rattle.bits.specs.Frame.{bytesFor};
+ghost use Rattle.reader.specs.Read.{refusalOf};
+ghost use Rattle.archive.specs.Model.{bytesOf};
+ghost use Rattle.archive.specs.Reading.{isArchive};
+ghost use Rattle.archive.specs.Seeking.{EntryFits};
+ghost use Rattle.archive.specs.Keeping.{leaves, emptyIs, emptyOut, filedIn, placed, captureIs, captureOut};
+ghost use Rattle.archive.specs.Restoring.{inRange, fetchIs, restores, restoreIs, restoreOut};
+
+// The length in bytes of an archive that was written, or a refusal number.
+pub enum Archived {
+    Bytes(usize),
+    Refused(u32),
+}
+
+// The length in bits of a PDU that was restored, or a refusal number.
+pub enum Restored {
+    Bits(BitCount),
+    Refused(u32),
+}
+
+// Where the body of a held PDU begins, and its length in bits.
+pub enum Fetched {
+    Body(usize, BitCount),
+    NotHeld,
+    NoArchive,
+}
+
+// Writes the empty archive of a home network.
+pub fn empty(home: u32, out: &mut [u8]) -> Archived
+    ensures { λ r. ⌜ r ≡ emptyIs home (length (now (out .entry))) ⌝ }
+    ensures { λ _. ⌜ now (out .exit) ≡ emptyOut home (now (out .entry)) ⌝ }
+{
+    if 16777216 <= home {
+        return Archived::Refused(9);
+    }
+    if out.len() < contents::HEADER {
+        return Archived::Refused(8);
+    }
+    let header = contents::header_bytes(home, 0);
+    Archived::Bytes(copying::append(out, 0, &header))
+}
+
+// Captures a PDU of n bits: writes the archive with it to the lent buffer.
+pub fn capture(archive: &[u8], body: &[u8], n: BitCount, out: &mut [u8]) -> Archived
+    ensures { λ r. ⌜ r ≡ captureIs (now (archive .entry)) (now (body .entry)) (n .0) (length (now (out .entry))) ⌝ }
+    ensures { λ _. ⌜ now (out .exit) ≡ captureOut (now (archive .entry)) (now (body .entry)) (n .0) (now (out .entry)) ⌝ }
+{
+    if !checking::check(archive) {
+        return Archived::Refused(7);
+    }
+    let reading = pdu::read(body, n);
+    let answer = reading.answer;
+    let Answer::Accepted = answer else {
+        return Archived::Refused(refusal_of(answer));
+    };
+    let filing = filing::filing_of(contents::home(archive), reading.found, n);
+    let Filing::Under(entry) = filing else {
+        return Archived::Refused(6);
+    };
+    file(archive, entry, body, out)
+}
+
+// The number with which a PDU is refused, 0 for an accepted one.
+fn refusal_of(answer: Answer) -> u32
+    ensures { λ r. ⌜ r ≡ refusalOf answer ⌝ }
+{
+    match answer {
+        Answer::Accepted => 0,
+        Answer::Refused(number) => number,
+    }
+}
+
+// Files a body under its entry, in place of what is held for its user and part.
+fn file(archive: &[u8], entry: Entry, body: &[u8], out: &mut [u8]) -> Archived
+    requires { ⌜ (isArchive (now archive) ≡ true) × (EntryFits entry) × (length (now body) ≡ bytesFor (entry .bits .0)) ⌝ }
+    ensures { λ r. ⌜ r ≡ placed (filedIn (now (archive .entry)) entry (now (body .entry))) (length (now (out .entry))) ⌝ }
+    ensures { λ r. ⌜ now (out .exit) ≡ leaves r (bytesOf (filedIn (now (archive .entry)) entry (now (body .entry)))) (now (out .entry)) ⌝ }
+{
+    let key = contents::key_of(entry.network, entry.ssi, entry.part);
+    let place = checking::find(archive, key);
+    let count = contents::count(archive) + 1 - place.entries;
+    let size = copying::spliced_length(archive, place, body.len());
+    if !contents::within_limits(count, size) {
+        return Archived::Refused(8);
+    }
+    if out.len() < size {
+        return Archived::Refused(8);
+    }
+    Archived::Bytes(copying::splice(archive, place, count, entry, body, out))
+}
+
+// Whether a user and part are in range.
+fn in_range(network: u32, ssi: u32, part: u32) -> bool
+    ensures { λ r. ⌜ r ≡ inRange network ssi part ⌝ }
+{
+    if 16777216 <= network {
+        return false;
+    }
+    if 16777216 <= ssi {
+        return false;
+    }
+    if part < 1 {
+        return false;
+    }
+    part <= 2
+}
+
+// Finds the body held for a user and part.
+pub fn fetch(archive: &[u8], network: u32, ssi: u32, part: u32) -> Fetched
+    ensures { λ r. ⌜ r ≡ fetchIs (now (archive .entry)) network ssi part ⌝ }
+{
+    if !checking::check(archive) {
+        return Fetched::NoArchive;
+    }
+    if !in_range(network, ssi, part) {
+        return Fetched::NotHeld;
+    }
+    let key = contents::key_of(network, ssi, part);
+    let place = checking::find(archive, key);
+    if place.entries == 0 {
+        return Fetched::NotHeld;
+    }
+    let n = place.bits;
+    Fetched::Body(place.off, n)
+}
+
+// Writes a body to the front of the lent buffer.
+fn deliver(archive: &[u8], off: usize, n: BitCount, out: &mut [u8]) -> Restored
+    requires { ⌜ off + bytesFor (n .0) ≤ length (now archive) ⌝ }
+    ensures { λ r. ⌜ r ≡ pick (leb (bytesFor (n .0)) (length (now (out .entry)))) (Restored.Bits n) (Restored.Refused 8) ⌝ }
+    ensures { λ r. ⌜ now (out .exit) ≡ restores r (take (bytesFor (n .0)) (drop off (now (archive .entry)))) (now (out .entry)) ⌝ }
+{
+    let size = n.bytes();
+    if out.len() < size {
+        return Restored::Refused(8);
+    }
+    let end = off + size;
+    copying::append(out, 0, &archive[off..end]);
+    Restored::Bits(n)
+}
+
+// Restores the PDU held for a user and part: writes its bytes to the lent buffer.
+pub fn restore(archive: &[u8], network: u32, ssi: u32, part: u32, out: &mut [u8]) -> Restored
+    ensures { λ r. ⌜ r ≡ restoreIs (now (archive .entry)) network ssi part (length (now (out .entry))) ⌝ }
+    ensures { λ _. ⌜ now (out .exit) ≡ restoreOut (now (archive .entry)) network ssi part (now (out .entry)) ⌝ }
+{
+    if !in_range(network, ssi, part) {
+        return Restored::Refused(9);
+    }
+    let found = fetch(archive, network, ssi, part);
+    match found {
+        Fetched::NoArchive => Restored::Refused(7),
+        Fetched::NotHeld => Restored::Refused(11),
+        Fetched::Body(off, n) => deliver(archive, off, n, out),
+    }
+}
