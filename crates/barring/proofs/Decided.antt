@@ -1,0 +1,95 @@
+-- A request in range asks for a user and part in range, and what is fetched for it is the part held. Assumes nothing.
+use mathlib.Core.Path.{_≡_, refl, sym, ap, ap₂, _∙_, subst}
+use mathlib.Core.Bool.{Bool, true, false, _&&_}
+use mathlib.Core.List.{List}
+use mathlib.Core.Option.{Option, none, some}
+use Prim.Native.Nat.{ℕ, _+_, _≤_}
+use native.Mathlib.Omega.{arith}
+use lib.ListN.{length, take, drop}
+use lib.Dec.{eqb, leb, ltb}
+use Rattle.bits.specs.Bits.{pick}
+use Rattle.bits.specs.Frame.{bytesFor}
+use Rattle.bits.specs.declared.BitCount.{BitCount}
+use Rattle.codec.specs.Parts.{both}
+use Rattle.reader.specs.Read.{readIs}
+use Rattle.archive.specs.Model.{Held}
+use Rattle.archive.specs.Reading.{homeOf, reading, isArchive}
+use Rattle.archive.specs.Restoring.{inRange, fetchIs}
+use Rattle.archive.specs.declared.Fetched.{Fetched}
+use Rattle.archive.specs.declared.Fetched.the-variants.{Body, NoArchive}
+use Rattle.archive.specs.declared.Fetched.the-variants as fetched
+use Rattle.archive.proofs.Lookup.{Right, BodyIs, fetch-right, fetch-none}
+use Rattle.archive.proofs.Capturing.{home-read}
+use Rattle.barring.specs.Request.{requestRefusal, isUser}
+use Rattle.barring.specs.Rule.{ruling}
+use Rattle.barring.specs.Decide.{partFor, judgedBy, partIn, decideIs}
+use Rattle.barring.specs.declared.request.Destination.{Destination}
+use Rattle.barring.specs.declared.request.Destination.the-variants.{Identity, Number}
+use Rattle.barring.specs.declared.request.Request.{Request}
+use Rattle.barring.specs.declared.Decision.{Decision}
+use Rattle.barring.specs.declared.Decision.the-variants.{NotHeld, Refused}
+
+user-first : (a b c d e f : Bool) → pick {A = ℕ} (a && b && c && d && e && f) 0 9 ≡ 0 → a ≡ true
+user-first true b c d e f h = refl
+user-first false b c d e f h = absurd (omega arith)
+
+part-ranged : (d : Destination) → leb 1 (partFor d) && leb (partFor d) 2 ≡ true
+unfolding partFor
+part-ranged (Identity u) = refl
+part-ranged (Number length) = refl
+
+pub request-ranged : (q : Request) → requestRefusal q ≡ 0 → inRange (q .user .network) (q .user .ssi) (partFor (q .destination)) ≡ true
+unfolding requestRefusal isUser inRange
+request-ranged q e =
+    let p = both (ltb (q .user .network) 16777216) (ltb (q .user .ssi) 16777216) (user-first _ _ _ _ _ _ e) in
+    rw (p .0, p .1, part-ranged (q .destination))
+
+not-archive : (b : List ℕ) (q : Request) → requestRefusal q ≡ 0 → isArchive b ≡ false → Refused 7 ≡ decideIs b q
+unfolding decideIs
+not-archive b q e a = rw (e, a)
+
+module _ (b : List ℕ) (q : Request) (e : requestRefusal q ≡ 0) where
+  abbrev pub fetchedFor : Fetched
+  fetchedFor = fetchIs b (q .user .network) (q .user .ssi) (partFor (q .destination))
+
+  module _ (a : isArchive b ≡ true) where
+    pub decide-held : decideIs b q ≡ judgedBy (reading b .home) q (partIn b q)
+    unfolding decideIs
+    decide-held = rw (e, a)
+
+    found : Right b fetchedFor (partIn b q)
+    found = fetch-right b _ _ _ a (request-ranged q e)
+
+  found-as : (f : Fetched) → fetchedFor ≡ f → (f ≡ NoArchive → ⊥) → (isArchive b ≡ true) × Right b f (partIn b q)
+  found-as f h held = go (isArchive b) refl
+    where
+      go : (t : Bool) → isArchive b ≡ t → (isArchive b ≡ true) × Right b f (partIn b q)
+      go true a = (a, subst (λ (x : Fetched). Right b x (partIn b q)) h (found a))
+      go false a = absurd (held (sym h ∙ fetch-none b _ _ _ a))
+
+  -- the body that is fetched lies within the archive, and the rule applied to it is the decision
+  module _ (at : ℕ) (n : BitCount) (f : fetchedFor ≡ Body at n) where
+    body : (isArchive b ≡ true) × BodyIs b at n (partIn b q)
+    body = found-as (Body at n) f (λ x. let z : _≡_ {A = ℕ} 0 1 = cc in omega arith)
+
+    pub body-within : at + bytesFor (n .0) ≤ length b
+    body-within = body .1 .inside
+
+    pub decide-body : ruling (homeOf b) (readIs (take (bytesFor (n .0)) (drop at b)) (n .0) .found) q ≡ decideIs b q
+    decide-body =
+        let k = body .1 in
+        sym (decide-held (body .0) ∙ ap (judgedBy (reading b .home) q) (k .is)
+        ∙ ap₂ (λ (s : List ℕ) (m : BitCount). ruling (reading b .home) (readIs s (m .0) .found) q) (k .body) (k .bits)
+        ∙ ap (λ (h : ℕ). ruling h (readIs (take (bytesFor (n .0)) (drop at b)) (n .0) .found) q) (sym (home-read b (body .0))))
+
+  pub decide-missing : fetchedFor ≡ fetched.NotHeld → NotHeld ≡ decideIs b q
+  decide-missing f =
+      let k = found-as fetched.NotHeld f (λ x. let z : _≡_ {A = ℕ} 0 1 = cc in omega arith) in
+      sym (decide-held (k .0) ∙ ap (judgedBy (reading b .home) q) (k .1))
+
+  pub decide-damaged : fetchedFor ≡ NoArchive → Refused 7 ≡ decideIs b q
+  decide-damaged f = go (isArchive b) refl
+    where
+      go : (t : Bool) → isArchive b ≡ t → Refused 7 ≡ decideIs b q
+      go true a = absurd (subst (λ (x : Fetched). Right b x (partIn b q)) f (found a))
+      go false a = not-archive b q e a

@@ -1,0 +1,61 @@
+-- 9 comes before 7; then each answer of the archive is the definition's own case. Assumes nothing.
+use mathlib.Core.Path.{_≡_, sym, ap, _∙_}
+use Prim.Native.Nat.{ℕ}
+use borrow.Author.Needs.{needs}
+use borrow.Author.Tests.{ne-eqb}
+use denote.Ref.{now}
+use Rattle.archive.specs.Restoring.{fetchIs}
+use Rattle.barring.specs.Request.{requestRefusal}
+use Rattle.barring.specs.Decide.{partFor, decideIs}
+use Rattle.barring.proofs.Decided.{body-within, decide-body, decide-missing, decide-damaged}
+use Rattle.barring.proofs.decide.Statement.{statement}
+use Rattle.barring.proofs.decide.Tie as tie
+
+returns : tie.Need-returns
+unfolding decideIs
+returns c = rw (← c .before .request-refusal .ensures, ne-eqb _ _ (c .if1 .taken))
+
+-- the request is in range
+ranged : (c : tie.After-fetch) → requestRefusal (c .before .before .before .before .before .before .args .request) ≡ 0
+ranged c = let d = c .before .before .before in sym (d .before .request-refusal .ensures) ∙ d .if1 .left
+
+-- and its part was fetched
+fetches : (c : tie.After-fetch) →
+    let a = c .before .before .before .before .before .before .args in
+    fetchIs (now (a .archive)) (a .request .user .network) (a .request .user .ssi) (partFor (a .request .destination)) ≡ c .fetch .result
+fetches c =
+    let a = c .before .before .before .before .before .before .args in
+    sym (c .fetch .ensures ∙ ap (fetchIs (now (a .archive)) (a .request .user .network) (a .request .user .ssi)) (c .before .part-for .ensures))
+
+judge-requires : tie.Need-judge-requires
+judge-requires c κs =
+    let f = c .before .before .before in
+    body-within _ _ (ranged f) _ _ (fetches f ∙ c .before .at .given .1)
+
+returns-2 : tie.Need-returns-2
+returns-2 c =
+    let a = c .before .before in
+    let f = a .before .before in
+    c .judge .ensures ∙ decide-body _ _ (ranged f) _ _ (fetches f ∙ a .at .given .1)
+
+returns-3 : tie.Need-returns-3
+returns-3 c = let f = c .before .before in decide-missing _ _ (ranged f) (fetches f ∙ c .enum-told .given .1)
+
+returns-4 : tie.Need-returns-4
+returns-4 c = let f = c .before .before in decide-damaged _ _ (ranged f) (fetches f ∙ c .enum-told2 .given .1)
+
+pub decide-spec : {M : Type 1} → statement M
+decide-spec =
+    tie.close
+    (tie.spec
+    (λ c κs. search needs)
+    returns
+    (λ c κs. search needs)
+    (λ c κs. search needs)
+    (λ c. search needs)
+    judge-requires
+    (λ c. search needs)
+    (λ c. search needs)
+    returns-2
+    returns-3
+    returns-4)

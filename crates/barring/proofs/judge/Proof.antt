@@ -1,0 +1,35 @@
+-- The body is read, and the rule is applied to its record. Assumes nothing.
+use mathlib.Core.Path.{_≡_, ap, _∙_}
+use Prim.Native.Nat.{ℕ}
+use lib.ListN.{take, drop}
+use Rattle.bits.specs.Frame.{bytesFor}
+use Rattle.reader.specs.Read.{readIs}
+use native.Mathlib.Nat.{add-sub-cancel-left}
+use borrow.Author.Needs.{needs}
+use Rattle.barring.proofs.judge.Statement.{statement}
+use Rattle.barring.proofs.judge.Tie as tie
+
+returns : tie.Need-returns
+returns c =
+    let h = c .before in
+    let r = h .before .before in
+    let b = r .before .before in
+    let a = b .before .before .args in
+    let body : r .read .result ≡ readIs (take (bytesFor (a .n .0)) (drop (a .at) (a .archive .now))) (a .n .0) =
+      r .read .ensures
+      ∙ ap (λ (k : ℕ). readIs (take k (drop (a .at) (a .archive .now))) (a .n .0)) (add-sub-cancel-left (a .at) (b .bytes .result) ∙ b .bytes .ensures) in
+    c .rule .ensures ∙ rw (h .home .ensures, body)
+
+pub judge-spec : {M : Type 1} → statement M
+judge-spec =
+    tie.close
+    (tie.spec
+    (λ c κs. search needs)
+    (λ c. search needs)
+    (λ c. search needs)
+    (λ c. search needs)
+    (λ c. search needs)
+    (λ c κs. search needs)
+    (λ c κs. search needs)
+    (λ c κs. search needs)
+    returns)

@@ -1,0 +1,16 @@
+-- The test is the definition's own. Assumes nothing.
+use borrow.Author.Tests.{eq-eqb, ne-eqb}
+use Rattle.barring.specs.Matching.{networkOf}
+use Rattle.barring.proofs.matching.network_of.Statement.{statement}
+use Rattle.barring.proofs.matching.network_of.Tie as tie
+
+returns : tie.Need-returns
+unfolding networkOf
+returns c = rw (eq-eqb _ _ (c .if1 .taken))
+
+returns-2 : tie.Need-returns-2
+unfolding networkOf
+returns-2 c = rw (ne-eqb _ _ (c .if1 .left))
+
+pub network-of-spec : {M : Type 1} → statement M
+network-of-spec = tie.close (tie.spec returns returns-2)

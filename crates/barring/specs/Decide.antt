@@ -1,0 +1,37 @@
+-- The decision: 9 for a request out of its range; then 7; otherwise what the held part that judges the destination says, or "not held".
+use Prim.Native.Nat.{ℕ}
+use mathlib.Core.List.{List}
+use mathlib.Core.Option.{Option, none, some}
+use lib.Dec.{eqb}
+use Rattle.bits.specs.Bits.{pick}
+use Rattle.reader.specs.Read.{readIs}
+use Rattle.archive.specs.Model.{Held, keyFor}
+use Rattle.archive.specs.Reading.{reading, isArchive}
+use Rattle.archive.specs.Restoring.{lookup}
+use Rattle.barring.specs.Request.{requestRefusal}
+use Rattle.barring.specs.Rule.{ruling}
+use Rattle.barring.specs.declared.request.Destination.{Destination}
+use Rattle.barring.specs.declared.request.Destination.the-variants.{Identity, Number}
+use Rattle.barring.specs.declared.request.Request.{Request}
+use Rattle.barring.specs.declared.Decision.{Decision}
+use Rattle.barring.specs.declared.Decision.the-variants.{NotHeld, Refused}
+
+-- an identity is judged by the user's identity part, an external number by the number part
+unfoldable pub partFor : Destination → ℕ
+partFor (Identity u) = 1
+partFor (Number length) = 2
+
+-- if that part isn't held, the answer is "not held"
+abbrev pub judgedBy : ℕ → Request → Option Held → Decision
+judgedBy home q none = NotHeld
+judgedBy home q (some h) = ruling home (readIs (h .body) (h .entry .bits .0) .found) q
+
+-- the part of the request's user that an archive holds
+abbrev pub partIn : List ℕ → Request → Option Held
+partIn b q = lookup (keyFor (q .user .network) (q .user .ssi) (partFor (q .destination))) (reading b .held)
+
+unfoldable pub decideIs : List ℕ → Request → Decision
+decideIs b q =
+    pick (eqb (requestRefusal q) 0)
+    (pick (isArchive b) (judgedBy (reading b .home) q (partIn b q)) (Refused 7))
+    (Refused (requestRefusal q))

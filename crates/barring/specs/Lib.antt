@@ -1,0 +1,8 @@
+pub mod Search
+pub mod Request
+pub mod Matching
+pub mod Rule
+pub mod Decision
+pub mod Decide
+pub mod Profiles
+pub mod Examples
