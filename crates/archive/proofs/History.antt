@@ -16,7 +16,7 @@ use Rattle.bits.specs.declared.BitCount.{BitCount}
 use Rattle.archive.specs.Model.{Held, Archive, keyFor, headerWidth, bytesOf}
 use Rattle.archive.specs.Filing.{names, keepsRules, wellFormed}
 use Rattle.archive.specs.Reading.{reading, isArchive}
-use Rattle.archive.specs.Keeping.{over, leaves, emptyOf, emptyIs, emptyOut, heldFor, captureOut}
+use Rattle.archive.specs.Keeping.{over, leaves, emptyOf, emptyIs, emptyOut, heldFor, captured, captureOut}
 use Rattle.archive.specs.Restoring.{inRange, lookup, delivered, bodyOf, restoreIs, restores, restoreOut}
 use Rattle.archive.specs.History.{Offer, keptOf, answerTo, after, afterAll, entryOf, latest, lastAccepted, givenOf, pduOf}
 use Rattle.archive.specs.declared.Archived.{Archived}
@@ -25,7 +25,7 @@ use Rattle.archive.specs.declared.Restored.the-variants as restored
 use Rattle.archive.proofs.Rules.{is-formed}
 use Rattle.archive.proofs.Writing.{length-written, read-as-written, passes}
 use Rattle.archive.proofs.Restoring.{as-delivered, restore-leaves}
-use Rattle.archive.proofs.Theorems.{new-archive, held-after}
+use Rattle.archive.proofs.Theorems.{new-archive, new-reads, held-after}
 
 -- ---- the empty archive
 
@@ -57,7 +57,7 @@ empty-holds home out m e =
 -- ---- one offer
 
 -- what is held is the last PDU accepted
-abbrev Matches : Option Held → Option Offer → Type 0
+abbrev pub Matches : Option Held → Option Offer → Type 0
 Matches none none = Unit {0}
 Matches (some h) (some o) = (h .body ≡ o .pdu) × (h .entry .bits ≡ record { 0 = o .bits })
 Matches none (some o) = ⊥
@@ -100,7 +100,36 @@ module _ (network ssi part : ℕ) (r : inRange network ssi part ≡ true) where
 
 -- ---- the history
 
--- from an empty archive, for any offers: what restoring gives, for any user and either part, is the last PDU accepted for them, or 11
+-- a capture keeps the home network
+same-home : (b : List ℕ) (o : Offer) → reading (after b o) .home ≡ reading b .home
+unfolding after captured
+same-home b o = go (answerTo b o) refl
+  where
+    go : (x : Archived) → answerTo b o ≡ x → reading (keptOf (answerTo b o) b (captureOut b (o .pdu) (o .bits) (o .lent))) .home ≡ reading b .home
+    go (Bytes n) e = rw e (ap (λ (a : Archive). a .home) (new-reads b (o .pdu) (o .bits) n (o .lent) e))
+    go (Refused k) e = rw e
+
+home-kept : (b : List ℕ) (os : List Offer) → reading (afterAll b os) .home ≡ reading b .home
+unfolding afterAll
+home-kept b [] = refl
+home-kept b (o ∷ os) = home-kept (after b o) os ∙ same-home b o
+
+-- from an empty archive, for any offers: what is held for a user and part is the last PDU accepted for them
+pub record Kept (home : ℕ) (b : List ℕ) (network ssi part : ℕ) (last : Option Offer) : Type 0 where
+  pub archive : isArchive b ≡ true
+  pub home-is : reading b .home ≡ home
+  pub held : Matches (lookup (keyFor network ssi part) (reading b .held)) last
+
+pub kept : (home : ℕ) (lent : List ℕ) (m : ℕ) → emptyIs home (length lent) ≡ Bytes m → (os : List Offer) (network ssi part : ℕ) → inRange network ssi part ≡ true
+    → Kept home (afterAll (take m (emptyOut home lent)) os) network ssi part (lastAccepted network ssi part (take m (emptyOut home lent)) none os)
+kept home lent m e os network ssi part r =
+    let start = take m (emptyOut home lent) in
+    let z = empty-holds home lent m e in
+    let none-held : Matches (heldIn network ssi part r start) none = subst (λ (a : Archive). Matches (lookup (keyFor network ssi part) (a .held)) none) (sym (z .1)) tt in
+    let s = steps network ssi part r start os none (z .0) none-held in
+    record { archive = s .0; home-is = home-kept start os ∙ ap (λ (a : Archive). a .home) (z .1); held = s .1 }
+
+-- and restoring gives it, or 11
 module _ (home : ℕ) (lent : List ℕ) (m : ℕ) (e : emptyIs home (length lent) ≡ Bytes m) (os : List Offer) (network ssi part : ℕ) (r : inRange network ssi part ≡ true) (out : List ℕ) where
   abbrev pub start : List ℕ
   start = take m (emptyOut home lent)
@@ -111,11 +140,9 @@ module _ (home : ℕ) (lent : List ℕ) (m : ℕ) (e : emptyIs home (length lent
   pub history : (restoreIs (afterAll start os) network ssi part (length out) ≡ givenOf last (length out))
       × (restoreOut (afterAll start os) network ssi part out ≡ restores (givenOf last (length out)) (pduOf last) out)
   history =
-      let z = empty-holds home lent m e in
-      let none-held : Matches (heldIn network ssi part r start) none = subst (λ (a : Archive). Matches (lookup (keyFor network ssi part) (a .held)) none) (sym (z .1)) tt in
-      let s = steps network ssi part r start os none (z .0) none-held in
-      let g = gives network ssi part r (heldIn network ssi part r (afterAll start os)) last (length out) (s .1) in
-      let x = as-delivered (afterAll start os) network ssi part (length out) r (s .0) ∙ g .0 in
+      let k = kept home lent m e os network ssi part r in
+      let g = gives network ssi part r (heldIn network ssi part r (afterAll start os)) last (length out) (k .held) in
+      let x = as-delivered (afterAll start os) network ssi part (length out) r (k .archive) ∙ g .0 in
       (x, restore-leaves (afterAll start os) network ssi part out x ∙ ap (λ (w : List ℕ). restores (givenOf last (length out)) w out) (g .1))
 
   -- none was accepted for them: 11, and no byte changed
