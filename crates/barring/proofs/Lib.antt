@@ -3,3 +3,4 @@ pub mod Answers
 pub mod Arrays
 pub mod Rules
 pub mod Decided
+pub mod History

@@ -1,0 +1,57 @@
+-- Demand 3, second half: whatever was offered, the decision is the barring rule applied to the last PDU accepted for the user and part,
+-- or "not held". Assumes nothing.
+use mathlib.Core.Path.{_≡_, refl, ap, ap₂, _∙_}
+use mathlib.Core.Bool.{true}
+use mathlib.Core.List.{List}
+use mathlib.Core.Option.{Option, none, some}
+use Prim.Native.Nat.{ℕ}
+use native.Mathlib.Omega.{arith}
+use lib.ListN.{length, take}
+use Rattle.bits.specs.declared.BitCount.{BitCount}
+use Rattle.reader.specs.Read.{readIs}
+use Rattle.archive.specs.Model.{Held}
+use Rattle.archive.specs.Reading.{reading, isArchive}
+use Rattle.archive.specs.Keeping.{emptyIs, emptyOut}
+use Rattle.archive.specs.History.{Offer, afterAll, lastAccepted}
+use Rattle.archive.specs.declared.Archived.the-variants.{Bytes}
+use Rattle.archive.proofs.History.{Matches, Kept, kept}
+use Rattle.barring.specs.Request.{requestRefusal}
+use Rattle.barring.specs.Rule.{ruling}
+use Rattle.barring.specs.Decide.{partFor, judgedBy, partIn, decideIs}
+use Rattle.barring.specs.declared.request.Request.{Request}
+use Rattle.barring.specs.declared.Decision.{Decision}
+use Rattle.barring.specs.declared.Decision.the-variants.{Allowed, NotHeld}
+use Rattle.barring.proofs.Decided.{request-ranged, decide-held}
+
+-- what the last PDU accepted says of the call
+abbrev pub saidBy : ℕ → Request → Option Offer → Decision
+saidBy home q none = NotHeld
+saidBy home q (some o) = ruling home (readIs (o .pdu) (o .bits) .found) q
+
+matched : (home : ℕ) (q : Request) (l : Option Held) (last : Option Offer) → Matches l last → judgedBy home q l ≡ saidBy home q last
+matched home q none none m = refl
+matched home q (some h) (some o) m = ap₂ (λ (s : List ℕ) (n : BitCount). ruling home (readIs s (n .0) .found) q) (m .0) (m .1)
+matched home q none (some o) m = absurd m
+matched home q (some h) none m = absurd m
+
+-- from an empty archive, for any offers and every well-formed request
+module _ (home : ℕ) (lent : List ℕ) (m : ℕ) (e : emptyIs home (length lent) ≡ Bytes m) (os : List Offer) (q : Request) (f : requestRefusal q ≡ 0) where
+  abbrev pub start : List ℕ
+  start = take m (emptyOut home lent)
+
+  abbrev pub last : Option Offer
+  last = lastAccepted (q .user .network) (q .user .ssi) (partFor (q .destination)) start none os
+
+  pub decided : decideIs (afterAll start os) q ≡ saidBy home q last
+  decided =
+      let k = kept home lent m e os (q .user .network) (q .user .ssi) (partFor (q .destination)) (request-ranged q f) in
+      decide-held (afterAll start os) q f (k .archive)
+      ∙ ap (λ (h : ℕ). judgedBy h q (partIn (afterAll start os) q)) (k .home-is)
+      ∙ matched home q (partIn (afterAll start os) q) last (k .held)
+
+-- a part that is not held never allows a call
+pub not-held-not-allowed : (b : List ℕ) (q : Request) → requestRefusal q ≡ 0 → isArchive b ≡ true → partIn b q ≡ none → decideIs b q ≡ Allowed → ⊥
+not-held-not-allowed b q f a h x =
+    let y : decideIs b q ≡ NotHeld = decide-held b q f a ∙ ap (judgedBy (reading b .home) q) h in
+    let z : _≡_ {A = ℕ} 0 1 = cc in
+    omega arith
