@@ -22,6 +22,7 @@ kept : {A : Type 0} {c : Codec A} {a : A} {s t : List ℕ} {at m : ℕ} → at +
 kept {c} {a} {s} {t} {at} h p =
     omega (arith, length-bits s, length-bits t, ap length (p .there), length-splice (bits s) at (c .print a) (omega (arith, length-bits s)))
 
+-- a whole of two parts, put as they are
 pub join : {A B C : Type 0} {c : Codec A} {d : Codec B} {e : Codec C} {a : A} {b : B} {x : C} {s t u : List ℕ} {at m n : ℕ}
     → e .print x ≡ c .print a ++ d .print b → Room e x s at → Puts c a s t at m → Puts d b t u m n → Puts e x s u at n
 join {c} {d} {a} {b} {s} {t} {at} same h p q = record {
@@ -31,6 +32,7 @@ join {c} {d} {a} {b} {s} {t} {at} same h p q = record {
   next = omega (arith, p .next, q .next, ap length same, length-append (c .print a) (d .print b));
 }
 
+-- room for the first of them
 pub left : {A B C : Type 0} {c : Codec A} (d : Codec B) {e : Codec C} {a : A} (b : B) {x : C} {s : List ℕ} {at : ℕ}
     → e .print x ≡ c .print a ++ d .print b → Room e x s at → Room c a s at
 left {c} d {a} b same h = record {
@@ -38,6 +40,7 @@ left {c} d {a} b same h = record {
   fits = omega (arith, h .fits, ap length same, length-append (c .print a) (d .print b));
 }
 
+-- and after it for the second
 pub right : {A B C : Type 0} {c : Codec A} {d : Codec B} {e : Codec C} {a : A} {b : B} {x : C} {s t : List ℕ} {at m : ℕ}
     → e .print x ≡ c .print a ++ d .print b → Room e x s at → Puts c a s t at m → Room d b t m
 right {c} {d} {a} {b} {s} {at} same h p =

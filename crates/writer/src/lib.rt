@@ -56,7 +56,7 @@ fn checked(r: Record, room: usize) -> Written
     Written::Refused(refusal)
 }
 
-// 8, unless so many bytes hold the PDU.
+// 8 for a buffer that has not the bytes which hold a PDU of this length.
 fn room_refusal(room: usize, length: BitCount) -> u32
     ensures { λ r. ⌜ r ≡ pick (leb (bytesFor (length .0)) room) 0 8 ⌝ }
 {

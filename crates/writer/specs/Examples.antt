@@ -1,0 +1,57 @@
+-- Writing worked out by antt: profile A and the INTERROGATE of document 01's P13 and P14, and the order of refusals.
+use mathlib.Core.Path.{_≡_, refl}
+use mathlib.Core.List.{[], _∷_}
+use lib.ListN.{replicate}
+use Rattle.bits.specs.Frame.{bytesOf, pack}
+use Rattle.grammar.specs.Grammar.{grammar, zeroIdentity}
+use Rattle.writer.specs.Write.{recordRefusal, writeRefusal, writeIs, outIs}
+use Rattle.grammar.specs.Examples.{user, noList, noNumbers, asking, profileA}
+use Rattle.grammar.specs.declared.record.Numbers.{Numbers}
+use Rattle.grammar.specs.declared.record.Record.{Record}
+use Rattle.writer.specs.declared.Written.the-variants.{Bits, Refused}
+
+-- `unfolding writing` opens all of it
+unfoldable writing : Unit {0}
+unfolding grammar recordRefusal writeRefusal writeIs outIs pack bytesOf
+writing = tt
+
+-- 138 bits in 18 bytes, the six unused bits zero; the bytes after them stay
+a-bytes : outIs profileA (replicate 20 0xff) ≡
+    0x49 ∷ 0x82 ∷ 0x00 ∷ 0x00 ∷ 0x0a ∷ 0x21 ∷ 0x21 ∷ 0x20 ∷ 0x00 ∷ 0x0c ∷ 0x80 ∷ 0x00 ∷ 0x0c ∷ 0x70 ∷ 0x80 ∷ 0x00 ∷ 0x4b ∷ 0x00 ∷ 0xff ∷ 0xff ∷ []
+unfolding writing
+a-bytes = refl
+
+asking-bytes : outIs asking (replicate 6 0xff) ≡ 0x49 ∷ 0x62 ∷ 0x00 ∷ 0x00 ∷ 0x0a ∷ 0x40 ∷ []
+unfolding writing
+asking-bytes = refl
+
+a-length : writeIs profileA (replicate 18 0) ≡ Bits (record { 0 = 138 })
+unfolding writing
+a-length = refl
+
+-- 8 where the buffer is a byte short
+short : writeIs profileA (replicate 17 0) ≡ Refused 8
+unfolding writing
+short = refl
+
+-- an ACK for a reversed range of users, with a list of numbers that an identity part does not carry
+abbrev reversed : Numbers → Record
+reversed excepted = record {
+  kind = 12;
+  affected = record { code = 9; entries = user 200 ∷ user 199 ∷ replicate 6 zeroIdentity };
+  asked = 0;
+  result = 1;
+  delivery = 0;
+  services = record { count = 1; list = 1 ∷ replicate 6 0 };
+  lists = record { groups = noList; restricted = noList; exceptions = noList; numbers = noNumbers; excepted = excepted };
+}
+
+-- 4, before 8
+ends : writeIs (reversed noNumbers) [] ≡ Refused 4
+unfolding writing
+ends = refl
+
+-- what must be zero and is not gives 3, before the 4 of an earlier element
+stray : writeIs (reversed (record { code = 1; entries = noNumbers .entries })) [] ≡ Refused 3
+unfolding writing
+stray = refl
