@@ -1,10 +1,14 @@
 -- The 32-byte example of document 01: profile A captured at home network 1.
 use mathlib.Core.Path.{_≡_, refl}
 use mathlib.Core.List.{List, [], _∷_}
+use mathlib.Core.Option.{none, some}
 use Prim.Native.Nat.{ℕ}
 use lib.ListN.{length}
-use Rattle.archive.specs.Model.{Archive, headerBytes, entryBytes, bytesOf, lengthOf}
-use Rattle.archive.specs.Reading.{heldFrom, reading}
+use Rattle.archive.specs.Model.{Held, Archive, keyFor, headerBytes, entryBytes, bytesOf, lengthOf}
+use Rattle.archive.specs.Reading.{heldFrom, bodiesAt, reading}
+use Rattle.archive.specs.Keeping.{emptyOf, with}
+use Rattle.archive.specs.Restoring.{bodyFrom, lookup}
+use Rattle.archive.specs.declared.Fetched.the-variants.{Body}
 
 -- profile A as a PDU of 138 bits
 abbrev pub profileA : List ℕ
@@ -12,11 +16,11 @@ profileA =
     0x49 ∷ 0x82 ∷ 0x00 ∷ 0x00 ∷ 0x0a ∷ 0x21 ∷ 0x21 ∷ 0x20 ∷ 0x00 ∷ 0x0c ∷ 0x80 ∷ 0x00 ∷ 0x0c ∷ 0x70 ∷ 0x80 ∷ 0x00 ∷ 0x4b ∷ 0x00 ∷ []
 
 -- held for user 1/5, part 1
+abbrev pub heldA : Held
+heldA = record { entry = record { network = 1; ssi = 5; part = 1; bits = record { 0 = 138 } }; body = profileA }
+
 abbrev pub holdingA : Archive
-holdingA = record {
-  home = 1;
-  held = record { entry = record { network = 1; ssi = 5; part = 1; bits = record { 0 = 138 } }; body = profileA } ∷ [];
-}
+holdingA = record { home = 1; held = heldA ∷ [] }
 
 abbrev pub bytesA : List ℕ
 bytesA = 0x00 ∷ 0x00 ∷ 0x01 ∷ 0x00 ∷ 0x01 ∷ 0x00 ∷ 0x00 ∷ 0x01 ∷ 0x00 ∷ 0x00 ∷ 0x05 ∷ 0x01 ∷ 0x00 ∷ 0x8a ∷ profileA
@@ -34,3 +38,21 @@ length-a = refl
 
 as-long : lengthOf holdingA ≡ 32
 as-long = refl
+
+-- captured into the empty archive, and once more: the same bytes
+captured-a : with (emptyOf 1) heldA ≡ holdingA
+captured-a = refl
+
+captured-again : with holdingA heldA ≡ holdingA
+captured-again = refl
+
+-- held for its user and part, and for no other part
+found-a : lookup (keyFor 1 5 1) (holdingA .held) ≡ some heldA
+found-a = refl
+
+other-part : lookup (keyFor 1 5 2) (holdingA .held) ≡ none
+other-part = refl
+
+-- its body begins after the header and the one entry
+place-a : bodyFrom (keyFor 1 5 1) (bodiesAt bytesA) (holdingA .held) ≡ Body 14 (record { 0 = 138 })
+place-a = refl

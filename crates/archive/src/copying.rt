@@ -39,9 +39,9 @@ fn write_front(archive: &[u8], at: usize, count: usize, entry: Entry, out: &mut 
 {
     let header = contents::header_bytes(contents::home(archive), count);
     let row = contents::entry_bytes(entry);
-    let contents = append(out, 0, &header);
-    let place = append(out, contents, &archive[HEADER..at]);
-    append(out, place, &row)
+    let contents_at = append(out, 0, &header);
+    let entry_at = append(out, contents_at, &archive[HEADER..at]);
+    append(out, entry_at, &row)
 }
 
 // Writes the contents after a place with the bodies before it, a new body, and the bodies after it.
