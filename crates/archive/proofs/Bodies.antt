@@ -15,7 +15,8 @@ use Rattle.reader.specs.declared.Answer.the-variants.{Accepted, Refused}
 use Rattle.reader.specs.declared.Reading.{Reading}
 use Rattle.pdu.proofs.Accepted.{accepted-framed, accepted-small}
 use Rattle.archive.specs.Model.{Held, bodySize}
-use Rattle.archive.specs.Filing.{mayHold, networkOf, entryFor, filingOf, isAccepted, agrees, bodyAgrees}
+use Rattle.grammar.specs.Grammar.{networkOf}
+use Rattle.archive.specs.Filing.{mayHold, entryFor, filingOf, isAccepted, agrees, bodyAgrees}
 use Rattle.archive.specs.Seeking.{EntryFits}
 use Rattle.archive.specs.declared.contents.Entry.{Entry}
 use Rattle.archive.specs.declared.filing.Filing.{Filing}

@@ -3,11 +3,17 @@ use mathlib.Core.Path.{_≡_, refl}
 use mathlib.Core.List.{List, [], _∷_}
 use mathlib.Core.Option.{none, some}
 use Prim.Native.Nat.{ℕ}
-use lib.ListN.{length}
+use lib.ListN.{length, replicate}
+use Rattle.bits.specs.Bits.{bits}
+use Rattle.bits.specs.Frame.{framed}
+use Rattle.grammar.specs.Grammar.{grammar, networkOf}
+use Rattle.reader.specs.Read.{readIs}
 use Rattle.archive.specs.Model.{Held, Archive, keyFor, headerBytes, entryBytes, bytesOf, lengthOf}
-use Rattle.archive.specs.Reading.{heldFrom, bodiesAt, reading}
-use Rattle.archive.specs.Keeping.{emptyOf, with}
+use Rattle.archive.specs.Reading.{heldFrom, bodiesAt, reading, isArchive}
+use Rattle.archive.specs.Keeping.{emptyOf, emptyIs, emptyOut, with, captured, placed, captureIs, captureOut}
+use Rattle.archive.specs.Filing.{wellFormed, keepsRules}
 use Rattle.archive.specs.Restoring.{bodyFrom, lookup}
+use Rattle.archive.specs.declared.Archived.the-variants.{Bytes}
 use Rattle.archive.specs.declared.Fetched.the-variants.{Body}
 
 -- profile A as a PDU of 138 bits
@@ -56,3 +62,24 @@ other-part = refl
 -- its body begins after the header and the one entry
 place-a : bodyFrom (keyFor 1 5 1) (bodiesAt bytesA) (holdingA .held) ≡ Body 14 (record { 0 = 138 })
 place-a = refl
+
+-- ---- the calls themselves
+
+-- `unfolding calls` opens all of them, down to the PDU's bits
+unfoldable pub calls : Unit {0}
+unfolding grammar readIs framed bits emptyIs emptyOut captureIs captureOut captured placed isArchive reading heldFrom wellFormed keepsRules headerBytes entryBytes networkOf
+calls = tt
+
+-- an empty archive of home network 1; the bytes after it stay
+empty-1 : emptyOut 1 (replicate 6 0xff) ≡ 0x00 ∷ 0x00 ∷ 0x01 ∷ 0x00 ∷ 0x00 ∷ 0xff ∷ []
+unfolding calls
+empty-1 = refl
+
+-- capturing A into it writes the 32 bytes
+capture-a : captureIs (0x00 ∷ 0x00 ∷ 0x01 ∷ 0x00 ∷ 0x00 ∷ []) profileA 138 32 ≡ Bytes 32
+unfolding calls
+capture-a = refl
+
+capture-a-out : captureOut (0x00 ∷ 0x00 ∷ 0x01 ∷ 0x00 ∷ 0x00 ∷ []) profileA 138 (replicate 32 0xff) ≡ bytesA
+unfolding calls
+capture-a-out = refl

@@ -5,7 +5,7 @@ use Prim.Native.Nat.{ℕ}
 use lib.ListN.{length, getD}
 use lib.Dec.{ltb, leb, eqb}
 use Rattle.bits.specs.Bits.{pick}
-use Rattle.grammar.specs.Grammar.{zeroIdentity}
+use Rattle.grammar.specs.Grammar.{zeroIdentity, networkOf}
 use Rattle.reader.specs.Read.{readIs}
 use Rattle.grammar.specs.declared.record.Identity.{Identity}
 use Rattle.grammar.specs.declared.record.Record.{Record}
@@ -24,11 +24,7 @@ mayHold r = eqb (r .kind) 12 && (leb 1 (r .result) && (leb (r .result) 2 && eqb 
 abbrev pub userOf : Record → Identity
 userOf r = getD (r .affected .entries) 0 zeroIdentity
 
--- a user's network is the extension if present, otherwise the home network
-unfoldable pub networkOf : ℕ → Identity → ℕ
-networkOf home user = pick (eqb (user .present) 1) (user .extension) home
-
--- results 1 and 2 are parts 1 and 2: identities, numbers
+-- a user's network is the extension if present, otherwise the home network; results 1 and 2 are parts 1 and 2: identities, numbers
 abbrev pub entryFor : ℕ → Record → ℕ → Entry
 entryFor home r n = record { network = networkOf home (userOf r); ssi = userOf r .ssi; part = r .result; bits = record { 0 = n } }
 

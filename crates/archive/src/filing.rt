@@ -1,27 +1,16 @@
 // Which PDUs an archive may hold, under which entry, and whether a body agrees with its entry.
 use crate::contents::Entry;
 use bits::BitCount;
-use grammar::record::Identity;
 use grammar::record::Record;
+use grammar::site::network_of;
 use pdu::Answer;
 ghost use mathlib.Core.Path.{_≡_};
-ghost use Rattle.archive.specs.Filing.{networkOf, filingOf, bodyAgrees};
+ghost use Rattle.archive.specs.Filing.{filingOf, bodyAgrees};
 
 // The entry under which a PDU is filed; nowhere if no archive entry may hold it.
 pub enum Filing {
     Under(Entry),
     Nowhere,
-}
-
-// A user's network: the extension if present, otherwise the home network.
-pub fn network_of(home: u32, user: Identity) -> u32
-    ensures { λ r. ⌜ r ≡ networkOf home user ⌝ }
-{
-    if user.present == 1 {
-        user.extension
-    } else {
-        home
-    }
 }
 
 // Only an accepting INTERROGATE ACK for one user is filed.

@@ -6,7 +6,7 @@ use lib.ListN.{take, getD}
 use lib.Dec.{eqb, leb}
 use Rattle.bits.specs.Bits.{pick}
 use Rattle.grammar.specs.SiteSheet.{rangeType, entriesOf}
-use Rattle.grammar.specs.Grammar.{zeroIdentity}
+use Rattle.grammar.specs.Grammar.{zeroIdentity, networkOf}
 use Rattle.grammar.specs.declared.site.RangeType.{RangeType}
 use Rattle.grammar.specs.declared.site.RangeType.the-variants.{Empty, Single, FirstAndLast, NoRangeType}
 use Rattle.grammar.specs.declared.record.Identity.{Identity}
@@ -18,10 +18,6 @@ use Rattle.barring.specs.Search.{some}
 use Rattle.barring.specs.declared.request.User.{User}
 
 -- ---- identities
-
--- the network of an entry: its extension if that is present
-unfoldable pub networkOf : ℕ → Identity → ℕ
-networkOf missing e = pick (eqb (e .present) 1) (e .extension) missing
 
 -- a single entry is this user
 unfoldable pub isEntry : ℕ → User → Identity → Bool

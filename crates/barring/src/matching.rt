@@ -7,23 +7,17 @@ use grammar::record::Identity;
 use grammar::record::Numbers;
 use grammar::record::Services;
 use grammar::site::RangeType;
+use grammar::site::network_of;
 ghost use mathlib.Core.Path.{_≡_};
 ghost use lib.ListN.{take};
 ghost use Rattle.barring.specs.Search.{some};
-ghost use Rattle.barring.specs.Matching.{networkOf, isEntry, inRange, identityAmong, numberAmong, isCovering, covered};
-
-// The network of an entry: its extension if that is present.
-pub(crate) fn network_of(e: Identity, missing: u32) -> u32
-    ensures { λ r. ⌜ r ≡ networkOf missing e ⌝ }
-{
-    if e.present == 1 { e.extension } else { missing }
-}
+ghost use Rattle.barring.specs.Matching.{isEntry, inRange, identityAmong, numberAmong, isCovering, covered};
 
 // A single entry is this user.
 pub(crate) fn is_entry(e: Identity, missing: u32, u: User) -> bool
     ensures { λ r. ⌜ r ≡ isEntry missing u e ⌝ }
 {
-    if network_of(e, missing) != u.network {
+    if network_of(missing, e) != u.network {
         return false;
     }
     e.ssi == u.ssi
@@ -33,7 +27,7 @@ pub(crate) fn is_entry(e: Identity, missing: u32, u: User) -> bool
 pub(crate) fn in_range(first: Identity, last: Identity, missing: u32, u: User) -> bool
     ensures { λ r. ⌜ r ≡ inRange missing u first last ⌝ }
 {
-    if network_of(first, missing) != u.network {
+    if network_of(missing, first) != u.network {
         return false;
     }
     if u.ssi < first.ssi {

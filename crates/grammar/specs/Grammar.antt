@@ -47,6 +47,10 @@ noIdentity = shaped (do absent; absent; absent) toIdentity fromIdentity (λ a c 
 abbrev pub zeroIdentity : Identity
 zeroIdentity = record { ssi = 0; present = 0; extension = 0 }
 
+-- the network of an identity: its extension if that is present, otherwise the one that a missing extension means
+unfoldable pub networkOf : ℕ → Identity → ℕ
+networkOf missing e = pick (eqb (e .present) 1) (e .extension) missing
+
 -- ---- a list of identities: its range type, and as many entries as that says
 
 -- the two ends of a range have the same present bit and extension, and are not reversed; otherwise 4

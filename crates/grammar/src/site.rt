@@ -3,7 +3,7 @@ ghost use mathlib.Core.Path.{_≡_};
 ghost use Prim.Native.Nat.{_<_};
 ghost use Rattle.codec.specs.Parts.{only};
 ghost use Rattle.grammar.specs.SiteSheet.{rangeType, rowOf, entriesOf, rangeRefusal, ssType, digitOf, digitRefusal, serviceOf, serviceRefusal, kindRefusal, resultRefusal, between};
-ghost use Rattle.grammar.specs.Grammar.{endsRefusal};
+ghost use Rattle.grammar.specs.Grammar.{endsRefusal, networkOf};
 use crate::record::Identity;
 
 // The SS type of BOC: a stand-in until EN 300 392-9 is supplied.
@@ -262,4 +262,11 @@ pub fn ends_refusal(first: Identity, last: Identity) -> u32
         return 4;
     }
     0
+}
+
+// The network of an identity: its extension if that is present, otherwise `missing`, the one that a missing extension means.
+pub fn network_of(missing: u32, e: Identity) -> u32
+    ensures { λ r. ⌜ r ≡ networkOf missing e ⌝ }
+{
+    if e.present == 1 { e.extension } else { missing }
 }

@@ -2,7 +2,8 @@
 use mathlib.Core.Path.{_≡_}
 use borrow.Author.Needs.{needs}
 use borrow.Author.Tests.{eq-eqb, ne-eqb}
-use Rattle.barring.specs.Matching.{networkOf, isEntry}
+use Rattle.grammar.specs.Grammar.{networkOf}
+use Rattle.barring.specs.Matching.{isEntry}
 use Rattle.barring.proofs.matching.is_entry.Statement.{statement}
 use Rattle.barring.proofs.matching.is_entry.Tie as tie
 

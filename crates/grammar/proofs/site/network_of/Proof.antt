@@ -1,8 +1,8 @@
--- The test is the definition's own. Assumes nothing.
+-- The test on the present bit is the definition's own. Assumes nothing.
 use borrow.Author.Tests.{eq-eqb, ne-eqb}
-use Rattle.barring.specs.Matching.{networkOf}
-use Rattle.barring.proofs.matching.network_of.Statement.{statement}
-use Rattle.barring.proofs.matching.network_of.Tie as tie
+use Rattle.grammar.specs.Grammar.{networkOf}
+use Rattle.grammar.proofs.site.network_of.Statement.{statement}
+use Rattle.grammar.proofs.site.network_of.Tie as tie
 
 returns : tie.Need-returns
 unfolding networkOf
