@@ -1,5 +1,5 @@
 -- What document 01 calls the answers of a decision.
-use Prim.Native.Nat.{ℕ, _+_}
+use Prim.Native.Nat.{ℕ}
 use Rattle.barring.specs.declared.Decision.{Decision}
 use Rattle.barring.specs.declared.Decision.the-variants.{Allowed, Barred, NotHeld, Refused}
 
@@ -10,9 +10,9 @@ refusalOf (Barred cause) = 0
 refusalOf NotHeld = 0
 refusalOf (Refused n) = n
 
--- the decision as a number: 0 allowed, 1 to 3 barred with cause 0 to 2 (table 38), 4 not held; 0 beside a refusal
+-- the decision as a number: 0 to 2 barred with that cause (table 38), 3 allowed, 4 not held; 0 beside a refusal
 abbrev pub verdictOf : Decision → ℕ
-verdictOf Allowed = 0
-verdictOf (Barred cause) = 1 + cause
+verdictOf Allowed = 3
+verdictOf (Barred cause) = cause
 verdictOf NotHeld = 4
 verdictOf (Refused n) = 0

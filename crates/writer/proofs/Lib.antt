@@ -1,4 +1,3 @@
-pub mod Faults
 pub mod Fills
 pub mod Puts
 pub mod PutsPlaces

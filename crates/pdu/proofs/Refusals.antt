@@ -1,5 +1,5 @@
--- What is refused in writing: a fault of a record whose PDU type we read is 3 or 4. Assumes nothing.
-use mathlib.Core.Path.{_≡_, sym, subst}
+-- What is refused in writing: 3 or 4, before the buffer is looked at. Assumes nothing.
+use mathlib.Core.Path.{_≡_, refl, sym, subst}
 use mathlib.Core.Bool.{Bool, true, false, _&&_}
 use mathlib.Core.List.{List, [], _∷_}
 use Prim.Native.Nat.{ℕ, zero, suc, _^_}
@@ -7,10 +7,11 @@ use lib.ListN.{getD}
 use lib.Dec.{ltb, leb, eqb}
 use Rattle.bits.specs.Bits.{pick}
 use Rattle.codec.specs.Codec.{Codec, first}
-use Rattle.codec.specs.Parts.{number, absent, element, seq, tested, shaped, mark}
+use Rattle.codec.specs.Parts.{both, isZero, is-zero, number, absent, element, seq, tested, shaped, mark}
 use Rattle.codec.specs.Places.{nil, cons, places}
 use Rattle.grammar.specs.SiteSheet.{ssType, rangeType, refusalIn, rangeRefusal, digitOf, refusalOfDigit, digitRefusal, serviceOf, refusalOfService, serviceRefusal, kindRefusal, resultRefusal, between, entriesOf}
 use Rattle.grammar.specs.Grammar.{extension, identity, noIdentity, zeroIdentity, endsRefusal, rangeEnds, identities, noIdentities, external, noExternal, externals, noExternals, services, noServices, identityPart, numberPart, noPart, partOf, interrogate, interrogateAck, restOf, fromRecord, pdu}
+use Rattle.writer.specs.Write.{recordRefusal}
 use Rattle.grammar.specs.declared.site.RangeType.{RangeType}
 use Rattle.grammar.specs.declared.site.RangeType.the-variants.{Empty, Single, FirstAndLast, NoRangeType}
 use Rattle.grammar.specs.declared.site.Listing.{Listing}
@@ -214,3 +215,12 @@ pdu-fault r e =
     firstly (firstly (faults-number 6 .fault ssType) none)
     (firstly (firstly (faults-number 5 .fault (r .kind)) (subst ThreeOrFour (sym e) none))
     (firstly (faults-identities of.Users .fault (r .affected)) (faults-rest (r .kind) .fault (fromRecord r .1 .1))))
+
+-- a record is refused with 3 or 4, and nothing else
+pub refused-with : (r : Record) → ThreeOrFour (recordRefusal r)
+unfolding recordRefusal
+refused-with r = go (isZero (kindRefusal (r .kind)) && pdu .clean r) refl
+  where
+    go : (t : Bool) → isZero (kindRefusal (r .kind)) && pdu .clean r ≡ t → ThreeOrFour (pick t (pdu .fault r) 3)
+    go true e = pdu-fault r (is-zero (kindRefusal (r .kind)) (both (isZero (kindRefusal (r .kind))) (pdu .clean r) e .0))
+    go false e = three
