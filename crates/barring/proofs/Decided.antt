@@ -2,17 +2,15 @@
 use mathlib.Core.Path.{_≡_, refl, sym, ap, ap₂, _∙_, subst}
 use mathlib.Core.Bool.{Bool, true, false, _&&_}
 use mathlib.Core.List.{List}
-use mathlib.Core.Option.{Option, none, some}
 use Prim.Native.Nat.{ℕ, _+_, _≤_}
 use native.Mathlib.Omega.{arith}
 use lib.ListN.{length, take, drop}
-use lib.Dec.{eqb, leb, ltb}
+use lib.Dec.{leb, ltb}
 use Rattle.bits.specs.Bits.{pick}
 use Rattle.bits.specs.Frame.{bytesFor}
 use Rattle.bits.specs.declared.BitCount.{BitCount}
 use Rattle.codec.specs.Parts.{both}
 use Rattle.reader.specs.Read.{readIs}
-use Rattle.archive.specs.Model.{Held}
 use Rattle.archive.specs.Reading.{homeOf, reading, isArchive}
 use Rattle.archive.specs.Restoring.{inRange, fetchIs}
 use Rattle.archive.specs.declared.Fetched.{Fetched}
@@ -26,7 +24,6 @@ use Rattle.barring.specs.Decide.{partFor, judgedBy, partIn, decideIs}
 use Rattle.barring.specs.declared.request.Destination.{Destination}
 use Rattle.barring.specs.declared.request.Destination.the-variants.{Identity, Number}
 use Rattle.barring.specs.declared.request.Request.{Request}
-use Rattle.barring.specs.declared.Decision.{Decision}
 use Rattle.barring.specs.declared.Decision.the-variants.{NotHeld, Refused}
 
 user-first : (a b c d e f : Bool) → pick {A = ℕ} (a && b && c && d && e && f) 0 9 ≡ 0 → a ≡ true

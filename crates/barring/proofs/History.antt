@@ -14,7 +14,7 @@ use Rattle.archive.specs.Reading.{reading, isArchive}
 use Rattle.archive.specs.Keeping.{emptyIs, emptyOut}
 use Rattle.archive.specs.History.{Offer, afterAll, lastAccepted}
 use Rattle.archive.specs.declared.Archived.the-variants.{Bytes}
-use Rattle.archive.proofs.History.{Matches, Kept, kept}
+use Rattle.archive.proofs.History.{Matches, kept}
 use Rattle.barring.specs.Request.{requestRefusal}
 use Rattle.barring.specs.Rule.{ruling}
 use Rattle.barring.specs.Decide.{partFor, judgedBy, partIn, decideIs}

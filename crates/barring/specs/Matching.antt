@@ -4,7 +4,6 @@ use mathlib.Core.Bool.{Bool, true, false, _&&_, _||_}
 use mathlib.Core.List.{List, [], _∷_}
 use lib.ListN.{take, getD}
 use lib.Dec.{eqb, leb}
-use Rattle.bits.specs.Bits.{pick}
 use Rattle.grammar.specs.SiteSheet.{rangeType, entriesOf}
 use Rattle.grammar.specs.Grammar.{zeroIdentity, networkOf}
 use Rattle.grammar.specs.declared.site.RangeType.{RangeType}

@@ -1,5 +1,5 @@
 -- What the cursor takes and what put leaves, by cases. Assumes nothing.
-use mathlib.Core.Path.{_≡_, refl, sym, ap, _∙_}
+use mathlib.Core.Path.{_≡_, refl, ap, _∙_}
 use mathlib.Core.List.{List}
 use mathlib.Core.Bool.{Bool, true, false, _&&_}
 use Prim.Native.Nat.{ℕ, _+_, _*_, _≤_, _<_}
@@ -10,7 +10,6 @@ use lib.Dec.{leb}
 use Rattle.bits.specs.Bits.{pick, bits, value, bitsOf, splice}
 use Rattle.bits.specs.Frame.{bitsIn}
 use Rattle.bits.specs.Element.{elementAt, takeAt, hasRoom, putAt}
-use Rattle.bits.specs.declared.Taken.{Taken}
 use Rattle.bits.specs.declared.Taken.the-variants.{Element, Short}
 use Rattle.bits.proofs.Bytes.{length-bits, take-before}
 

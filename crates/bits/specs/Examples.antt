@@ -1,7 +1,7 @@
 -- Examples that antt computes. The bytes 49 82 begin profile A: SS type 18 in 6 bits, PDU type 12 in 5, range type 1 in 4.
 use mathlib.Core.Path.{_≡_, refl}
-use mathlib.Core.List.{List, [], _∷_}
-use mathlib.Core.Bool.{Bool, true, false}
+use mathlib.Core.List.{[], _∷_}
+use mathlib.Core.Bool.{true, false}
 use lib.ListN.{take, drop}
 use Rattle.bits.specs.Bits.{bits, bitsOf, value, splice}
 use Rattle.bits.specs.Frame.{framed}

@@ -1,6 +1,6 @@
 -- An example that antt computes: a length of 2 bits, 1 or more, and as many digits of 4 bits, below 13, in three places.
 use mathlib.Core.Path.{_≡_, refl}
-use mathlib.Core.Bool.{Bool, true, false}
+use mathlib.Core.Bool.{false}
 use mathlib.Core.List.{List, [], _∷_, _++_}
 use Prim.Native.Nat.{ℕ}
 use lib.Dec.{ltb}

@@ -7,7 +7,7 @@ use native.Mathlib.Nat.{add-assoc, add-zero}
 use native.Mathlib.Omega.{arith}
 use lib.ListN.{length, take, drop, length-append, take-append-drop}
 use lib.Seq.{take-at, drop-at, length-take-le}
-use lib.Dec.{ltb, leb, eqb}
+use lib.Dec.{ltb, eqb}
 use borrow.Author.Tests.{eqb-true, ltb-true, ltb-false, lt-ltb, le-ltb}
 use Rattle.bits.specs.Bits.{pick, value, bitsOf}
 use Rattle.bits.proofs.Numbers.{length-bitsOf, value-lt, value-of-bits, bits-of-value}

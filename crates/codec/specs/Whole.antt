@@ -1,7 +1,6 @@
 -- The whole of a PDU: nothing is left over.
 use mathlib.Core.List.{List}
 use mathlib.Core.Bool.{Bool}
-use Prim.Native.Nat.{ℕ}
 use Rattle.bits.specs.Bits.{pick}
 use Rattle.codec.specs.Codec.{Outcome, ok, no, andThen, Codec}
 use Rattle.codec.specs.Places.{isNil}

@@ -1,8 +1,8 @@
 -- Laws of the site sheet's codes and of the ends of a range. Assumes nothing.
-use mathlib.Core.Path.{_≡_, refl, ap, _∙_}
+use mathlib.Core.Path.{_≡_, refl}
 use mathlib.Core.Bool.{Bool, true, false, _&&_}
 use mathlib.Core.List.{[], _++_}
-use Prim.Native.Nat.{ℕ, _+_, _≤_, _<_}
+use Prim.Native.Nat.{ℕ, _+_, _≤_}
 use native.Mathlib.Omega.{arith}
 use borrow.Author.Tests.{leb-true}
 use lib.ListN.{length, length-append}
@@ -13,7 +13,6 @@ use Rattle.codec.specs.Parts.{number, absent, seq, shaped}
 use Rattle.grammar.specs.SiteSheet.{rangeType, rowOfType, rowOf, entriesOf, between}
 use Rattle.grammar.specs.Grammar.{extension, identity}
 use Rattle.grammar.specs.declared.record.Identity.{Identity}
-use Rattle.grammar.specs.declared.site.RangeType.{RangeType}
 use Rattle.grammar.specs.declared.site.RangeType.the-variants.{Empty, Single, FirstAndLast, NoRangeType}
 
 -- no range type has more than eight entries

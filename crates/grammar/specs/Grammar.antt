@@ -1,10 +1,10 @@
 -- What legal INTERROGATE and INTERROGATE ACK PDUs are, part by part: EN 300 392-12-18, tables 16 and 17, with the site sheet.
 -- Each part is a codec: it is written, read and judged by the same description.
-use mathlib.Core.Path.{_≡_, refl}
-use mathlib.Core.Bool.{Bool, _&&_}
-use mathlib.Core.List.{List, [], _∷_}
-use Prim.Native.Nat.{ℕ, zero, suc}
-use lib.ListN.{length, getD, replicate}
+use mathlib.Core.Path.{refl}
+use mathlib.Core.Bool.{_&&_}
+use mathlib.Core.List.{List, []}
+use Prim.Native.Nat.{ℕ}
+use lib.ListN.{length, getD}
 use lib.Dec.{leb, eqb}
 use Rattle.bits.specs.Bits.{pick, bitsOf, value}
 use Rattle.codec.specs.Codec.{Codec}

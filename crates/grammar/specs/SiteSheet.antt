@@ -1,6 +1,6 @@
 -- The codes: what each means, or that it is refused. The site sheet stands in for EN 300 392-9; tables are those of EN 300 392-12-18.
 use Prim.Native.Nat.{ℕ}
-use mathlib.Core.Bool.{Bool, true, false, _&&_}
+use mathlib.Core.Bool.{true, false, _&&_}
 use lib.Dec.{eqb, leb}
 use Rattle.bits.specs.Bits.{pick}
 use Rattle.grammar.specs.declared.site.RangeType.{RangeType}

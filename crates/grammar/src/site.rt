@@ -2,7 +2,7 @@
 ghost use mathlib.Core.Path.{_≡_};
 ghost use Prim.Native.Nat.{_<_};
 ghost use Rattle.codec.specs.Parts.{only};
-ghost use Rattle.grammar.specs.SiteSheet.{rangeType, rowOf, entriesOf, rangeRefusal, ssType, digitOf, digitRefusal, serviceOf, serviceRefusal, kindRefusal, resultRefusal, between};
+ghost use Rattle.grammar.specs.SiteSheet.{rangeType, rowOf, rangeRefusal, ssType, digitOf, digitRefusal, serviceOf, serviceRefusal, kindRefusal, resultRefusal, between};
 ghost use Rattle.grammar.specs.Grammar.{endsRefusal, networkOf};
 use crate::record::Identity;
 

@@ -1,5 +1,5 @@
 -- What is accepted is framed and legal, and the numbers of its first affected user have 24 bits. Assumes nothing.
-use mathlib.Core.Path.{_≡_, refl, sym, ap, _∙_}
+use mathlib.Core.Path.{_≡_, refl}
 use mathlib.Core.Bool.{Bool, true, false, _&&_}
 use mathlib.Core.List.{List, [], _∷_}
 use Prim.Native.Nat.{ℕ, zero, suc, _^_, _<_}
@@ -8,7 +8,7 @@ use lib.ListN.{getD}
 use lib.Dec.{ltb, eqb}
 use Rattle.bits.specs.Bits.{pick}
 use Rattle.bits.proofs.Frames.{Framed}
-use Rattle.codec.specs.Codec.{Codec, Legal, first}
+use Rattle.codec.specs.Codec.{Legal, first}
 use Rattle.codec.specs.Parts.{both, first-none, numberFault, narrow, number, isZero, is-zero, absent, seq, tested, element, shaped, mark, only}
 use Rattle.codec.specs.Places.{nil, cons, places}
 use Rattle.grammar.specs.SiteSheet.{ssType, entriesOf, rangeRefusal, kindRefusal}
@@ -18,7 +18,6 @@ use Rattle.grammar.specs.declared.record.Identity.{Identity}
 use Rattle.grammar.specs.declared.record.Record.{Record}
 use Rattle.reader.specs.Read.{readIs}
 use Rattle.reader.specs.declared.Answer.the-variants.{Accepted}
-use Rattle.reader.specs.declared.Reading.{Reading}
 use Rattle.pdu.proofs.RoundTrip as trip
 
 module _ (s : List ℕ) (n : ℕ) (e : readIs s n .answer ≡ Accepted) where

@@ -1,12 +1,12 @@
 -- Demand 2: exactly the writings of legal records are accepted, each as its one record; what was read is written as the same bits,
 -- and what was written is read as the same record. Assumes nothing.
-use mathlib.Core.Path.{_≡_, refl, sym, ap, ap₂, _∙_, subst}
+use mathlib.Core.Path.{_≡_, refl, sym, ap, ap₂, _∙_}
 use mathlib.Core.Logic.{_↔_}
 use mathlib.Core.Bool.{Bool, true, false, _&&_}
 use mathlib.Core.List.{List, [], _++_}
 use Prim.Native.Nat.{ℕ, zero, suc, _≤_}
 use native.Mathlib.Omega.{arith}
-use borrow.Author.Tests.{le-leb, leb-true}
+use borrow.Author.Tests.{le-leb}
 use lib.ListN.{length, take, drop}
 use lib.Seq.{take-at}
 use lib.Dec.{leb}
@@ -15,10 +15,10 @@ use Rattle.bits.specs.Frame.{bytesFor, bitsIn, framed, pack}
 use Rattle.bits.proofs.Bytes.{Bytes}
 use Rattle.bits.proofs.Frames.{Framed, framed-says, framed-is, framed-pack, length-bitsIn, length-pack, pack-bitsIn, bitsIn-pack}
 use Rattle.bits.specs.declared.BitCount.{BitCount}
-use Rattle.codec.specs.Codec.{Codec, Outcome, ok, no, Legal, first}
-use Rattle.codec.specs.Parts.{both, both⁻¹, first-none, numberFault, number, seq, tested, element, shaped, mark, only, isZero, is-zero}
+use Rattle.codec.specs.Codec.{Outcome, ok, no, Legal, first}
+use Rattle.codec.specs.Parts.{both, both⁻¹, first-none, numberFault, number, seq, tested, element, shaped, mark, only, isZero}
 use Rattle.codec.specs.Whole.{wholeParse}
-use Rattle.codec.proofs.Whole.{whole-reads, whole-sound, print-unique}
+use Rattle.codec.proofs.Whole.{whole-reads, whole-sound}
 use Rattle.grammar.specs.SiteSheet.{ssType, kindRefusal}
 use Rattle.grammar.specs.Grammar.{pdu, identities, restOf, fromRecord}
 use Rattle.grammar.specs.declared.site.Listing.the-variants.{Users}
@@ -28,7 +28,6 @@ use Rattle.reader.specs.Read.{refusing, answered, readIs}
 use Rattle.writer.specs.Write.{recordRefusal, lengthOf, writeRefusal, written, writeIs, outIs}
 use Rattle.reader.specs.declared.Answer.the-variants.{Accepted, Refused}
 use Rattle.reader.specs.declared.Reading.{Reading}
-use Rattle.writer.specs.declared.Written.{Written}
 use Rattle.writer.specs.declared.Written.the-variants.{Bits}
 
 -- a PDU that is accepted with a record

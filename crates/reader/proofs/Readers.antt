@@ -1,10 +1,9 @@
 -- What the answer of each reader says was read. Assumes nothing.
-use mathlib.Core.Path.{_≡_, refl, sym, ap, _∙_}
+use mathlib.Core.Path.{_≡_, sym, ap, _∙_}
 use mathlib.Core.List.{List}
 use Prim.Native.Nat.{ℕ}
 use lib.ListN.{replicate}
-use Rattle.codec.specs.Reading.{Answer, got, refused, reachedOf, valueOr}
-use Rattle.codec.specs.declared.Reached.{Reached}
+use Rattle.codec.specs.Reading.{Answer}
 use Rattle.codec.proofs.Reading.{placed, placed-answer}
 use Rattle.grammar.specs.Grammar.{zeroIdentity}
 use Rattle.grammar.specs.Zero.{zeroIdentities, zeroNumber, zeroNumbers, zeroServices, zeroLists, zeroRecord}

@@ -1,19 +1,15 @@
 -- Each part, step by step: what a reader in this order follows. Assumes nothing.
-use mathlib.Core.Path.{_≡_, refl, sym, ap, _∙_}
+use mathlib.Core.Path.{_≡_}
 use mathlib.Core.Bool.{Bool}
 use mathlib.Core.List.{List}
-use Prim.Native.Nat.{ℕ, _+_}
-use lib.ListN.{replicate}
-use lib.Dec.{eqb}
-use Rattle.bits.specs.Bits.{pick}
-use Rattle.codec.specs.Codec.{Codec}
-use Rattle.codec.specs.Parts.{number, absent, element, seq, tested, shaped, mark, only}
+use Prim.Native.Nat.{ℕ}
+use Rattle.codec.specs.Parts.{number, absent, element, tested, only}
 use Rattle.codec.specs.Places.{places}
-use Rattle.codec.specs.Reading.{Answer, got, refused, andNext, barring, readAt}
-use Rattle.codec.proofs.Reading.{andNext-assoc, readAt-seq, readAt-absent, readAt-shaped, readAt-tested, mark-at}
+use Rattle.codec.specs.Reading.{got, andNext, readAt}
+use Rattle.codec.proofs.Reading.{andNext-assoc, readAt-seq, readAt-absent, readAt-shaped, mark-at}
 use Rattle.codec.proofs.Filling.{places-rest}
 use Rattle.grammar.specs.SiteSheet.{ssType, entriesOf, rangeRefusal, digitRefusal, serviceRefusal, kindRefusal, resultRefusal, askedRefusal, countRefusal, lengthRefusal}
-use Rattle.grammar.specs.Grammar.{extension, identity, noIdentity, zeroIdentity, rangeEnds, secondEnd, identities, noIdentities, external, noExternal, externals, noExternals, services, noServices, identityPart, numberPart, noPart, partOf, interrogate, interrogateAck, restOf, pdu, toRecord}
+use Rattle.grammar.specs.Grammar.{extension, identity, noIdentity, zeroIdentity, rangeEnds, secondEnd, identities, noIdentities, external, noExternal, externals, noExternals, services, noServices, identityPart, numberPart, noPart, partOf, interrogate, interrogateAck, restOf, pdu}
 use Rattle.grammar.specs.Zero.{zeroIdentities, zeroNumber, zeroNumbers, zeroServices, zeroLists}
 use Rattle.reader.specs.Reader.{recordAt}
 use Rattle.grammar.specs.declared.record.Identities.{Identities}

@@ -1,5 +1,4 @@
 -- Reading a PDU: an accepted one and its record, or a refusal number.
-use mathlib.Core.Bool.{Bool}
 use mathlib.Core.List.{List}
 use Prim.Native.Nat.{ℕ}
 use Rattle.bits.specs.Bits.{pick}

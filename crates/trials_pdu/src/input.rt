@@ -1,6 +1,5 @@
 // Numbers and bytes of a line.
 ghost use Prim.Native.Nat.{_≤_, _<_};
-ghost use lib.ListN.{length};
 
 // A decimal number, and where the word after it begins.
 pub struct Word {

@@ -1,5 +1,5 @@
 -- Writing a record: its length in bits and the bytes of its PDU, or a refusal number and no byte changed.
-use mathlib.Core.Bool.{Bool, _&&_}
+use mathlib.Core.Bool.{_&&_}
 use mathlib.Core.List.{List, _++_}
 use Prim.Native.Nat.{ℕ, zero, suc}
 use lib.ListN.{length, drop}

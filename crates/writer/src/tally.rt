@@ -23,8 +23,8 @@ ghost use Rattle.bits.specs.Bits.{pick};
 ghost use Rattle.codec.specs.Codec.{first};
 ghost use Rattle.codec.specs.Parts.{numberFault, absent, element};
 ghost use Rattle.codec.specs.Places.{places};
-ghost use Rattle.grammar.specs.SiteSheet.{between, digitRefusal, serviceRefusal};
-ghost use Rattle.grammar.specs.Grammar.{identity, noIdentity, endsRefusal, rangeEnds, identities, noIdentities, external, noExternal, externals, noExternals, services, noServices, identityPart, numberPart, noPart, partOf, interrogate, interrogateAck, fromRecord, pdu};
+ghost use Rattle.grammar.specs.SiteSheet.{digitRefusal, serviceRefusal};
+ghost use Rattle.grammar.specs.Grammar.{identity, noIdentity, rangeEnds, identities, noIdentities, external, noExternal, externals, noExternals, services, noServices, identityPart, numberPart, noPart, partOf, interrogate, interrogateAck, fromRecord, pdu};
 ghost use Rattle.writer.specs.Writing.{nothing, Tallies};
 
 // What the parts so far come to: all is zero that must be, the first refusal number or 0, and the length in bits.

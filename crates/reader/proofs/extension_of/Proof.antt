@@ -1,5 +1,5 @@
 -- The extension is read exactly if the bit is 1. Assumes nothing.
-use mathlib.Core.Path.{_≡_, _∙_, sym, ap}
+use mathlib.Core.Path.{_∙_, sym, ap}
 use borrow.Author.Needs.{needs}
 use borrow.Author.Tests.{ne-eqb}
 use Rattle.codec.specs.Reading.{numberIs, elementOf}

@@ -2,7 +2,7 @@
 use mathlib.Core.Path.{_≡_, sym, ap, _∙_}
 use mathlib.Core.Bool.{Bool}
 use mathlib.Core.List.{List}
-use Prim.Native.Nat.{ℕ, _≤_}
+use Prim.Native.Nat.{ℕ}
 use native.Mathlib.Omega.{arith}
 use borrow.Author.Needs.{needs}
 use denote.Ref.{now}
@@ -18,7 +18,6 @@ use Rattle.grammar.specs.Grammar.{identity, noIdentity, zeroIdentity, rangeEnds
 use Rattle.reader.specs.Reader.{EndsFit, entriesIs, endsIs, identitiesIs}
 use Rattle.grammar.specs.declared.record.Identity.{Identity}
 use Rattle.grammar.specs.declared.site.Row.{Row}
-use Rattle.reader.specs.declared.EntriesRead.{EntriesRead}
 use Rattle.grammar.proofs.Codes.{entriesOf-le}
 use Rattle.reader.proofs.Steps.{identities-at}
 use Rattle.reader.proofs.Readers.{entries-read}

@@ -1,5 +1,5 @@
 -- SSI, present bit and extension, each from where the one before it stands. Assumes nothing.
-use mathlib.Core.Path.{_≡_, _∙_, sym, ap}
+use mathlib.Core.Path.{_∙_, sym, ap}
 use borrow.Author.Needs.{needs}
 use Rattle.codec.specs.Reading.{elementOf}
 use Rattle.codec.proofs.Reading.{from-same, go-on, number-read}

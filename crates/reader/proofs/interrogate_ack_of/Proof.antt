@@ -1,5 +1,5 @@
 -- Result, delivery status, services and lists, each from where the one before it stands. Assumes nothing.
-use mathlib.Core.Path.{_≡_, sym, ap, _∙_}
+use mathlib.Core.Path.{sym, ap, _∙_}
 use borrow.Author.Needs.{needs}
 use Rattle.codec.specs.Reading.{elementOf}
 use Rattle.codec.proofs.Reading.{from-same, go-on, number-read, tested-element}

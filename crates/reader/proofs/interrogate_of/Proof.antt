@@ -1,5 +1,5 @@
 -- The interrogation type; the rest is zero. Assumes nothing.
-use mathlib.Core.Path.{_≡_, sym, ap, ap₂, _∙_}
+use mathlib.Core.Path.{sym, ap, ap₂, _∙_}
 use borrow.Author.Needs.{needs}
 use Rattle.codec.specs.Reading.{got, from}
 use Rattle.codec.proofs.Reading.{from-same, go-on, number-read}

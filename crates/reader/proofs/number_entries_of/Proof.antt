@@ -1,5 +1,4 @@
 -- A loop that fills the places with the external numbers that are read. Assumes nothing.
-use mathlib.Core.Path.{_≡_}
 use Prim.Native.Nat.{_-_}
 use native.Mathlib.Omega.{arith}
 use borrow.Author.Needs.{needs}

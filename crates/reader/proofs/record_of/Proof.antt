@@ -1,5 +1,5 @@
 -- SS type, PDU type, affected users, and what the type says. Assumes nothing.
-use mathlib.Core.Path.{_≡_, sym, ap, _∙_}
+use mathlib.Core.Path.{_≡_, _∙_}
 use borrow.Author.Needs.{needs}
 use borrow.Author.Tests.{ne-eqb}
 use denote.Ref.{now}
@@ -7,7 +7,7 @@ use Rattle.bits.specs.Frame.{bitsIn}
 use Rattle.codec.specs.Reading.{from, readAt, elementOf}
 use Rattle.codec.proofs.Reading.{from-same, go-on, number-read, tested-element}
 use Rattle.grammar.specs.Grammar.{pdu, restOf}
-use Rattle.reader.specs.Reader.{recordAt, recordIs}
+use Rattle.reader.specs.Reader.{recordAt}
 use Rattle.reader.proofs.Steps.{pdu-at}
 use Rattle.reader.proofs.Readers.{identities-read}
 use Rattle.reader.proofs.record_of.Statement.{statement}

@@ -1,5 +1,5 @@
 -- The number of services, then as many. Assumes nothing.
-use mathlib.Core.Path.{_≡_, sym, ap, _∙_}
+use mathlib.Core.Path.{sym, ap, _∙_}
 use borrow.Author.Needs.{needs}
 use Rattle.codec.proofs.Reading.{from-same, go-on, number-read, element-bound}
 use Rattle.grammar.specs.SiteSheet.{countRefusal}

@@ -1,5 +1,4 @@
 -- 25 bits, or 49 with the extension. Assumes nothing.
-use mathlib.Core.Path.{_≡_, sym, _∙_}
 use borrow.Author.Tests.{ne-eqb}
 use Rattle.grammar.proofs.Codes.{identity-length}
 use Rattle.reader.proofs.width_of.Statement.{statement}

@@ -1,10 +1,5 @@
 -- Each way out is between's own case. Assumes nothing.
-use mathlib.Core.Path.{sym, ap}
-use mathlib.Core.Bool.{Bool, _&&_, and-false}
-use Prim.Native.Nat.{ℕ}
 use borrow.Author.Tests.{le-leb, lt-leb}
-use lib.Dec.{leb}
-use Rattle.bits.specs.Bits.{pick}
 use Rattle.grammar.proofs.site.between_refusal.Statement.{statement}
 use Rattle.grammar.proofs.site.between_refusal.Tie as tie
 

@@ -1,5 +1,4 @@
 -- The first test that fails decides. Assumes nothing.
-use mathlib.Core.Bool.{and-false}
 use borrow.Author.Tests.{eq-eqb, ne-eqb, le-leb, lt-leb}
 use Rattle.grammar.specs.Grammar.{endsRefusal}
 use Rattle.grammar.proofs.site.ends_refusal.Statement.{statement}

@@ -1,6 +1,6 @@
 -- Each arm of the match is the definition's own case. Assumes nothing.
 use native.Mathlib.Omega.{arith}
-use borrow.Author.Tests.{le-leb, lt-leb, ne-eqb}
+use borrow.Author.Tests.{le-leb, lt-leb}
 use Rattle.grammar.specs.SiteSheet.{kindRefusal}
 use Rattle.grammar.proofs.site.kind_refusal.Statement.{statement}
 use Rattle.grammar.proofs.site.kind_refusal.Tie as tie

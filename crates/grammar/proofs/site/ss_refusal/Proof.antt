@@ -1,6 +1,5 @@
 -- The one SS type, or 3. Assumes nothing.
 use borrow.Author.Tests.{ne-eqb}
-use Rattle.grammar.specs.SiteSheet.{ssType}
 use Rattle.grammar.proofs.site.ss_refusal.Statement.{statement}
 use Rattle.grammar.proofs.site.ss_refusal.Tie as tie
 
