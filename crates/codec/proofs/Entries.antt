@@ -1,14 +1,13 @@
 -- What the first n of m places print, which of them are refused, and when the others are zero: in terms of the entries that the PDU
--- carries, `take n l`. For a writer's loops. Assumes nothing.
+-- carries, `take n l`. Assumes nothing.
 use mathlib.Core.Path.{_≡_, refl, sym, ap, ap₂, _∙_}
 use mathlib.Core.Bool.{Bool, true, _&&_}
-use mathlib.Core.List.{List, [], _∷_, _++_, append-assoc, append-nil}
-use Prim.Native.Nat.{ℕ, zero, suc, _+_, _-_, _≤_, _<_}
+use mathlib.Core.List.{List, [], _∷_, _++_}
+use Prim.Native.Nat.{ℕ, zero, suc, _+_, _-_, _≤_}
 use native.Mathlib.Nat.{sub-zero, zero-sub, suc-sub-suc}
-use native.Mathlib.Numerals.{add-one}
 use native.Mathlib.Omega.{arith}
 use lib.ListN.{length, take, drop, getD, replicate, length-append}
-use lib.Seq.{take-nil, drop-nil, take-suc, take-add}
+use lib.Seq.{take-nil, drop-nil}
 use Rattle.codec.specs.Codec.{Codec, first}
 use Rattle.codec.specs.Parts.{both, both⁻¹}
 use Rattle.codec.specs.Places.{nil, cons, places}
@@ -25,43 +24,6 @@ module _ {A : Type 0} (c : Codec A) where
   abbrev pub cleanAll : List A → Bool
   cleanAll [] = true
   cleanAll (a ∷ l) = c .clean a && cleanAll l
-
-  pub printAll-append : (l t : List A) → printAll (l ++ t) ≡ printAll l ++ printAll t
-  printAll-append [] t = refl
-  printAll-append (a ∷ l) t = ap (λ (r : List Bool). c .print a ++ r) (printAll-append l t) ∙ sym (append-assoc (c .print a) (printAll l) (printAll t))
-
-  -- one entry more
-  pub printAll-next : (l : List A) (i : ℕ) (d : A) → i < length l → printAll (take (i + 1) l) ≡ printAll (take i l) ++ c .print (getD l i d)
-  printAll-next l i d h = rw (add-one, take-suc l i d h, printAll-append, append-nil)
-
-  first-assoc : (k m n : ℕ) → first (first k m) n ≡ first k (first m n)
-  first-assoc zero m n = refl
-  first-assoc (suc k) m n = refl
-
-  first-zero : (k : ℕ) → first k 0 ≡ k
-  first-zero zero = refl
-  first-zero (suc k) = refl
-
-  pub faultAll-append : (l t : List A) → faultAll (l ++ t) ≡ first (faultAll l) (faultAll t)
-  faultAll-append [] t = refl
-  faultAll-append (a ∷ l) t = ap (first (c .fault a)) (faultAll-append l t) ∙ sym (first-assoc (c .fault a) (faultAll l) (faultAll t))
-
-  pub faultAll-next : (l : List A) (i : ℕ) (d : A) → i < length l → faultAll (take (i + 1) l) ≡ first (faultAll (take i l)) (c .fault (getD l i d))
-  faultAll-next l i d h = rw (add-one, take-suc l i d h, faultAll-append, first-zero)
-
-  first-fault : (m n f : ℕ) → m ≡ f → (f ≡ 0 → ⊥) → first m n ≡ f
-  first-fault zero n f e h = absurd (h (sym e))
-  first-fault (suc m) n f e h = e
-
-  -- the first entry with a fault decides
-  pub faultAll-stop : (l : List A) (i n : ℕ) (d : A) → i < n → i < length l → faultAll (take i l) ≡ 0
-      → (f : ℕ) → c .fault (getD l i d) ≡ f → (f ≡ 0 → ⊥) → faultAll (take n l) ≡ f
-  faultAll-stop l i n d hn hl e f g h =
-      let k : n ≡ (i + 1) + (n - (i + 1)) = omega arith in
-      ap (λ (m : ℕ). faultAll (take m l)) k ∙ ap faultAll (take-add (i + 1) (n - (i + 1)) l)
-      ∙ faultAll-append (take (i + 1) l) (take (n - (i + 1)) (drop (i + 1) l))
-      ∙ first-fault (faultAll (take (i + 1) l)) (faultAll (take (n - (i + 1)) (drop (i + 1) l))) f
-      (faultAll-next l i d hl ∙ ap (λ (m : ℕ). first m (c .fault (getD l i d))) e ∙ g) h
 
   module _ (z : Codec A) where
     -- the places write the entries that the PDU carries

@@ -142,11 +142,6 @@ module _ {A : Type 0} (c : Codec A) (s : List Bool) (at : ℕ) where
   unfolding readAt
   readAt-legal = legal-cases (c .parse at (drop at s)) (c .sound at (drop at s))
 
-pub element-at : (w : ℕ) (refuse : ℕ → ℕ) (s : List Bool) (at : ℕ)
-    → readAt (element w refuse) s at ≡ andNext (readAt (number w) s at) (λ v at′. barring (refuse v) at (got v at′))
-unfolding element
-element-at w refuse s at = simp (readAt-tested, add-zero)
-
 pub mark-at : {A : Type 0} (w v : ℕ) (c : Codec A) (s : List Bool) (at : ℕ)
     → readAt (mark w v c) s at ≡ andNext (readAt (element w (only v)) s at) (λ x at₁. readAt c s at₁)
 unfolding mark

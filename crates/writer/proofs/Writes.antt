@@ -1,5 +1,5 @@
 -- Writing by cases: which refusal is given, and when there is none. Assumes nothing.
-use mathlib.Core.Path.{_≡_, refl, sym, ap}
+use mathlib.Core.Path.{_≡_, refl}
 use mathlib.Core.Bool.{Bool, true, false}
 use Prim.Native.Nat.{ℕ, zero, suc, _≤_}
 use native.Mathlib.Omega.{arith}
@@ -52,9 +52,3 @@ refused-some bits (suc n) e = refl
 pub bits-none : (bits n : ℕ) {k : BitCount} → written bits n ≡ Bits k → n ≡ 0
 bits-none bits zero e = refl
 bits-none bits (suc n) e = absurd (let z : _≡_ {A = ℕ} 0 1 = cc in omega arith)
-
-pub written-bits : (bits n : ℕ) {k : BitCount} → written bits n ≡ Bits k → k .0 ≡ bits
-written-bits bits zero {k} e =
-    let same : _≡_ {A = BitCount} (record { 0 = bits }) k = cc in
-    sym (ap (λ (c : BitCount). c .0) same)
-written-bits bits (suc n) e = absurd (let z : _≡_ {A = ℕ} 0 1 = cc in omega arith)
