@@ -17,3 +17,5 @@ pub mod Theorems
 pub mod Counts
 pub mod History
 pub mod Fetching
+pub mod Decimal
+pub mod Lines

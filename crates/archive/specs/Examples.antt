@@ -13,6 +13,7 @@ use Rattle.archive.specs.Reading.{heldFrom, bodiesAt, reading, isArchive
 use Rattle.archive.specs.Keeping.{emptyOf, emptyIs, emptyOut, with, captured, placed, captureIs, captureOut}
 use Rattle.archive.specs.Filing.{wellFormed, keepsRules}
 use Rattle.archive.specs.Restoring.{bodyFrom, lookup}
+use Rattle.archive.specs.Listing.{digits, decimal, item, firstLine, line, lines, listing}
 use Rattle.archive.specs.declared.Archived.the-variants.{Bytes}
 use Rattle.archive.specs.declared.Fetched.the-variants.{Body}
 
@@ -83,3 +84,31 @@ capture-a = refl
 capture-a-out : captureOut (0x00 ∷ 0x00 ∷ 0x01 ∷ 0x00 ∷ 0x00 ∷ []) profileA 138 (replicate 32 0xff) ≡ bytesA
 unfolding calls
 capture-a-out = refl
+
+-- ---- the listing
+
+decimal-0 : decimal 0 ≡ 48 ∷ []
+unfolding decimal digits
+decimal-0 = refl
+
+decimal-9 : decimal 9 ≡ 57 ∷ []
+unfolding decimal digits
+decimal-9 = refl
+
+decimal-10 : decimal 10 ≡ 49 ∷ 48 ∷ []
+unfolding decimal digits
+decimal-10 = refl
+
+decimal-most : decimal 16777215 ≡ 49 ∷ 54 ∷ 55 ∷ 55 ∷ 55 ∷ 50 ∷ 49 ∷ 53 ∷ []
+unfolding decimal digits
+decimal-most = refl
+
+-- `home 1 entries 1` and `1 5 part 1 bits 138`, each on its line
+abbrev pub textA : List ℕ
+textA =
+    104 ∷ 111 ∷ 109 ∷ 101 ∷ 32 ∷ 49 ∷ 32 ∷ 101 ∷ 110 ∷ 116 ∷ 114 ∷ 105 ∷ 101 ∷ 115 ∷ 32 ∷ 49 ∷ 10 ∷
+    49 ∷ 32 ∷ 53 ∷ 32 ∷ 112 ∷ 97 ∷ 114 ∷ 116 ∷ 32 ∷ 49 ∷ 32 ∷ 98 ∷ 105 ∷ 116 ∷ 115 ∷ 32 ∷ 49 ∷ 51 ∷ 56 ∷ 10 ∷ []
+
+listing-a : listing holdingA ≡ textA
+unfolding listing firstLine lines line item decimal digits
+listing-a = refl

@@ -5,4 +5,5 @@ pub mod Keeping
 pub mod Restoring
 pub mod Seeking
 pub mod History
+pub mod Listing
 pub mod Examples

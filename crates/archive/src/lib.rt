@@ -3,6 +3,7 @@ pub mod checking;
 pub mod contents;
 mod copying;
 pub mod filing;
+pub mod listing;
 
 use bits::BitCount;
 pub use checking::check;

@@ -1,0 +1,86 @@
+-- The listing's parts: their lengths, and the lines of the entries as they stand in an archive's bytes. Assumes nothing.
+use mathlib.Core.Path.{_≡_, refl, sym, ap, _∙_}
+use mathlib.Core.Bool.{Bool, true, false}
+use mathlib.Core.List.{List, [], _∷_, _++_}
+use Prim.Native.Nat.{ℕ, zero, suc, _+_, _-_, _≤_, _<_}
+use native.Mathlib.Omega.{arith}
+use native.Mathlib.Nat.{not-suc-le-zero}
+use native.Mathlib.Numerals.{add-one}
+use lib.ListN.{length, take, drop, set, length-append, length-take, length-drop, take-append-drop}
+use lib.Seq.{set-split}
+use lib.Dec.{leb}
+use borrow.Author.Tests.{leb-true}
+use Rattle.bits.specs.Bits.{pick}
+use Rattle.archive.specs.Model.{headerWidth, entryWidth}
+use Rattle.archive.specs.Reading.{homeOf, countOf, entryAt, sizeAt, heldFrom, bodiesAt, reading, isArchive}
+use Rattle.archive.specs.Seeking.{Laid}
+use Rattle.archive.specs.Listing.{decimal, item, firstLine, line, lines, linesFrom, listing, listIs}
+use Rattle.archive.specs.declared.contents.Entry.{Entry}
+use Rattle.archive.specs.declared.listing.Listed.the-variants.{Bytes, Refused}
+use Rattle.archive.proofs.Walks.{home-is, length-heldFrom}
+
+-- ---- laid out
+
+-- one byte
+pub one : (out : List ℕ) (at x : ℕ) → at < length out → Laid out at (x ∷ []) (set out at x) (at + 1)
+one out at x h = record { ends = refl; same = rw (add-one, set-split out at x h) }
+
+-- no byte
+pub none : (out : List ℕ) (at : ℕ) → Laid out at [] out at
+none out at = record { ends = omega arith; same = let z : at + 0 ≡ at = omega arith in sym (ap (λ (k : ℕ). take at out ++ drop k out) z ∙ take-append-drop at out) }
+
+-- room for a part, and for what follows it
+pub first-fits : (s t : List ℕ) (at : ℕ) {n : ℕ} → at + length (s ++ t) ≤ n → at + length s ≤ n
+first-fits s t at h = omega (arith, length-append s t)
+
+pub rest-fits : {out out′ s : List ℕ} {at m : ℕ} (t : List ℕ) → at + length (s ++ t) ≤ length out → Laid out at s out′ m → m + length t ≤ length out′
+rest-fits {out} {out′} {s} {at} {m} t h x =
+    let l : length out′ ≡ length (take at out) + (length s + length (drop (at + length s) out)) = ap length (x .same) ∙ simp length-append in
+    omega (arith, l, x .ends, length-append s t, length-take at out, length-drop (at + length s) out)
+
+-- ---- lengths
+
+pub length-line : (e : Entry) → length (line e) ≡ length (decimal (e .network)) + length (decimal (e .ssi)) + length (decimal (e .part)) + length (decimal (e .bits .0)) + 14
+unfolding line item
+length-line e = simp length-append (omega arith)
+
+pub length-first : (home count : ℕ) → length (firstLine home count) ≡ length (decimal home) + length (decimal count) + 15
+unfolding firstLine item
+length-first home count = simp length-append (omega arith)
+
+-- ---- one entry more
+
+pub linesFrom-next : (b : List ℕ) (n at : ℕ) → 0 < n → linesFrom b n at ≡ line (entryAt b at) ++ linesFrom b (n - 1) (at + entryWidth)
+unfolding linesFrom
+linesFrom-next b zero at h = absurd (not-suc-le-zero h)
+linesFrom-next b (suc n) at h = let e : n ≡ suc n - 1 = omega arith in ap (λ (k : ℕ). line (entryAt b at) ++ linesFrom b k (at + entryWidth)) e
+
+pub linesFrom-none : (b : List ℕ) (n at : ℕ) → n ≤ 0 → linesFrom b n at ≡ []
+unfolding linesFrom
+linesFrom-none b zero at h = refl
+linesFrom-none b (suc n) at h = absurd (not-suc-le-zero h)
+
+-- ---- the whole
+
+-- the bodies do not matter
+lines-read : (b : List ℕ) (n at off : ℕ) → lines (heldFrom b n at off) ≡ linesFrom b n at
+unfolding lines linesFrom heldFrom
+lines-read b zero at off = refl
+lines-read b (suc n) at off = ap (λ (s : List ℕ). line (entryAt b at) ++ s) (lines-read b n (at + entryWidth) (off + sizeAt b at))
+
+pub listing-read : (b : List ℕ) → headerWidth ≤ length b → listing (reading b) ≡ firstLine (homeOf b) (countOf b) ++ linesFrom b (countOf b) headerWidth
+unfolding listing reading
+listing-read b h =
+    let l = length-heldFrom b (countOf b) headerWidth (bodiesAt b) in
+    let r = lines-read b (countOf b) headerWidth (bodiesAt b) in
+    λ i. firstLine (sym (home-is b h) i) (l i) ++ r i
+
+-- what is listed fits the lent buffer
+pub listed-fits : (b : List ℕ) (room n : ℕ) → listIs b room ≡ Bytes n → n ≤ room
+unfolding listIs
+listed-fits b room n = go (isArchive b) (leb (length (listing (reading b))) room) refl
+  where
+    go : (p q : Bool) → leb (length (listing (reading b))) room ≡ q → pick p (pick q (Bytes (length (listing (reading b)))) (Refused 8)) (Refused 7) ≡ Bytes n → n ≤ room
+    go true true h e = let z : length (listing (reading b)) ≡ n = cc in omega (arith, leb-true (length (listing (reading b))) room h)
+    go true false h e = absurd (let z : _≡_ {A = ℕ} 0 1 = cc in omega arith)
+    go false q h e = absurd (let z : _≡_ {A = ℕ} 0 1 = cc in omega arith)

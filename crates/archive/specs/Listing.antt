@@ -1,0 +1,95 @@
+-- The text that lists an archive, in ASCII: a line for the header, and a line for each PDU held (document 01, the program `contents`).
+use mathlib.Core.List.{List, [], _∷_, _++_}
+use Prim.Native.Nat.{ℕ, zero, suc, _+_, _/_, _%_}
+use lib.ListN.{length}
+use lib.Dec.{ltb, leb}
+use Rattle.bits.specs.Bits.{pick}
+use Rattle.archive.specs.Model.{Held, Archive, entryWidth}
+use Rattle.archive.specs.Reading.{entryAt, reading, isArchive}
+use Rattle.archive.specs.Keeping.{over}
+use Rattle.archive.specs.declared.contents.Entry.{Entry}
+use Rattle.archive.specs.declared.listing.Listed.{Listed}
+use Rattle.archive.specs.declared.listing.Listed.the-variants.{Bytes, Refused}
+
+-- ---- numbers
+
+-- `0` is 48
+abbrev pub digit : ℕ → ℕ
+digit n = 48 + n
+
+-- at most so many digits of a number, the most significant first, with no leading zeros
+unfoldable pub digits : ℕ → ℕ → List ℕ
+digits zero n = []
+digits (suc k) n = pick (ltb n 10) (digit n ∷ []) (digits k (n / 10) ++ (digit (n % 10) ∷ []))
+
+-- all digits: a number of 64 bits has at most 20
+unfoldable pub decimal : ℕ → List ℕ
+decimal n = digits 20 n
+
+-- ---- words
+
+-- `home `
+abbrev pub home-word : List ℕ
+home-word = 104 ∷ 111 ∷ 109 ∷ 101 ∷ 32 ∷ []
+
+-- ` entries `
+abbrev pub entries-word : List ℕ
+entries-word = 32 ∷ 101 ∷ 110 ∷ 116 ∷ 114 ∷ 105 ∷ 101 ∷ 115 ∷ 32 ∷ []
+
+-- a space
+abbrev pub space : List ℕ
+space = 32 ∷ []
+
+-- ` part `
+abbrev pub part-word : List ℕ
+part-word = 32 ∷ 112 ∷ 97 ∷ 114 ∷ 116 ∷ 32 ∷ []
+
+-- ` bits `
+abbrev pub bits-word : List ℕ
+bits-word = 32 ∷ 98 ∷ 105 ∷ 116 ∷ 115 ∷ 32 ∷ []
+
+-- LF
+abbrev pub line-end : List ℕ
+line-end = 10 ∷ []
+
+-- ---- lines
+
+-- a number and the word after it
+unfoldable pub item : ℕ → List ℕ → List ℕ
+item n word = decimal n ++ word
+
+-- `home H entries N`
+unfoldable pub firstLine : ℕ → ℕ → List ℕ
+firstLine home count = home-word ++ (item home entries-word ++ item count line-end)
+
+-- `NETWORK SSI part P bits B`
+unfoldable pub line : Entry → List ℕ
+line e = item (e .network) space ++ (item (e .ssi) part-word ++ (item (e .part) bits-word ++ item (e .bits .0) line-end))
+
+unfoldable pub lines : List Held → List ℕ
+lines [] = []
+lines (h ∷ hs) = line (h .entry) ++ lines hs
+
+-- the lines of n entries whose contents begin at a place of an archive's bytes
+unfoldable pub linesFrom : List ℕ → ℕ → ℕ → List ℕ
+linesFrom b zero at = []
+linesFrom b (suc n) at = line (entryAt b at) ++ linesFrom b n (at + entryWidth)
+
+unfoldable pub listing : Archive → List ℕ
+listing a = firstLine (a .home) (length (a .held)) ++ lines (a .held)
+
+-- ---- list: 7, then 8 if the lent buffer is too short
+
+unfoldable pub listIs : List ℕ → ℕ → Listed
+listIs b room =
+    pick (isArchive b)
+    (pick (leb (length (listing (reading b))) room) (Bytes (length (listing (reading b)))) (Refused 8))
+    (Refused 7)
+
+-- a refusal changes no byte
+abbrev pub lists : Listed → List ℕ → List ℕ → List ℕ
+lists (Bytes n) w out = over w out
+lists (Refused k) w out = out
+
+unfoldable pub listOut : List ℕ → List ℕ → List ℕ
+listOut b out = lists (listIs b (length out)) (listing (reading b)) out

@@ -1,0 +1,159 @@
+// The listing of an archive as text: a line for the header, then a line for each PDU held.
+use crate::checking;
+use crate::contents;
+use crate::contents::ENTRY;
+use crate::contents::Entry;
+use crate::contents::HEADER;
+use crate::copying;
+ghost use mathlib.Core.Path.{_≡_};
+ghost use mathlib.Core.Bool.{true};
+ghost use mathlib.Core.List.{_∷_, []};
+ghost use Prim.Native.Nat.{_+_, _*_, _≤_, _<_};
+ghost use lib.ListN.{length};
+ghost use Rattle.archive.specs.Model.{headerWidth};
+ghost use Rattle.archive.specs.Reading.{countOf, isArchive, reading};
+ghost use Rattle.archive.specs.Seeking.{EntryFits, Laid};
+ghost use Rattle.archive.specs.Listing.{decimal, item, line, firstLine, linesFrom, listing, listIs, listOut};
+
+// The length in bytes of the text that was written, or a refusal number.
+pub enum Listed {
+    Bytes(usize),
+    Refused(u32),
+}
+
+// How many digits a number has.
+fn digits_of(n: usize) -> usize
+    requires { ⌜ n < 100000000 ⌝ }
+    ensures { λ r. ⌜ (r ≡ length (decimal n)) × (r ≤ 8) ⌝ }
+{
+    let mut rest = n;
+    let mut count = 1;
+    while 10 <= rest {
+        rest /= 10;
+        count += 1;
+    }
+    count
+}
+
+// Writes a byte at a place; this and the other writers return the place after what they write.
+fn write_byte(out: &mut [u8], at: usize, byte: u8) -> usize
+    requires { ⌜ at < length (now out) ⌝ }
+    ensures { λ r. ⌜ Laid (now (out .entry)) at (byte ∷ []) (now (out .exit)) r ⌝ }
+{
+    out[at] = byte;
+    at + 1
+}
+
+// Writes a number in decimal: the digits before its last one, then that one.
+fn write_number(out: &mut [u8], at: usize, n: usize) -> usize
+    requires { ⌜ at + length (decimal n) ≤ length (now out) ⌝ }
+    ensures { λ r. ⌜ Laid (now (out .entry)) at (decimal n) (now (out .exit)) r ⌝ }
+{
+    if n < 10 {
+        return write_byte(out, at, 48 + n as u8);
+    }
+    let last_at = write_number(out, at, n / 10);
+    write_byte(out, last_at, 48 + (n % 10) as u8)
+}
+
+// Writes a number and the word after it.
+fn write_item(out: &mut [u8], at: usize, n: usize, word: &[u8]) -> usize
+    requires { ⌜ at + length (item n (now word)) ≤ length (now out) ⌝ }
+    ensures { λ r. ⌜ Laid (now (out .entry)) at (item n (now (word .entry))) (now (out .exit)) r ⌝ }
+{
+    let word_at = write_number(out, at, n);
+    copying::append(out, word_at, word)
+}
+
+// Writes the line of the header.
+fn write_first(out: &mut [u8], home: u32, count: usize) -> usize
+    requires { ⌜ length (firstLine home count) ≤ length (now out) ⌝ }
+    ensures { λ r. ⌜ Laid (now (out .entry)) 0 (firstLine home count) (now (out .exit)) r ⌝ }
+{
+    let home_at = copying::append(out, 0, b"home ");
+    let count_at = write_item(out, home_at, home as usize, b" entries ");
+    write_item(out, count_at, count, b"\n")
+}
+
+// Writes the line of an entry.
+fn write_line(out: &mut [u8], at: usize, entry: Entry) -> usize
+    requires { ⌜ at + length (line entry) ≤ length (now out) ⌝ }
+    ensures { λ r. ⌜ Laid (now (out .entry)) at (line entry) (now (out .exit)) r ⌝ }
+{
+    let ssi_at = write_item(out, at, entry.network as usize, b" ");
+    let part_at = write_item(out, ssi_at, entry.ssi as usize, b" part ");
+    let bits_at = write_item(out, part_at, entry.part as usize, b" bits ");
+    write_item(out, bits_at, entry.bits.0, b"\n")
+}
+
+// Writes the lines of all entries.
+fn write_lines(archive: &[u8], out: &mut [u8], start: usize) -> usize
+    requires { ⌜ headerWidth + 9 * countOf (now archive) ≤ length (now archive) ⌝ }
+    requires { ⌜ start + length (linesFrom (now archive) (countOf (now archive)) headerWidth) ≤ length (now out) ⌝ }
+    ensures { λ r. ⌜ Laid (now (out .entry)) start (linesFrom (now (archive .entry)) (countOf (now (archive .entry))) headerWidth) (now (out .exit)) r ⌝ }
+{
+    let mut left = contents::count(archive);
+    let mut entry_at = HEADER;
+    let mut at = start;
+    while 0 < left {
+        at = write_line(out, at, contents::entry_at(archive, entry_at));
+        entry_at += ENTRY;
+        left -= 1;
+    }
+    at
+}
+
+// Writes the whole text.
+fn write_text(archive: &[u8], out: &mut [u8]) -> usize
+    requires { ⌜ (isArchive (now archive) ≡ true) × (length (listing (reading (now archive))) ≤ length (now out)) ⌝ }
+    ensures { λ r. ⌜ Laid (now (out .entry)) 0 (listing (reading (now (archive .entry)))) (now (out .exit)) r ⌝ }
+{
+    let lines_at = write_first(out, contents::home(archive), contents::count(archive));
+    write_lines(archive, out, lines_at)
+}
+
+// Bytes of the words in the first line, and in the line of an entry.
+const FIRST_WORDS: usize = 15;
+
+const LINE_WORDS: usize = 14;
+
+// The length of an entry's line.
+fn line_length(entry: Entry) -> usize
+    requires { ⌜ EntryFits entry ⌝ }
+    ensures { λ r. ⌜ (r ≡ length (line entry)) × (r ≤ 46) ⌝ }
+{
+    let user = digits_of(entry.network as usize) + digits_of(entry.ssi as usize);
+    let body = digits_of(entry.part as usize) + digits_of(entry.bits.0);
+    user + body + LINE_WORDS
+}
+
+// The length of the whole text.
+fn text_length(archive: &[u8]) -> usize
+    requires { ⌜ isArchive (now archive) ≡ true ⌝ }
+    ensures { λ r. ⌜ r ≡ length (listing (reading (now (archive .entry)))) ⌝ }
+{
+    let mut left = contents::count(archive);
+    let home = contents::home(archive);
+    let mut size = digits_of(home as usize) + digits_of(left) + FIRST_WORDS;
+    let mut at = HEADER;
+    while 0 < left {
+        size += line_length(contents::entry_at(archive, at));
+        at += ENTRY;
+        left -= 1;
+    }
+    size
+}
+
+// Lists an archive: writes the text to the lent buffer.
+pub fn list(archive: &[u8], out: &mut [u8]) -> Listed
+    ensures { λ r. ⌜ r ≡ listIs (now (archive .entry)) (length (now (out .entry))) ⌝ }
+    ensures { λ _. ⌜ now (out .exit) ≡ listOut (now (archive .entry)) (now (out .entry)) ⌝ }
+{
+    if !checking::check(archive) {
+        return Listed::Refused(7);
+    }
+    if out.len() < text_length(archive) {
+        return Listed::Refused(8);
+    }
+    Listed::Bytes(write_text(archive, out))
+}
