@@ -1,0 +1,339 @@
+//! The two PDUs: their grammar in one walk, and reading.
+//!
+//! The walk judges every element and tells a visitor what it met. The reader's visitor fills a record, the
+//! archive check's does nothing, the decision's compares.
+
+use crate::bits::Cursor;
+use crate::layout::{record, DIGITS, IDENTITY_WORDS, NUMBER_WORDS, RECORD_WORDS};
+use crate::refusal::Refusal;
+use crate::words::spread;
+
+/// Most bits of a PDU.
+pub const MAX_BITS: usize = 4096;
+/// SS type of BOC: the site sheet's stand-in.
+pub const SS_TYPE: u32 = 18;
+/// PDU types that are read and written (001, table 23).
+pub const INTERROGATE: u32 = 11;
+pub const INTERROGATE_ACK: u32 = 12;
+/// Interrogation results that accept (001, table 35).
+pub const IDENTITIES_PROVIDED: u32 = 1;
+pub const NUMBERS_PROVIDED: u32 = 2;
+/// Range type of a first and a last entry.
+pub const RANGE: u32 = 9;
+
+/// The lists; the discriminant is the place of the list's range type in a record.
+#[derive(Clone, Copy, PartialEq, Eq)]
+#[repr(usize)]
+pub enum List {
+    Affected = record::AFFECTED,
+    Groups = record::GROUPS,
+    Restricted = record::RESTRICTED,
+    Exceptions = record::EXCEPTIONS,
+    RestrictedNumbers = record::RESTRICTED_NUMBERS,
+    ExceptedNumbers = record::EXCEPTED_NUMBERS,
+}
+
+/// An identity entry; the extension is zero unless present.
+#[derive(Clone, Copy, PartialEq, Eq)]
+pub struct Identity {
+    pub ssi: u32,
+    pub present: bool,
+    pub extension: u32,
+}
+
+impl Identity {
+    /// The network that the entry means.
+    #[inline(always)]
+    pub fn network(self, home: u32) -> u32 {
+        if self.present {
+            self.extension
+        } else {
+            home
+        }
+    }
+}
+
+/// An external number: its length, and its digits of 4 bits each, left-aligned with zeros after them.
+#[derive(Clone, Copy, PartialEq, Eq)]
+pub struct Number {
+    pub length: u32,
+    pub digits: u128,
+}
+
+/// What a walk tells of the elements that it met. Places count from 0.
+pub trait Visitor {
+    /// An element outside the lists, by its place in the record.
+    #[inline(always)]
+    fn element(&mut self, _place: usize, _value: u32) {}
+    /// A service.
+    #[inline(always)]
+    fn service(&mut self, _place: usize, _value: u32) {}
+    /// A list's range type.
+    #[inline(always)]
+    fn range_type(&mut self, _list: List, _code: u32) {}
+    /// A single entry of a list of identities.
+    #[inline(always)]
+    fn single(&mut self, _list: List, _place: usize, _entry: Identity) {}
+    /// A range of identities.
+    #[inline(always)]
+    fn range(&mut self, _list: List, _first: Identity, _last: Identity) {}
+    /// An external number.
+    #[inline(always)]
+    fn number(&mut self, _list: List, _place: usize, _entry: Number) {}
+}
+
+/// The visitor that only lets the walk judge.
+pub struct Judge;
+
+impl Visitor for Judge {}
+
+/// What decides whether and under which key an archive holds a PDU.
+pub struct Head {
+    pub pdu_type: u32,
+    pub result: u32,
+    pub affected_code: u32,
+    /// The first affected user.
+    pub user: Identity,
+}
+
+/// A cursor on the PDU, or 1.
+pub fn frame(pdu: &[u8], bits: usize) -> Result<Cursor<'_>, Refusal> {
+    if bits > MAX_BITS || pdu.len() != bits.div_ceil(8) || !unused_bits_are_zero(pdu, bits) {
+        return Err(Refusal::Frame);
+    }
+    Ok(Cursor::new(pdu, 0, bits))
+}
+
+/// Are the bits after `bits` in the last of its bytes zero?
+#[inline(always)]
+pub fn unused_bits_are_zero(pdu: &[u8], bits: usize) -> bool {
+    match pdu.last() {
+        Some(last) if !bits.is_multiple_of(8) => last << (bits % 8) == 0,
+        _ => true,
+    }
+}
+
+/// Walks a PDU from its first element to its last: 2, 3, 4, 5 or 10, or its head.
+#[inline(always)]
+pub fn walk<V: Visitor>(mut cursor: Cursor<'_>, visitor: &mut V) -> Result<Head, Refusal> {
+    let cursor = &mut cursor;
+    if cursor.take(6)? != SS_TYPE {
+        return Err(Refusal::Value);
+    }
+    let pdu_type = cursor.take(5)?;
+    match pdu_type {
+        INTERROGATE | INTERROGATE_ACK => visitor.element(record::PDU_TYPE, pdu_type),
+        0..=10 | 13 => return Err(Refusal::OtherType),
+        _ => return Err(Refusal::Value),
+    }
+    let (affected_code, user) = identities(cursor, visitor, List::Affected)?;
+    let mut result = 0;
+    if pdu_type == INTERROGATE {
+        let interrogation_type = cursor.take(2)?;
+        if interrogation_type == 0 {
+            return Err(Refusal::Value);
+        }
+        visitor.element(record::INTERROGATION_TYPE, interrogation_type);
+    } else {
+        result = cursor.take(3)?;
+        if result == 5 {
+            return Err(Refusal::Value);
+        }
+        visitor.element(record::RESULT, result);
+        visitor.element(record::DELIVERY, cursor.take(2)?);
+        services(cursor, visitor)?;
+        match result {
+            IDENTITIES_PROVIDED => {
+                identities(cursor, visitor, List::Groups)?;
+                identities(cursor, visitor, List::Restricted)?;
+                identities(cursor, visitor, List::Exceptions)?;
+            }
+            NUMBERS_PROVIDED => {
+                identities(cursor, visitor, List::Groups)?;
+                numbers(cursor, visitor, List::RestrictedNumbers)?;
+                numbers(cursor, visitor, List::ExceptedNumbers)?;
+            }
+            _ => {}
+        }
+    }
+    if cursor.left() != 0 {
+        return Err(Refusal::Left);
+    }
+    Ok(Head { pdu_type, result, affected_code, user })
+}
+
+/// The number of services and the services.
+#[inline(always)]
+fn services<V: Visitor>(cursor: &mut Cursor<'_>, visitor: &mut V) -> Result<(), Refusal> {
+    let count = cursor.take(3)?;
+    if count == 0 {
+        return Err(Refusal::Value);
+    }
+    visitor.element(record::SERVICE_COUNT, count);
+    let count = count as usize;
+    let window = cursor.window();
+    // Services of 4 to 7 have their first bit set.
+    let refused = window & (0o4444444 << 43) & !(u64::MAX >> (3 * count));
+    if refused != 0 || cursor.left() < 3 * count {
+        let whole = cursor.left() / 3;
+        let first = refused.leading_zeros() as usize / 3;
+        return Err(if first < whole { Refusal::Value } else { Refusal::Short });
+    }
+    for place in 0..count {
+        visitor.service(place, (window >> (61 - 3 * place)) as u32 & 3);
+    }
+    cursor.skip(3 * count)
+}
+
+/// A range type and its identity entries: the code, and the first entry if there is one.
+#[inline(always)]
+fn identities<V: Visitor>(
+    cursor: &mut Cursor<'_>,
+    visitor: &mut V,
+    list: List,
+) -> Result<(u32, Identity), Refusal> {
+    let code = cursor.take(4)?;
+    let mut first = Identity { ssi: 0, present: false, extension: 0 };
+    match code {
+        0 if list != List::Affected => {}
+        1..=8 => {
+            for place in 0..code as usize {
+                let entry = identity(cursor)?;
+                if place == 0 {
+                    first = entry;
+                }
+                visitor.single(list, place, entry);
+            }
+        }
+        RANGE => {
+            first = identity(cursor)?;
+            let last = identity(cursor)?;
+            if first.present != last.present || first.extension != last.extension || first.ssi > last.ssi {
+                return Err(Refusal::Ends);
+            }
+            visitor.range(list, first, last);
+        }
+        _ => return Err(Refusal::Value),
+    }
+    visitor.range_type(list, code);
+    Ok((code, first))
+}
+
+/// An identity entry: no value of its elements is refused, so only its end is looked at.
+#[inline(always)]
+fn identity(cursor: &mut Cursor<'_>) -> Result<Identity, Refusal> {
+    let window = cursor.window();
+    let ssi = (window >> 40) as u32;
+    if window & 1 << 39 != 0 {
+        cursor.skip(49)?;
+        Ok(Identity { ssi, present: true, extension: (window >> 15) as u32 & 0xff_ffff })
+    } else {
+        cursor.skip(25)?;
+        Ok(Identity { ssi, present: false, extension: 0 })
+    }
+}
+
+/// A range type and its external numbers.
+#[inline(always)]
+fn numbers<V: Visitor>(cursor: &mut Cursor<'_>, visitor: &mut V, list: List) -> Result<(), Refusal> {
+    let code = cursor.take(4)?;
+    if code > 8 {
+        return Err(Refusal::Value);
+    }
+    visitor.range_type(list, code);
+    for place in 0..code as usize {
+        let entry = number(cursor)?;
+        visitor.number(list, place, entry);
+    }
+    Ok(())
+}
+
+/// An external number: its length, then each digit.
+#[inline(always)]
+fn number(cursor: &mut Cursor<'_>) -> Result<Number, Refusal> {
+    let length = cursor.take(5)?;
+    if !(1..=DIGITS as u32).contains(&length) {
+        return Err(Refusal::Value);
+    }
+    let window = cursor.wide_window();
+    let first_refused = first_refused_digit(window);
+    let width = 4 * length as usize;
+    if first_refused < length as usize || cursor.left() < width {
+        let whole = cursor.left() / 4;
+        return Err(if first_refused < whole { Refusal::Value } else { Refusal::Short });
+    }
+    cursor.skip(width)?;
+    Ok(Number { length, digits: window & !(u128::MAX >> width) })
+}
+
+/// The place of the first digit of 13 to 15; 32 if there is none.
+#[inline(always)]
+fn first_refused_digit(digits: u128) -> usize {
+    // Marks the first bit of each digit that has both upper bits and a lower one.
+    let refused = |word: u64| word & word << 1 & (word << 2 | word << 3) & 0x8888_8888_8888_8888;
+    let (high, low) = (refused((digits >> 64) as u64), refused(digits as u64));
+    let place = if high != 0 { high.leading_zeros() } else { 64 + low.leading_zeros() };
+    place as usize / 4
+}
+
+/// The visitor that fills a record of zeros.
+struct Fill([u32; RECORD_WORDS]);
+
+impl Fill {
+    #[inline(always)]
+    fn identity(&mut self, list: List, place: usize, entry: Identity) {
+        let at = list as usize + 1 + IDENTITY_WORDS * place;
+        self.0[at..at + IDENTITY_WORDS].copy_from_slice(&[entry.ssi, entry.present.into(), entry.extension]);
+    }
+}
+
+impl Visitor for Fill {
+    #[inline(always)]
+    fn element(&mut self, place: usize, value: u32) {
+        self.0[place] = value;
+    }
+
+    #[inline(always)]
+    fn service(&mut self, place: usize, value: u32) {
+        self.0[record::FIRST_SERVICE + place] = value;
+    }
+
+    #[inline(always)]
+    fn range_type(&mut self, list: List, code: u32) {
+        self.0[list as usize] = code;
+    }
+
+    #[inline(always)]
+    fn single(&mut self, list: List, place: usize, entry: Identity) {
+        self.identity(list, place, entry);
+    }
+
+    #[inline(always)]
+    fn range(&mut self, list: List, first: Identity, last: Identity) {
+        self.identity(list, 0, first);
+        self.identity(list, 1, last);
+    }
+
+    #[inline(always)]
+    fn number(&mut self, list: List, place: usize, entry: Number) {
+        let at = list as usize + 1 + NUMBER_WORDS * place;
+        let words = &mut self.0[at..at + NUMBER_WORDS];
+        words[0] = entry.length;
+        let (eights, _) = words[1..].as_chunks_mut::<8>();
+        for (i, eight) in eights.iter_mut().enumerate() {
+            *eight = spread((entry.digits >> (96 - 32 * i)) as u32);
+        }
+    }
+}
+
+/// Reads a PDU of `bits` bits into a record of [`RECORD_WORDS`] words.
+///
+/// Refuses with 9 (word count), 1, then element by element 2, 3, 4 and 10, and 5 last.
+pub fn read(pdu: &[u8], bits: usize, record: &mut [u32]) -> Result<(), Refusal> {
+    let record: &mut [u32; RECORD_WORDS] = record.try_into().map_err(|_| Refusal::Range)?;
+    let cursor = frame(pdu, bits)?;
+    let mut filled = Fill([0; RECORD_WORDS]);
+    walk(cursor, &mut filled)?;
+    *record = filled.0;
+    Ok(())
+}

@@ -1,0 +1,36 @@
+//! Refusal numbers.
+
+/// Why a call was refused; the discriminants are the paper's numbers.
+#[derive(Clone, Copy, Debug, PartialEq, Eq)]
+#[repr(u8)]
+pub enum Refusal {
+    /// Over 4,096 bits, wrong byte count, or a nonzero unused bit.
+    Frame = 1,
+    /// The PDU ends inside an element, or just before one that is due.
+    Short = 2,
+    /// An element's value is reserved or refused.
+    Value = 3,
+    /// Range ends disagree or are reversed.
+    Ends = 4,
+    /// Bits left after the last element.
+    Left = 5,
+    /// A legal PDU that no archive entry may hold.
+    Unfit = 6,
+    /// The archive breaks a rule.
+    Archive = 7,
+    /// A new key with 512 held, or the result exceeds 65,536 bytes or the lent buffer.
+    Room = 8,
+    /// A request, user, part, home network or word count out of its range.
+    Range = 9,
+    /// A BOC PDU type that the standard defines and that is not read here.
+    OtherType = 10,
+    /// Restore: not held.
+    NotHeld = 11,
+}
+
+impl Refusal {
+    /// The paper's number, 1 to 11.
+    pub const fn number(self) -> u32 {
+        self as u32
+    }
+}
