@@ -2,10 +2,11 @@
 use mathlib.Core.Path.{_≡_, refl}
 use mathlib.Core.List.{[], _∷_}
 use mathlib.Core.Bool.{true, false}
+use Prim.Native.Nat.{_*_, _^_}
 use lib.ListN.{take, drop}
 use Rattle.bits.specs.Bits.{bits, bitsOf, value, splice}
 use Rattle.bits.specs.Frame.{framed}
-use Rattle.bits.specs.Element.{elementAt, takeAt, putAt}
+use Rattle.bits.specs.Element.{elementAt, takeAt, windowAt, putAt}
 use Rattle.bits.specs.declared.Taken.the-variants.{Element, Short}
 
 -- the most significant bit of the first byte comes first
@@ -32,6 +33,11 @@ pdu-type = refl
 ends-before : takeAt (0x49 ∷ 0x80 ∷ []) 11 8 4 ≡ Short
 unfolding takeAt elementAt bits bitsOf
 ends-before = refl
+
+-- a window of the same two bytes from place 6 on begins with the PDU type, and zeros follow
+window-type : windowAt (0x49 ∷ 0x80 ∷ []) 6 ≡ 12 * 2 ^ 52
+unfolding windowAt bits bitsOf value
+window-type = refl
 
 -- put there again: 18 in 6 bits, then 12 in 5
 put-type : putAt (0x48 ∷ 0x00 ∷ []) 6 5 12 ≡ bits (0x49 ∷ 0x80 ∷ [])
