@@ -1,0 +1,153 @@
+/*
+ * A gateway in small: captures what the switch answered for user 1/5, an identity part and a number part, restores
+ * both, compares them bit for bit, and decides calls. Ends with status 0 exactly if all is as it must be.
+ */
+#include <stdio.h>
+#include <string.h>
+
+#include "boc.h"
+
+enum { HOME = 1, USER = 5 };
+
+/* A PDU: its bits, and the bytes that hold them. */
+struct pdu {
+    size_t bits;
+    uint8_t bytes[BOC_PDU_BYTES];
+};
+
+/* Two buffers in turn: a capture reads one archive and writes the next. */
+struct store {
+    uint8_t buffers[2][BOC_ARCHIVE_BYTES];
+    int current;
+    size_t length;
+};
+
+static struct store store;
+
+static size_t bytes_for(size_t bits)
+{
+    return (bits + 7) / 8;
+}
+
+static int refused(const char *what, uint32_t number)
+{
+    if (number != BOC_OK)
+        printf("%s: refused %u\n", what, (unsigned)number);
+    return number != BOC_OK;
+}
+
+/* The answer of the switch for identities: speech to 100 to 199 barred, except to 150. */
+static const struct pdu identity_part = {
+    138,
+    {0x49, 0x82, 0x00, 0x00, 0x0a, 0x21, 0x21, 0x20, 0x00, 0x0c, 0x80, 0x00, 0x0c, 0x70, 0x80, 0x00, 0x4b, 0x00},
+};
+
+/* An answer for external numbers: all services barred to 112. */
+static int make_number_part(struct pdu *pdu)
+{
+    static const uint32_t digits[] = {1, 1, 2};
+    uint32_t record[BOC_RECORD_WORDS] = {0};
+    uint32_t *number = record + BOC_RESTRICTED_NUMBERS + 1;
+
+    record[BOC_PDU_TYPE] = BOC_INTERROGATE_ACK;
+    record[BOC_AFFECTED] = 1;
+    record[BOC_AFFECTED + 1 + BOC_ENTRY_SSI] = USER;
+    record[BOC_RESULT] = BOC_RESULT_NUMBERS;
+    record[BOC_SERVICE_COUNT] = 1;
+    record[BOC_SERVICES] = BOC_SERVICE_ALL;
+    record[BOC_RESTRICTED_NUMBERS] = 1;
+    number[BOC_ENTRY_LENGTH] = 3;
+    memcpy(number + BOC_ENTRY_DIGITS, digits, sizeof digits);
+    return refused("write", boc_write(record, BOC_RECORD_WORDS, pdu->bytes, sizeof pdu->bytes, &pdu->bits));
+}
+
+static int capture(const struct pdu *pdu)
+{
+    int next = 1 - store.current;
+
+    if (refused("capture", boc_capture(store.buffers[store.current], store.length, pdu->bytes, bytes_for(pdu->bits),
+                                       pdu->bits, store.buffers[next], BOC_ARCHIVE_BYTES, &store.length)))
+        return 1;
+    store.current = next;
+    printf("captured %zu bits, archive %zu bytes\n", pdu->bits, store.length);
+    return 0;
+}
+
+static int restore_and_compare(uint32_t part, const struct pdu *captured)
+{
+    struct pdu back;
+
+    if (refused("restore", boc_restore(store.buffers[store.current], store.length, HOME, USER, part, back.bytes,
+                                       sizeof back.bytes, &back.bits)))
+        return 1;
+    if (back.bits != captured->bits || memcmp(back.bytes, captured->bytes, bytes_for(back.bits)) != 0) {
+        printf("restored part %u: differs\n", (unsigned)part);
+        return 1;
+    }
+    printf("restored part %u: %zu bits, the same\n", (unsigned)part, back.bits);
+    return 0;
+}
+
+/* Decides a call for which all but the destination is set here, and compares the decision. */
+static int decide(const char *call, uint32_t request[BOC_REQUEST_WORDS], uint32_t expected)
+{
+    static const char *const words[] = {"barred, outside the group", "barred, service", "barred, destination",
+                                        "allowed", "not held"};
+    uint32_t decision;
+
+    request[BOC_USER_NETWORK] = HOME;
+    request[BOC_USER_SSI] = USER;
+    request[BOC_SERVICE] = BOC_SERVICE_SPEECH;
+    if (refused(call, boc_decide(store.buffers[store.current], store.length, request, BOC_REQUEST_WORDS, &decision)))
+        return 1;
+    printf("speech to %s: %s\n", call, words[decision]);
+    return decision != expected;
+}
+
+static int decide_identity(const char *call, uint32_t ssi, uint32_t expected)
+{
+    uint32_t request[BOC_REQUEST_WORDS] = {0};
+
+    request[BOC_DESTINATION] = BOC_TO_IDENTITY;
+    request[BOC_NETWORK] = HOME;
+    request[BOC_SSI] = ssi;
+    return decide(call, request, expected);
+}
+
+static int decide_number(const char *digits, uint32_t expected)
+{
+    uint32_t request[BOC_REQUEST_WORDS] = {0};
+    size_t i;
+
+    request[BOC_DESTINATION] = BOC_TO_NUMBER;
+    request[BOC_LENGTH] = (uint32_t)strlen(digits);
+    for (i = 0; digits[i] != '\0'; i++)
+        request[BOC_DIGITS + i] = (uint32_t)(digits[i] - '0');
+    return decide(digits, request, expected);
+}
+
+static int list(void)
+{
+    static uint8_t text[BOC_CONTENTS_BYTES];
+    size_t length;
+
+    if (refused("contents", boc_contents(store.buffers[store.current], store.length, text, sizeof text, &length)))
+        return 1;
+    return fwrite(text, 1, length, stdout) != length;
+}
+
+int main(void)
+{
+    struct pdu number_part;
+
+    if (refused("empty", boc_empty(HOME, store.buffers[0], BOC_ARCHIVE_BYTES, &store.length)))
+        return 1;
+    if (capture(&identity_part) || decide_number("112", BOC_PART_NOT_HELD))
+        return 1;
+    if (make_number_part(&number_part) || capture(&number_part) || list())
+        return 1;
+    if (restore_and_compare(BOC_IDENTITY_PART, &identity_part) || restore_and_compare(BOC_NUMBER_PART, &number_part))
+        return 1;
+    return decide_identity("1/100", 100, BOC_BARRED_DESTINATION) || decide_identity("1/150", 150, BOC_ALLOWED) ||
+           decide_number("112", BOC_BARRED_DESTINATION) || decide_number("113", BOC_ALLOWED);
+}

@@ -1,0 +1,233 @@
+/*
+ * boc.h: barring of outgoing calls (BOC), EN 300 392-12-18. Reads and writes INTERROGATE and INTERROGATE ACK PDUs,
+ * keeps INTERROGATE ACKs in an archive, restores them, and decides calls from it. Link libboc.a.
+ *
+ * Every function returns 0, or the number of a refusal (enum boc_refusal). What it answers besides, a length or a
+ * decision, goes through its last pointer. A refused call changes no byte of any buffer and leaves that number alone;
+ * an accepted one leaves the bytes after what it wrote.
+ *
+ * Buffers. A buffer is a pointer and a length, in bytes or in words of 32 bits. The pointer is valid for that length
+ * and aligned for its type. What a call writes may not overlap anything else that it is lent.
+ *
+ * Nothing is allocated, no operating system is called, and nothing is kept between calls: calls on different buffers
+ * may run at the same time.
+ *
+ * PDU. A PDU is a number of bits, most significant bit first, in exactly that number divided by 8, rounded up, of
+ * bytes; unused bits at the end are zero.
+ *
+ * Archive. An archive is exactly the bytes that were written: lend the first N bytes of the buffer, where N is the
+ * length that boc_empty or boc_capture gave. One byte more or less is no archive and gives BOC_ARCHIVE.
+ */
+#ifndef BOC_H
+#define BOC_H
+
+#include <stddef.h>
+#include <stdint.h>
+
+#ifdef __cplusplus
+extern "C" {
+#endif
+
+/* Why a call was refused. */
+enum boc_refusal {
+    BOC_OK = 0,          /* not refused */
+    BOC_FRAME = 1,       /* over 4,096 bits, wrong byte count, or a nonzero unused bit */
+    BOC_SHORT = 2,       /* the PDU ends inside an element, or just before one that is due */
+    BOC_VALUE = 3,       /* an element's value is reserved or refused; in writing also what must be zero and is not */
+    BOC_ENDS = 4,        /* range ends disagree or are reversed */
+    BOC_LEFT = 5,        /* bits left after the last element */
+    BOC_UNFIT = 6,       /* a legal PDU that no archive entry may hold */
+    BOC_ARCHIVE = 7,     /* the archive breaks a rule */
+    BOC_ROOM = 8,        /* a new key with 512 held, or the result exceeds 65,536 bytes or the lent buffer */
+    BOC_RANGE = 9,       /* a request, user, part, home network or count of words out of its range */
+    BOC_OTHER_TYPE = 10, /* a BOC PDU type that the standard names and that is not read */
+    BOC_NOT_HELD = 11    /* restore: not held */
+};
+
+/* Lengths that serve every case. */
+enum boc_limits {
+    BOC_PDU_BYTES = 307,          /* the longest PDU that is read or written, 2,456 bits */
+    BOC_ARCHIVE_BYTES = 65536,    /* the longest archive */
+    BOC_ARCHIVE_ENTRIES = 512,    /* the most entries of an archive */
+    BOC_CONTENTS_BYTES = 17946,   /* no listing is longer: 26 bytes, and 35 for each entry */
+    BOC_NETWORK_LIMIT = 16777216, /* networks and SSIs are below this */
+    BOC_LIST_PLACES = 8,          /* entries of a list */
+    BOC_DIGIT_PLACES = 24,        /* digits of an external number */
+    BOC_SERVICE_PLACES = 7        /* services of a record */
+};
+
+/* ---- Records: a PDU as 514 words ---------------------------------------------------------------------------------
+ *
+ * A list of identities is a range type and 8 entries of SSI, extension present (0 or 1), extension: entry i begins at
+ * the list's place + 1 + 3 * i. A list of external numbers is a range type and 8 entries of length and 24 digits:
+ * entry i begins at the list's place + 1 + 25 * i. Range type 0 is an empty list, 1 to 8 that many entries, and 9 the
+ * first and the last of a range, both included. Affected users are never empty; external numbers have no range.
+ *
+ * A list that the PDU does not carry has range type 0; any other element that it does not carry, unused places of
+ * entries, services and digits, and an absent extension are zero. A word that is wider than its element is a refused
+ * value of it.
+ */
+enum boc_record_word {
+    BOC_PDU_TYPE = 0,             /* enum boc_pdu_type */
+    BOC_AFFECTED = 1,             /* affected users, a list of identities */
+    BOC_INTERROGATION_TYPE = 26,  /* of an INTERROGATE: 1 identities, 2 external numbers, 3 both */
+    BOC_RESULT = 27,              /* from here on of an INTERROGATE ACK: enum boc_result */
+    BOC_DELIVERY_STATUS = 28,     /* 0 not requested, 1 pending, 2 acknowledged, 3 unknown */
+    BOC_SERVICE_COUNT = 29,       /* number of services, 1 to 7 */
+    BOC_SERVICES = 30,            /* 7 services, enum boc_service */
+    BOC_GROUPS = 37,              /* closed user groups, a list of identities */
+    BOC_RESTRICTED = 62,          /* of an identity part: restricted identities, a list of identities */
+    BOC_EXCEPTIONS = 87,          /* of an identity part: exceptions to them, a list of identities */
+    BOC_RESTRICTED_NUMBERS = 112, /* of a number part: restricted numbers, a list of external numbers */
+    BOC_EXCEPTED_NUMBERS = 313,   /* of a number part: exceptions to them, a list of external numbers */
+    BOC_RECORD_WORDS = 514        /* words of a record */
+};
+
+/* The words of an entry, from where it begins, and how many they are. */
+enum boc_entry_word {
+    BOC_ENTRY_SSI = 0,
+    BOC_ENTRY_EXTENSION_PRESENT = 1,
+    BOC_ENTRY_EXTENSION = 2,
+    BOC_IDENTITY_WORDS = 3,
+    BOC_ENTRY_LENGTH = 0,
+    BOC_ENTRY_DIGITS = 1,
+    BOC_NUMBER_WORDS = 25
+};
+
+enum boc_pdu_type {
+    BOC_INTERROGATE = 11,
+    BOC_INTERROGATE_ACK = 12
+};
+
+/* Interrogation results. Only the two that provide something are filed; 5 is reserved. */
+enum boc_result {
+    BOC_RESULT_FAILED = 0,
+    BOC_RESULT_IDENTITIES = 1, /* the PDU is an identity part */
+    BOC_RESULT_NUMBERS = 2,    /* the PDU is a number part */
+    BOC_RESULT_NOT_AUTHORIZED = 3,
+    BOC_RESULT_UNKNOWN_USER = 4,
+    BOC_RESULT_NOT_VALID = 6,
+    BOC_RESULT_INSUFFICIENT = 7
+};
+
+enum boc_service {
+    BOC_SERVICE_ALL = 0, /* all applicable; not in a request */
+    BOC_SERVICE_SPEECH = 1,
+    BOC_SERVICE_DATA = 2,
+    BOC_SERVICE_SHORT_DATA = 3
+};
+
+/* Digits above 9. */
+enum boc_digit {
+    BOC_DIGIT_STAR = 10,
+    BOC_DIGIT_HASH = 11,
+    BOC_DIGIT_PLUS = 12
+};
+
+/* The range type of a first and a last entry. */
+enum boc_range_type {
+    BOC_RANGE_OF_TWO = 9
+};
+
+/* ---- Requests: a call as 34 words --------------------------------------------------------------------------------
+ *
+ * Words that the request does not use are zero: the length and the digits for an identity; network, SSI and the
+ * digits after the length for an external number; the group's two words where none is given.
+ */
+enum boc_request_word {
+    BOC_USER_NETWORK = 0,
+    BOC_USER_SSI = 1,
+    BOC_SERVICE = 2,       /* 1 to 3 */
+    BOC_DESTINATION = 3,   /* its kind, enum boc_destination */
+    BOC_NETWORK = 4,       /* of an identity */
+    BOC_SSI = 5,           /* of an identity */
+    BOC_LENGTH = 6,        /* of an external number, 1 to 24 digits */
+    BOC_DIGITS = 7,        /* 24 digits */
+    BOC_GROUP_GIVEN = 31,  /* 0 or 1 */
+    BOC_GROUP_NETWORK = 32,
+    BOC_GROUP_SSI = 33,
+    BOC_REQUEST_WORDS = 34 /* words of a request */
+};
+
+/* An identity is judged by the user's identity part, an external number by the number part. */
+enum boc_destination {
+    BOC_TO_IDENTITY = 1,
+    BOC_TO_NUMBER = 2
+};
+
+/* The parts that an archive holds for a user. */
+enum boc_part {
+    BOC_IDENTITY_PART = 1,
+    BOC_NUMBER_PART = 2
+};
+
+/* Decisions. The first three bar the call, and their numbers are the standard's causes. */
+enum boc_decision {
+    BOC_BARRED_GROUP = 0,       /* called party outside allowed user group */
+    BOC_BARRED_SERVICE = 1,     /* restricted service type */
+    BOC_BARRED_DESTINATION = 2, /* restricted destination address */
+    BOC_ALLOWED = 3,
+    BOC_PART_NOT_HELD = 4       /* the part that judges the call is not held: this allows nothing */
+};
+
+/* ---- Calls ------------------------------------------------------------------------------------------------------- */
+
+/*
+ * Reads the PDU of `bits` bits in `pdu` and writes its record to `record`.
+ * Refuses, in this order: BOC_RANGE if record_words is not 514; BOC_FRAME; element by element from the first,
+ * BOC_SHORT before BOC_VALUE (at the PDU type also BOC_OTHER_TYPE), and BOC_ENDS after the second end of a range;
+ * BOC_LEFT.
+ */
+uint32_t boc_read(const uint8_t *pdu, size_t pdu_len, size_t bits, uint32_t *record, size_t record_words);
+
+/*
+ * Writes the PDU of a record to the front of `out`, and its length in bits to `bits`.
+ * Refuses, in this order: BOC_RANGE if record_words is not 514; BOC_VALUE for a PDU type other than the two, or for
+ * anything that must be zero and is not; element by element BOC_VALUE and BOC_ENDS as reading does; BOC_ROOM.
+ */
+uint32_t boc_write(const uint32_t *record, size_t record_words, uint8_t *out, size_t out_len, size_t *bits);
+
+/*
+ * Writes the archive of a home network that holds nothing, 5 bytes, to the front of `out`, and its length in bytes to
+ * `length`. Refuses, in this order: BOC_RANGE for a home network of 16,777,216 or more; BOC_ROOM.
+ */
+uint32_t boc_empty(uint32_t home, uint8_t *out, size_t out_len, size_t *length);
+
+/*
+ * Writes to the front of `out` the archive that holds the PDU of `bits` bits in `pdu` too, and its length in bytes to
+ * `length`. A PDU that was held for the same user and part is replaced, and its room is used again.
+ * Refuses, in this order: BOC_ARCHIVE; what boc_read refuses of the PDU, BOC_FRAME to BOC_LEFT and BOC_OTHER_TYPE;
+ * BOC_UNFIT unless it is an INTERROGATE ACK with range type 1 for affected users and with identities or numbers as
+ * its result; BOC_ROOM.
+ */
+uint32_t boc_capture(const uint8_t *archive, size_t archive_len, const uint8_t *pdu, size_t pdu_len, size_t bits,
+                     uint8_t *out, size_t out_len, size_t *length);
+
+/*
+ * Writes the PDU held for a user and part (enum boc_part) to the front of `out`, and its length in bits to `bits`.
+ * Refuses, in this order: BOC_RANGE for a network or SSI of 16,777,216 or more, or a part other than the two;
+ * BOC_ARCHIVE; BOC_NOT_HELD; BOC_ROOM.
+ */
+uint32_t boc_restore(const uint8_t *archive, size_t archive_len, uint32_t network, uint32_t ssi, uint32_t part,
+                     uint8_t *out, size_t out_len, size_t *bits);
+
+/*
+ * Decides a request by the part that the archive holds for its user, and writes the decision (enum boc_decision) to
+ * `decision`. Refuses, in this order: BOC_RANGE if request_words is not 34 or the request is out of its range;
+ * BOC_ARCHIVE.
+ */
+uint32_t boc_decide(const uint8_t *archive, size_t archive_len, const uint32_t *request, size_t request_words,
+                    uint32_t *decision);
+
+/*
+ * Writes the listing of an archive to the front of `out` as text with no zero byte at its end, and its length in bytes
+ * to `length`: `home H entries N`, then for each entry `NETWORK SSI part P bits B`, each on a line, in decimal.
+ * Refuses, in this order: BOC_ARCHIVE; BOC_ROOM.
+ */
+uint32_t boc_contents(const uint8_t *archive, size_t archive_len, uint8_t *out, size_t out_len, size_t *length);
+
+#ifdef __cplusplus
+}
+#endif
+
+#endif

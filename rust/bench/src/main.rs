@@ -1,0 +1,182 @@
+//! Prints, as Markdown, the time per call of the library beside the reference: the same inputs in the same
+//! run, round by round in turn, of each side the fastest round.
+
+#![forbid(unsafe_code)]
+
+use std::hint::black_box;
+use std::time::{Duration, Instant};
+
+use differential::{part, Archive, Entry, Pdu, Record, Rng, Size};
+use reference::layout::{record as at, request, IDENTITY_WORDS, RECORD_WORDS, REQUEST_WORDS};
+
+const ROUNDS: usize = 200;
+const ROUND: Duration = Duration::from_micros(400);
+const ROOM: usize = 65_536;
+const CALLS: [&str; 3] = ["capture", "restore", "decide"];
+
+/// Nanoseconds per call.
+#[derive(Clone, Copy)]
+struct Times {
+    library: f64,
+    reference: f64,
+}
+
+impl Times {
+    /// Measures two calls that answer alike, each through its own buffers.
+    fn of<T: PartialEq>(mut library: impl FnMut() -> T, mut reference: impl FnMut() -> T) -> Self {
+        assert!(library() == reference(), "the two sides answer alike");
+        let calls = calls_per_round(&mut library);
+        let mut best = Times { library: f64::INFINITY, reference: f64::INFINITY };
+        for _ in 0..ROUNDS {
+            best.library = best.library.min(round(calls, &mut library));
+            best.reference = best.reference.min(round(calls, &mut reference));
+        }
+        best
+    }
+
+    /// Prints a row whose first cells say what was measured.
+    fn row(&self, cells: &str) {
+        let Times { library, reference } = self;
+        println!("| {cells} | {library:.0} | {reference:.0} | {:.2} |", library / reference);
+    }
+
+    /// The time for each entry from the first measurement to the last.
+    fn growth(few: (usize, Times), many: (usize, Times)) -> Times {
+        let entries = (many.0 - few.0) as f64;
+        Times {
+            library: (many.1.library - few.1.library) / entries,
+            reference: (many.1.reference - few.1.reference) / entries,
+        }
+    }
+}
+
+/// Nanoseconds per call in one round.
+fn round<T>(calls: u32, call: &mut impl FnMut() -> T) -> f64 {
+    let began = Instant::now();
+    for _ in 0..calls {
+        black_box(call());
+    }
+    began.elapsed().as_nanos() as f64 / f64::from(calls)
+}
+
+fn calls_per_round<T>(call: &mut impl FnMut() -> T) -> u32 {
+    let mut calls = 1;
+    loop {
+        let time = round(calls, call) * f64::from(calls);
+        if time >= ROUND.as_nanos() as f64 {
+            return calls;
+        }
+        calls *= 2;
+    }
+}
+
+/// The longest part of a kind that a PDU can be: eight affected users, every list full.
+fn longest(rng: &mut Rng, kind: u32) -> Record {
+    let mut words = part(rng, 1, [2, 5], kind, Size::Full);
+    words[at::AFFECTED] = 8;
+    for place in 0..8 {
+        let entry = at::AFFECTED + 1 + IDENTITY_WORDS * place;
+        words[entry..][..IDENTITY_WORDS].copy_from_slice(&[rng.bits(24), 1, rng.bits(24)]);
+    }
+    words
+}
+
+fn read_and_write(rng: &mut Rng) {
+    for (kind, name) in [(1, "identity"), (2, "number")] {
+        let record = longest(rng, kind);
+        let Pdu { bytes, bits } = Pdu::of(&record);
+        let (mut ours, mut theirs) = ([0; RECORD_WORDS], [0; RECORD_WORDS]);
+        Times::of(
+            || boc::ffi::read(black_box(&bytes), bits, black_box(&mut ours)),
+            || number(reference::read(black_box(&bytes), bits, black_box(&mut theirs))),
+        )
+        .row(&format!("read | {name} | {bits}"));
+        let (mut ours, mut theirs) = ([0; 512], [0; 512]);
+        let mut written = 0;
+        Times::of(
+            || boc::ffi::write(black_box(&record), black_box(&mut ours), &mut written),
+            || number(reference::write(black_box(&record), black_box(&mut theirs))),
+        )
+        .row(&format!("write | {name} | {bits}"));
+    }
+}
+
+fn number<T>(answer: Result<T, reference::Refusal>) -> u32 {
+    answer.map_or_else(|refusal| refusal.number(), |_| 0)
+}
+
+/// Capture in place of the last entry, restore of it, and a decision by it, in the order of `CALLS`.
+fn on_archive(archive: &Archive) -> [Times; 3] {
+    let held = archive.bytes();
+    let held = held.as_slice();
+    let Entry { user: [network, ssi], part, pdu } = archive.entries.last().expect("it has entries");
+    let (bytes, bits) = (pdu.bytes.as_slice(), pdu.bits);
+    let (mut ours, mut theirs) = (vec![0; ROOM], vec![0; ROOM]);
+    let mut length = 0;
+    let capture = Times::of(
+        || boc::ffi::capture(black_box(held), bytes, bits, black_box(&mut ours), &mut length),
+        || number(reference::capture(black_box(held), bytes, bits, black_box(&mut theirs))),
+    );
+    let restore = Times::of(
+        || boc::ffi::restore(black_box(held), *network, *ssi, *part, black_box(&mut ours), &mut length),
+        || number(reference::restore(black_box(held), *network, *ssi, *part, black_box(&mut theirs))),
+    );
+    // Speech to a destination that no list has, so that every entry is looked at.
+    let mut call = [0; REQUEST_WORDS];
+    call[..4].copy_from_slice(&[*network, *ssi, 1, *part]);
+    if *part == 1 {
+        call[request::NETWORK..][..2].copy_from_slice(&[0x12_3456, 0x65_4321]);
+    } else {
+        call[request::LENGTH] = 24;
+        call[request::FIRST_DIGIT..][..24].fill(7);
+    }
+    let mut decision = 0;
+    let decide = Times::of(
+        || boc::ffi::decide(black_box(held), black_box(&call), &mut decision),
+        || number(reference::decide(black_box(held), black_box(&call))),
+    );
+    [capture, restore, decide]
+}
+
+fn head(cells: &[&str]) {
+    println!(
+        "\n| {} | library | reference | ratio |\n|{}",
+        cells.join(" | "),
+        "---|".repeat(cells.len() + 3)
+    );
+}
+
+fn main() {
+    let rng = &mut Rng::new(2026, 0);
+    println!("Nanoseconds per call on {}, and the ratio of library to reference.", std::env::consts::ARCH);
+    println!("\nThe longest parts, with eight affected users:");
+    head(&["call", "part", "bits"]);
+    read_and_write(rng);
+
+    println!("\nOn the last entry of an archive:");
+    head(&["call", "parts", "bodies", "entries"]);
+    let mut growths = Vec::new();
+    for (kind, name) in [(1, "identity"), (2, "number")] {
+        for (size, body) in [(Size::Small, "smallest"), (Size::Full, "longest")] {
+            let mut measured = Vec::new();
+            for count in [1, 64, 512] {
+                let archive = Archive::of_parts(rng, count, &[kind], size);
+                let entries = archive.entries.len();
+                let times = on_archive(&archive);
+                for (call, times) in CALLS.iter().zip(times) {
+                    times.row(&format!("{call} | {name} | {body} | {entries}"));
+                }
+                measured.push((entries, times));
+            }
+            let ((few, first), (many, last)) = (measured[0], measured[2]);
+            for (i, call) in CALLS.iter().enumerate() {
+                let cells = format!("{call} | {name} | {body} | {few} to {many}");
+                growths.push((cells, Times::growth((few, first[i]), (many, last[i]))));
+            }
+        }
+    }
+
+    println!("\nFor each entry more:");
+    head(&["call", "parts", "bodies", "entries"]);
+    growths.iter().for_each(|(cells, times)| times.row(cells));
+}

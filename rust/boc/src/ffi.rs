@@ -1,0 +1,107 @@
+//! The declarations of `include/boc.h`, and each call behind a safe function of the same shape.
+//!
+//! The library reads and writes only within the lengths that it is given and keeps no pointer. Slices are
+//! valid for their lengths, and Rust's borrows keep what is written apart from all else, so the calls are
+//! safe for all arguments.
+
+#![allow(unsafe_code)]
+
+mod c {
+    extern "C" {
+        pub fn boc_read(
+            pdu: *const u8,
+            pdu_len: usize,
+            bits: usize,
+            record: *mut u32,
+            record_words: usize,
+        ) -> u32;
+        pub fn boc_write(
+            record: *const u32,
+            record_words: usize,
+            out: *mut u8,
+            out_len: usize,
+            bits: *mut usize,
+        ) -> u32;
+        pub fn boc_empty(home: u32, out: *mut u8, out_len: usize, length: *mut usize) -> u32;
+        pub fn boc_capture(
+            archive: *const u8,
+            archive_len: usize,
+            pdu: *const u8,
+            pdu_len: usize,
+            bits: usize,
+            out: *mut u8,
+            out_len: usize,
+            length: *mut usize,
+        ) -> u32;
+        pub fn boc_restore(
+            archive: *const u8,
+            archive_len: usize,
+            network: u32,
+            ssi: u32,
+            part: u32,
+            out: *mut u8,
+            out_len: usize,
+            bits: *mut usize,
+        ) -> u32;
+        pub fn boc_decide(
+            archive: *const u8,
+            archive_len: usize,
+            request: *const u32,
+            request_words: usize,
+            decision: *mut u32,
+        ) -> u32;
+        pub fn boc_contents(
+            archive: *const u8,
+            archive_len: usize,
+            out: *mut u8,
+            out_len: usize,
+            length: *mut usize,
+        ) -> u32;
+    }
+}
+
+/// `boc_read`.
+pub fn read(pdu: &[u8], bits: usize, record: &mut [u32]) -> u32 {
+    // SAFETY: slices, as above.
+    unsafe { c::boc_read(pdu.as_ptr(), pdu.len(), bits, record.as_mut_ptr(), record.len()) }
+}
+
+/// `boc_write`.
+pub fn write(record: &[u32], out: &mut [u8], bits: &mut usize) -> u32 {
+    // SAFETY: slices and a reference, as above.
+    unsafe { c::boc_write(record.as_ptr(), record.len(), out.as_mut_ptr(), out.len(), bits) }
+}
+
+/// `boc_empty`.
+pub fn empty(home: u32, out: &mut [u8], length: &mut usize) -> u32 {
+    // SAFETY: slices and a reference, as above.
+    unsafe { c::boc_empty(home, out.as_mut_ptr(), out.len(), length) }
+}
+
+/// `boc_capture`.
+pub fn capture(archive: &[u8], pdu: &[u8], bits: usize, out: &mut [u8], length: &mut usize) -> u32 {
+    let (held, held_len) = (archive.as_ptr(), archive.len());
+    // SAFETY: slices and a reference, as above.
+    unsafe {
+        c::boc_capture(held, held_len, pdu.as_ptr(), pdu.len(), bits, out.as_mut_ptr(), out.len(), length)
+    }
+}
+
+/// `boc_restore`.
+pub fn restore(archive: &[u8], network: u32, ssi: u32, part: u32, out: &mut [u8], bits: &mut usize) -> u32 {
+    let (held, held_len) = (archive.as_ptr(), archive.len());
+    // SAFETY: slices and a reference, as above.
+    unsafe { c::boc_restore(held, held_len, network, ssi, part, out.as_mut_ptr(), out.len(), bits) }
+}
+
+/// `boc_decide`.
+pub fn decide(archive: &[u8], request: &[u32], decision: &mut u32) -> u32 {
+    // SAFETY: slices and a reference, as above.
+    unsafe { c::boc_decide(archive.as_ptr(), archive.len(), request.as_ptr(), request.len(), decision) }
+}
+
+/// `boc_contents`.
+pub fn contents(archive: &[u8], out: &mut [u8], length: &mut usize) -> u32 {
+    // SAFETY: slices and a reference, as above.
+    unsafe { c::boc_contents(archive.as_ptr(), archive.len(), out.as_mut_ptr(), out.len(), length) }
+}

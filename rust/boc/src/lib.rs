@@ -1,0 +1,140 @@
+//! Barring of outgoing calls (BOC, EN 300 392-12-18) from Rust: the proved library `libboc.a` behind slices,
+//! plain structs and enums.
+//!
+//! It reads and writes INTERROGATE and INTERROGATE ACK PDUs, keeps INTERROGATE ACKs in an archive, restores
+//! them bit for bit, and decides calls from it. Every call answers with a value or a [`Refusal`]; a refused
+//! call changes no byte of what it was lent, and an accepted one leaves the bytes after what it wrote.
+//! Nothing is allocated.
+//!
+//! A PDU is a number of bits, most significant first, in exactly the bytes that hold them, with zero bits
+//! after them. An archive is exactly the slice that was written: the first N bytes of the buffer, where N is
+//! what [`empty`] or [`capture`] gave.
+//!
+//! ```
+//! use boc::*;
+//!
+//! // Speech to 100 to 199 is barred for user 5 of the home network, except to 150.
+//! let record = Record {
+//!     affected: List::of([Identity::at_home(5)]),
+//!     result: Outcome::Identities,
+//!     services: Services::of([Service::Speech]),
+//!     restricted: List::range(Identity::at_home(100), Identity::at_home(199)),
+//!     exceptions: List::of([Identity::at_home(150)]),
+//!     ..Record::default()
+//! };
+//! let mut pdu = [0; PDU_BYTES];
+//! let bits = write(&record, &mut pdu)?;
+//! let pdu = &pdu[..bits.div_ceil(8)];
+//! assert_eq!(read(pdu, bits), Ok(record));
+//!
+//! let (mut old, mut new) = ([0; 64], [0; 64]);
+//! let length = empty(1, &mut old)?;
+//! let length = capture(&old[..length], pdu, bits, &mut new)?;
+//! let archive = &new[..length];
+//!
+//! let user = Party { network: 1, ssi: 5 };
+//! let call = |ssi| Request {
+//!     user,
+//!     service: Service::Speech,
+//!     destination: Destination::Identity(Party { network: 1, ssi }),
+//!     group: None,
+//! };
+//! assert_eq!(decide(archive, &call(100))?, Decision::RestrictedDestination);
+//! assert_eq!(decide(archive, &call(150))?, Decision::Allowed);
+//!
+//! let mut back = [0; PDU_BYTES];
+//! assert_eq!(restore(archive, user, Part::Identity, &mut back), Ok(bits));
+//! assert_eq!(restore(archive, user, Part::Number, &mut back), Err(Refusal::NotHeld));
+//! assert_eq!(&back[..pdu.len()], pdu);
+//! # Ok::<(), Refusal>(())
+//! ```
+//!
+//! Building needs `libboc.a` for the target's processor, in the folder that `BOC_LIB_DIR` names.
+
+#![no_std]
+#![deny(unsafe_code)]
+#![warn(missing_docs)]
+
+mod codes;
+pub mod ffi;
+mod record;
+mod refusal;
+mod request;
+mod words;
+
+pub use codes::{Decision, DeliveryStatus, InterrogationType, Outcome, Part, PduType, Service};
+pub use record::{Identities, Identity, List, Number, Numbers, Record, Services, RECORD_WORDS};
+pub use refusal::Refusal;
+pub use request::{Destination, Party, Request, REQUEST_WORDS};
+
+/// Bytes of the longest PDU that is read or written.
+pub const PDU_BYTES: usize = 307;
+/// Bytes of the longest archive.
+pub const ARCHIVE_BYTES: usize = 65_536;
+/// No listing is longer than this many bytes: 26, and 35 for each of 512 entries.
+pub const CONTENTS_BYTES: usize = 26 + 35 * 512;
+
+/// The record of the PDU of `bits` bits.
+///
+/// Refuses with [`Frame`](Refusal::Frame); then, element by element, with [`Short`](Refusal::Short),
+/// [`Value`](Refusal::Value), [`OtherType`](Refusal::OtherType) and [`Ends`](Refusal::Ends); then with
+/// [`Left`](Refusal::Left).
+pub fn read(pdu: &[u8], bits: usize) -> Result<Record, Refusal> {
+    let mut words = [0; RECORD_WORDS];
+    Refusal::check(ffi::read(pdu, bits, &mut words))?;
+    Ok(Record::from_words(&words).expect("what is read is a record"))
+}
+
+/// Writes a record's PDU to the front of `out`; answers its length in bits.
+///
+/// Refuses with [`Value`](Refusal::Value) for anything that must be zero and is not; then, element by
+/// element, with [`Value`](Refusal::Value) and [`Ends`](Refusal::Ends); then with [`Room`](Refusal::Room).
+pub fn write(record: &Record, out: &mut [u8]) -> Result<usize, Refusal> {
+    answer(|bits| ffi::write(&record.to_words(), out, bits))
+}
+
+/// Writes the archive of a home network that holds nothing to the front of `out`; answers its length in
+/// bytes.
+///
+/// Refuses with [`Range`](Refusal::Range), then with [`Room`](Refusal::Room).
+pub fn empty(home: u32, out: &mut [u8]) -> Result<usize, Refusal> {
+    answer(|length| ffi::empty(home, out, length))
+}
+
+/// Writes to the front of `out` the archive that holds the PDU of `bits` bits too, in place of one for the
+/// same user and part; answers its length in bytes.
+///
+/// Refuses with [`Archive`](Refusal::Archive), then as [`read`] does, then with [`Unfit`](Refusal::Unfit),
+/// then with [`Room`](Refusal::Room).
+pub fn capture(archive: &[u8], pdu: &[u8], bits: usize, out: &mut [u8]) -> Result<usize, Refusal> {
+    answer(|length| ffi::capture(archive, pdu, bits, out, length))
+}
+
+/// Writes the PDU held for a user and part to the front of `out`; answers its length in bits.
+///
+/// Refuses with [`Range`](Refusal::Range), [`Archive`](Refusal::Archive), [`NotHeld`](Refusal::NotHeld) and
+/// [`Room`](Refusal::Room), in this order.
+pub fn restore(archive: &[u8], user: Party, part: Part, out: &mut [u8]) -> Result<usize, Refusal> {
+    answer(|bits| ffi::restore(archive, user.network, user.ssi, part.number(), out, bits))
+}
+
+/// Decides a call by the part that the archive holds for its user.
+///
+/// Refuses with [`Range`](Refusal::Range), then with [`Archive`](Refusal::Archive).
+pub fn decide(archive: &[u8], request: &Request) -> Result<Decision, Refusal> {
+    let number = answer(|decision| ffi::decide(archive, &request.to_words(), decision))?;
+    Ok(Decision::from_number(number).expect("what is decided is a decision"))
+}
+
+/// Writes the listing of an archive to the front of `out` as text; answers its length in bytes.
+///
+/// Refuses with [`Archive`](Refusal::Archive), then with [`Room`](Refusal::Room).
+pub fn contents(archive: &[u8], out: &mut [u8]) -> Result<usize, Refusal> {
+    answer(|length| ffi::contents(archive, out, length))
+}
+
+/// The number that a call answers, or its refusal.
+fn answer<N: Default>(call: impl FnOnce(&mut N) -> u32) -> Result<N, Refusal> {
+    let mut number = N::default();
+    Refusal::check(call(&mut number)).map(|()| number)
+}

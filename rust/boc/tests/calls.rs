@@ -1,0 +1,122 @@
+//! The calls of the crate on the scope's examples.
+
+use boc::*;
+
+const USER: Party = Party { network: 1, ssi: 5 };
+/// Profile A as a PDU of 138 bits.
+const PROFILE_A: [u8; 18] = [
+    0x49, 0x82, 0x00, 0x00, 0x0a, 0x21, 0x21, 0x20, 0x00, 0x0c, 0x80, 0x00, 0x0c, 0x70, 0x80, 0x00, 0x4b,
+    0x00,
+];
+
+fn profile_a() -> Record {
+    Record {
+        affected: List::of([Identity::at_home(5)]),
+        result: Outcome::Identities,
+        services: Services::of([Service::Speech]),
+        restricted: List::range(Identity::at_home(100), Identity::at_home(199)),
+        exceptions: List::of([Identity::at_home(150)]),
+        ..Record::default()
+    }
+}
+
+fn captured(record: &Record, archive: &[u8]) -> Result<Vec<u8>, Refusal> {
+    let mut pdu = [0; PDU_BYTES];
+    let bits = write(record, &mut pdu)?;
+    let mut out = vec![0; ARCHIVE_BYTES];
+    let length = capture(archive, &pdu[..bits.div_ceil(8)], bits, &mut out)?;
+    out.truncate(length);
+    Ok(out)
+}
+
+fn example() -> Vec<u8> {
+    captured(&profile_a(), &[0, 0, 1, 0, 0]).unwrap()
+}
+
+#[test]
+fn a_record_is_written_and_read() {
+    let mut out = [0xff; PDU_BYTES];
+    assert_eq!(write(&profile_a(), &mut out), Ok(138));
+    assert_eq!(out[..18], PROFILE_A);
+    assert!(out[18..].iter().all(|byte| *byte == 0xff));
+    let record = read(&PROFILE_A, 138).unwrap();
+    assert_eq!(record, profile_a());
+    assert!(record.restricted.is_range());
+    assert_eq!(record.exceptions.entries(), [Identity::at_home(150)]);
+    assert_eq!(record.services.as_slice(), [Service::Speech]);
+}
+
+#[test]
+fn words_and_records_are_inverse() {
+    let words = profile_a().to_words();
+    assert_eq!(Record::from_words(&words), Some(profile_a()));
+    for place in 0..RECORD_WORDS {
+        let mut other = words;
+        other[place] = u32::MAX;
+        assert!(Record::from_words(&other).is_none_or(|record| record.to_words() == other));
+    }
+}
+
+#[test]
+fn refusals_have_their_numbers_and_words() {
+    let mut small = [0; 4];
+    let reversed = List::range(Identity::at_home(200), Identity::at_home(199));
+    assert_eq!(read(&PROFILE_A, 145), Err(Refusal::Frame));
+    assert_eq!(read(&PROFILE_A, 137), Err(Refusal::Short));
+    assert_eq!(read(&[0, 0], 11), Err(Refusal::Value));
+    assert_eq!(read(&PROFILE_A, 144), Err(Refusal::Left));
+    assert_eq!(read(&[0x48, 0x40], 11), Err(Refusal::OtherType));
+    assert_eq!(write(&Record { restricted: reversed, ..profile_a() }, &mut small), Err(Refusal::Ends));
+    assert_eq!(write(&profile_a(), &mut small), Err(Refusal::Room));
+    assert_eq!(empty(1 << 24, &mut small), Err(Refusal::Range));
+    assert_eq!(contents(&PROFILE_A, &mut small), Err(Refusal::Archive));
+    assert_eq!(restore(&example(), USER, Part::Number, &mut small), Err(Refusal::NotHeld));
+    let failed = Record { result: Outcome::Failed, restricted: List::default(), ..profile_a() };
+    let failed = Record { exceptions: List::default(), ..failed };
+    assert_eq!(captured(&failed, &example()), Err(Refusal::Unfit));
+    assert_eq!(Refusal::NotHeld.to_string(), "refused 11: not held");
+}
+
+#[test]
+fn an_archive_lists_restores_and_decides() {
+    let archive = example();
+    let mut text = [0; CONTENTS_BYTES];
+    let length = contents(&archive, &mut text).unwrap();
+    assert_eq!(&text[..length], b"home 1 entries 1\n1 5 part 1 bits 138\n");
+    let mut back = [0; PDU_BYTES];
+    assert_eq!(restore(&archive, USER, Part::Identity, &mut back), Ok(138));
+    assert_eq!(back[..18], PROFILE_A);
+
+    let to_number = Request {
+        user: USER,
+        service: Service::Speech,
+        destination: Destination::Number("112".parse().unwrap()),
+        group: None,
+    };
+    assert_eq!(decide(&archive, &to_number), Ok(Decision::NotHeld));
+    let numbers = Record {
+        affected: List::of([Identity::at_home(5)]),
+        result: Outcome::Numbers,
+        services: Services::of([Service::All]),
+        groups: List::of([Identity { ssi: 500, extension: Some(2) }]),
+        restricted_numbers: List::of(["112".parse().unwrap()]),
+        ..Record::default()
+    };
+    let archive = captured(&numbers, &archive).unwrap();
+    assert_eq!(decide(&archive, &to_number), Ok(Decision::RestrictedDestination));
+    let elsewhere = Request { destination: Destination::Number("113".parse().unwrap()), ..to_number };
+    assert_eq!(decide(&archive, &elsewhere).map(Decision::cause), Ok(Some(0)));
+    let in_group = Request { group: Some(Party { network: 2, ssi: 500 }), ..elsewhere };
+    assert_eq!(decide(&archive, &in_group), Ok(Decision::Allowed));
+    assert_eq!(decide(&archive, &Request { service: Service::All, ..in_group }), Err(Refusal::Range));
+}
+
+#[test]
+fn lists_take_eight_entries() {
+    let eight = List::of([1, 2, 3, 4, 5, 6, 7, 8].map(Identity::at_home));
+    let record = Record { affected: eight, ..profile_a() };
+    let mut pdu = [0; PDU_BYTES];
+    let bits = write(&record, &mut pdu).unwrap();
+    assert_eq!(read(&pdu[..bits.div_ceil(8)], bits), Ok(record));
+    assert_eq!(captured(&record, &example()), Err(Refusal::Unfit));
+}

@@ -1,0 +1,119 @@
+//! Tries the program `contents` from outside: `program COMMAND [WORDS...]`, where the command runs it.
+//!
+//! Each case gives it an input and compares what it prints with the reference's listing, or with `refused 7`.
+
+#![forbid(unsafe_code)]
+
+use std::io::{ErrorKind, Result, Write};
+use std::process::{Command, ExitCode, Stdio};
+use std::thread::sleep;
+use std::time::Duration;
+
+use differential::{Archive, Rng, Size, MAX_BYTES, MAX_ENTRIES};
+
+const SEED: u64 = 2026;
+/// The archive that holds profile A for user 1/5 of home network 1.
+const EXAMPLE: [u8; 32] = [
+    0x00, 0x00, 0x01, 0x00, 0x01, 0x00, 0x00, 0x01, 0x00, 0x00, 0x05, 0x01, 0x00, 0x8a, 0x49, 0x82, 0x00,
+    0x00, 0x0a, 0x21, 0x21, 0x20, 0x00, 0x0c, 0x80, 0x00, 0x0c, 0x70, 0x80, 0x00, 0x4b, 0x00,
+];
+
+/// How an input arrives.
+#[derive(Clone, Copy)]
+enum Arrival {
+    AtOnce,
+    /// In this many pieces, with a pause between them.
+    InPieces(usize),
+}
+use Arrival::{AtOnce, InPieces};
+
+/// What the program prints of an input.
+fn printed(command: &[String], input: &[u8], arrival: Arrival) -> Result<Vec<u8>> {
+    let mut child =
+        Command::new(&command[0]).args(&command[1..]).stdin(Stdio::piped()).stdout(Stdio::piped()).spawn()?;
+    let mut stdin = child.stdin.take().expect("its input is piped");
+    let written = match arrival {
+        AtOnce => stdin.write_all(input),
+        InPieces(count) => input.chunks(input.len().div_ceil(count)).try_for_each(|piece| {
+            sleep(Duration::from_millis(20));
+            stdin.write_all(piece)
+        }),
+    };
+    // The program takes no more than it needs, so that the end of a longer input may not be wanted.
+    written.or_else(|error| if error.kind() == ErrorKind::BrokenPipe { Ok(()) } else { Err(error) })?;
+    drop(stdin);
+    let output = child.wait_with_output()?;
+    assert!(output.status.success(), "the program ended with {}", output.status);
+    Ok(output.stdout)
+}
+
+fn expected(input: &[u8]) -> Vec<u8> {
+    let mut text = vec![0; 1 << 16];
+    match reference::contents(input, &mut text) {
+        Ok(length) => text[..length].to_vec(),
+        Err(refusal) => format!("refused {}\n", refusal.number()).into_bytes(),
+    }
+}
+
+/// The inputs, each with its name, whether it is an archive, and how it arrives.
+fn cases(rng: &mut Rng) -> Vec<(String, Vec<u8>, bool, Arrival)> {
+    let empty = Archive { home: 0xff_ffff, entries: Vec::new() }.bytes();
+    let full = Archive::random(rng, MAX_ENTRIES, Size::Small).bytes();
+    let longest = Archive::of_length(rng, MAX_BYTES).bytes();
+    let too_long = Archive::of_length(rng, MAX_BYTES + 1).bytes();
+    let mut cases = vec![
+        ("the example".into(), EXAMPLE.to_vec(), true, AtOnce),
+        ("the example, byte by byte".into(), EXAMPLE.to_vec(), true, InPieces(32)),
+        ("an empty archive".into(), empty, true, AtOnce),
+        ("512 entries".into(), full.clone(), true, AtOnce),
+        ("512 entries in pieces".into(), full.clone(), true, InPieces(7)),
+        ("65,536 bytes".into(), longest.clone(), true, AtOnce),
+        ("65,536 bytes in pieces".into(), longest.clone(), true, InPieces(5)),
+        ("65,537 bytes".into(), too_long, false, AtOnce),
+        ("65,536 bytes and one more in pieces".into(), [&longest[..], &[0]].concat(), false, InPieces(5)),
+        ("twice 65,536 bytes".into(), longest.repeat(2), false, AtOnce),
+        ("no input".into(), Vec::new(), false, AtOnce),
+    ];
+    // One damaged byte in each region: home network, count, contents, body, end.
+    for (archive, name) in [(&EXAMPLE[..], "the example"), (&full, "512 entries"), (&longest, "65,536 bytes")]
+    {
+        let entries = usize::from(u16::from_be_bytes([archive[3], archive[4]]));
+        let bodies = 5 + 9 * entries;
+        for (region, place, bits) in [
+            ("count", 4, 1),
+            ("contents", 5 + 6, 3),
+            ("length", bodies - 1, 0x80),
+            ("body", bodies, 0x80),
+            ("end", archive.len() - 1, 1),
+        ] {
+            let mut damaged = archive.to_vec();
+            damaged[place] ^= bits;
+            cases.push((format!("{name}, {region} damaged"), damaged, false, AtOnce));
+        }
+        cases.push((format!("{name}, cut"), archive[..archive.len() - 1].to_vec(), false, AtOnce));
+    }
+    let mut other_home = EXAMPLE.to_vec();
+    other_home[0] ^= 1;
+    cases.push(("the example, home network damaged".into(), other_home, false, AtOnce));
+    cases
+}
+
+fn main() -> Result<ExitCode> {
+    let command: Vec<String> = std::env::args().skip(1).collect();
+    if command.is_empty() {
+        eprintln!("usage: program COMMAND [WORDS...]");
+        return Ok(ExitCode::from(2));
+    }
+    let cases = cases(&mut Rng::new(SEED, 0));
+    let mut failed = 0;
+    for (name, input, legal, arrival) in &cases {
+        let expected = expected(input);
+        assert_eq!(*legal, expected != b"refused 7\n", "{name} is not the case that it should be");
+        if printed(&command, input, *arrival)? != expected {
+            println!("contents prints something else for: {name}");
+            failed += 1;
+        }
+    }
+    println!("contents: {} inputs, {failed} failed", cases.len());
+    Ok(if failed == 0 { ExitCode::SUCCESS } else { ExitCode::FAILURE })
+}

@@ -1,0 +1,242 @@
+//! Records and PDUs.
+
+use reference::layout::{record as at, DIGITS, IDENTITY_WORDS, NUMBER_WORDS, PLACES, RECORD_WORDS, SERVICES};
+
+use crate::{network, ssi, Rng};
+
+/// The words of a record.
+pub type Record = [u32; RECORD_WORDS];
+
+/// How many entries the lists of a record have.
+#[derive(Clone, Copy, PartialEq, Eq)]
+pub enum Size {
+    /// As few as a part can have.
+    Small,
+    /// Any.
+    Any,
+    /// As many as fit, and each as long as can be.
+    Full,
+}
+
+/// A PDU: its bytes and its bits.
+#[derive(Clone)]
+pub struct Pdu {
+    /// The bytes.
+    pub bytes: Vec<u8>,
+    /// How many bits they hold.
+    pub bits: usize,
+}
+
+impl Pdu {
+    /// The PDU of a legal record.
+    pub fn of(record: &Record) -> Self {
+        let mut bytes = vec![0; 512];
+        let bits = reference::write(record, &mut bytes).expect("the record is legal");
+        bytes.truncate(bits.div_ceil(8));
+        Pdu { bytes, bits }
+    }
+
+    /// As many bytes as the bits need, and zero bits after them.
+    fn frame(&mut self) {
+        self.bytes.resize(self.bits.div_ceil(8), 0);
+        if let (Some(last), 1..) = (self.bytes.last_mut(), self.bits % 8) {
+            *last &= 0xff << (8 - self.bits % 8);
+        }
+    }
+
+    fn flip(&mut self, rng: &mut Rng) {
+        if self.bits > 0 {
+            let place = rng.below(self.bits);
+            self.bytes[place / 8] ^= 0x80 >> (place % 8);
+        }
+    }
+
+    /// Changes the PDU, most often to one that is refused.
+    pub fn damage(&mut self, rng: &mut Rng) {
+        match rng.below(12) {
+            0..=3 => (0..rng.between(1, 3)).for_each(|_| self.flip(rng)),
+            4 | 5 => {
+                self.bits = rng.below(self.bits + 1);
+                self.frame();
+                if rng.one_in(2) {
+                    self.flip(rng);
+                }
+            }
+            6 => {
+                self.bits += rng.between(1, 20);
+                self.frame();
+                if rng.one_in(2) {
+                    self.flip(rng);
+                }
+            }
+            7 => self.bits = (self.bits + rng.below(18)).saturating_sub(9),
+            8 => self.bytes.resize((self.bytes.len() + rng.below(4)).saturating_sub(2), 0),
+            9 => {
+                if let Some(last) = self.bytes.last_mut() {
+                    *last |= 1 << rng.below(8);
+                }
+            }
+            10 => {
+                self.bits = rng.pick(&[0, 1, 10, 11, 12, 64, 4095, 4096, 4097, 4104]);
+                self.bytes.resize(self.bits.div_ceil(8), 0);
+                rng.fill(&mut self.bytes);
+                if rng.one_in(2) {
+                    self.frame();
+                }
+            }
+            _ => match rng.below(3) {
+                // Any PDU type behind the SS type.
+                0 => {
+                    self.bytes = vec![0x48 | rng.bits(2) as u8, (rng.bits(3) as u8) << 5, 0];
+                    self.bits = rng.between(11, 17);
+                    self.frame();
+                }
+                // A count that rounding up would overflow.
+                1 => self.bits = usize::MAX - rng.below(9),
+                _ => rng.fill(&mut self.bytes),
+            },
+        }
+    }
+}
+
+/// A legal record.
+pub fn record(rng: &mut Rng) -> Record {
+    let mut words = [0; RECORD_WORDS];
+    if rng.one_in(4) {
+        words[at::PDU_TYPE] = 11;
+        words[at::INTERROGATION_TYPE] = rng.between(1, 3) as u32;
+    } else {
+        let result = rng.pick(&[0, 1, 1, 1, 2, 2, 2, 3, 4, 6, 7]);
+        acknowledge(rng, &mut words, result, Size::Any);
+    }
+    let code = rng.pick(&[1, 1, 1, 2, 3, 5, 8, 9]);
+    identities(rng, &mut words, at::AFFECTED, code, Size::Any);
+    words
+}
+
+/// The record of a part of a user, with the network spelt out unless it is the home network.
+pub fn part(rng: &mut Rng, home: u32, user: [u32; 2], part: u32, size: Size) -> Record {
+    let mut words = [0; RECORD_WORDS];
+    acknowledge(rng, &mut words, part, size);
+    let [network, ssi] = user;
+    let entry =
+        if network == home && size != Size::Full && rng.one_in(2) { [ssi, 0, 0] } else { [ssi, 1, network] };
+    words[at::AFFECTED] = 1;
+    words[at::AFFECTED + 1..][..IDENTITY_WORDS].copy_from_slice(&entry);
+    words
+}
+
+/// An INTERROGATE ACK but for its affected users.
+fn acknowledge(rng: &mut Rng, words: &mut Record, result: u32, size: Size) {
+    let services = match size {
+        Size::Small => 1,
+        Size::Any => rng.between(1, SERVICES),
+        Size::Full => SERVICES,
+    };
+    words[at::PDU_TYPE] = 12;
+    words[at::RESULT] = result;
+    words[at::DELIVERY] = rng.bits(2);
+    words[at::SERVICE_COUNT] = services as u32;
+    for service in &mut words[at::FIRST_SERVICE..][..services] {
+        *service = rng.bits(2);
+    }
+    if result == 1 {
+        for list in [at::GROUPS, at::RESTRICTED, at::EXCEPTIONS] {
+            let code = code(rng, size, 9);
+            identities(rng, words, list, code, size);
+        }
+    }
+    if result == 2 {
+        let groups = code(rng, size, 9);
+        identities(rng, words, at::GROUPS, groups, size);
+        for list in [at::RESTRICTED_NUMBERS, at::EXCEPTED_NUMBERS] {
+            let code = code(rng, size, 8);
+            numbers(rng, words, list, code, size);
+        }
+    }
+}
+
+fn code(rng: &mut Rng, size: Size, most: usize) -> u32 {
+    match size {
+        Size::Small => 0,
+        Size::Any => rng.below(most + 1) as u32,
+        Size::Full => 8,
+    }
+}
+
+fn identities(rng: &mut Rng, words: &mut Record, list: usize, code: u32, size: Size) {
+    words[list] = code;
+    let count = if code == 9 { 2 } else { code as usize };
+    let (places, _) = words[list + 1..][..PLACES * IDENTITY_WORDS].as_chunks_mut::<IDENTITY_WORDS>();
+    for entry in &mut places[..count] {
+        let present = size == Size::Full || rng.one_in(2);
+        *entry = [ssi(rng), present.into(), if present { network(rng) } else { 0 }];
+    }
+    if code == 9 {
+        let (first, last) = (places[0][0], places[1][0]);
+        places[1] = places[0];
+        (places[0][0], places[1][0]) = (first.min(last), first.max(last));
+    }
+}
+
+fn numbers(rng: &mut Rng, words: &mut Record, list: usize, code: u32, size: Size) {
+    words[list] = code;
+    let (places, _) = words[list + 1..][..PLACES * NUMBER_WORDS].as_chunks_mut::<NUMBER_WORDS>();
+    for [length, digits @ ..] in &mut places[..code as usize] {
+        let count = if size == Size::Full {
+            digits.fill_with(|| rng.below(13) as u32);
+            DIGITS
+        } else {
+            number(rng, digits)
+        };
+        *length = count as u32;
+    }
+}
+
+/// Fills the digits of a number, often a short one of few digits; its length.
+pub fn number(rng: &mut Rng, digits: &mut [u32]) -> usize {
+    let (length, different) =
+        if rng.one_in(2) { (rng.between(1, 2), 2) } else { (rng.between(1, DIGITS), 13) };
+    digits[..length].fill_with(|| rng.below(different) as u32);
+    length
+}
+
+/// A word at or beside a limit of some element.
+pub fn odd_word(rng: &mut Rng) -> u32 {
+    let limits =
+        [0, 1, 2, 3, 4, 5, 7, 8, 9, 10, 11, 12, 13, 15, 16, 24, 25, 31, 32, 255, 256, 257, 0xff_ffff];
+    match rng.below(6) {
+        0 => rng.bits(32),
+        1 => rng.pick(&[1 << 24, 1 << 31, u32::MAX, 1 << 16, 0x100_0001, 0x1_000c]),
+        2 => rng.bits(24),
+        _ => rng.pick(&limits),
+    }
+}
+
+/// Changes a record, most often to one that is refused.
+pub fn damage_record(rng: &mut Rng, words: &mut Record) {
+    let lists = [at::AFFECTED, at::GROUPS, at::RESTRICTED, at::EXCEPTIONS];
+    for _ in 0..rng.between(1, 3) {
+        match rng.below(6) {
+            0 => words[rng.below(RECORD_WORDS)] = odd_word(rng),
+            1 => words[rng.below(at::RESTRICTED_NUMBERS)] = odd_word(rng),
+            2 => {
+                // A range whose ends may be reversed or disagree.
+                let list = rng.pick(&lists);
+                words[list..][..1 + PLACES * IDENTITY_WORDS].fill(0);
+                words[list] = 9;
+                for end in 0..2 {
+                    let present = rng.pick(&[0, 0, 1]);
+                    let entry = [ssi(rng), present, present * rng.bits(1)];
+                    words[list + 1 + end * IDENTITY_WORDS..][..IDENTITY_WORDS].copy_from_slice(&entry);
+                }
+            }
+            3 => words[rng.pick(&lists)] = odd_word(rng),
+            4 => {
+                let list = rng.pick(&[at::RESTRICTED_NUMBERS, at::EXCEPTED_NUMBERS]);
+                words[list + 1 + NUMBER_WORDS * rng.below(PLACES)] = odd_word(rng);
+            }
+            _ => words[rng.between(at::INTERROGATION_TYPE, at::GROUPS)] = odd_word(rng),
+        }
+    }
+}
