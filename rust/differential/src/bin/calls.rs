@@ -327,10 +327,14 @@ fn large_archives(calls: &mut Calls, rng: &mut Rng) {
     };
     let bytes = if rng.one_in(5) { archive.damaged(rng) } else { archive.bytes() };
     calls.all(rng, &archive, &bytes);
-    // A capture that meets the limits of 512 entries and 65,536 bytes with ample room.
-    let user = archive.user(rng);
-    let pdu = offered(rng, archive.home, user);
-    calls.capture(rng, &bytes, &pdu, AMPLE);
+    // The limits of 512 entries and 65,536 bytes, met from below: an entry that is captured into the archive
+    // without it, or once more in its own place.
+    let mut below = archive.clone();
+    let index = rng.below(archive.entries.len());
+    if rng.one_in(2) {
+        below.entries.remove(index);
+    }
+    calls.capture(rng, &below.bytes(), &archive.entries[index].pdu, AMPLE);
 }
 
 /// Captures from an empty archive on, each into what the last accepted one gave.
