@@ -2,7 +2,7 @@
 ghost use mathlib.Core.Path.{_≡_};
 ghost use Prim.Native.Nat.{_<_};
 ghost use Rattle.codec.specs.Parts.{only};
-ghost use Rattle.grammar.specs.SiteSheet.{rangeType, rowOf, rangeRefusal, ssType, digitOf, digitRefusal, serviceOf, serviceRefusal, kindRefusal, resultRefusal, between};
+ghost use Rattle.grammar.specs.SiteSheet.{rangeType, rowOf, rangeRefusal, ssType, digitOf, digitRefusal, allDigits, serviceOf, serviceRefusal, kindRefusal, resultRefusal, between};
 ghost use Rattle.grammar.specs.Grammar.{endsRefusal, networkOf};
 use crate::record::Identity;
 
@@ -179,6 +179,14 @@ pub fn digit_refusal(code: u32) -> u32
         Digit::Plus => 0,
         Digit::NoDigit => 3,
     }
+}
+
+// Whether each of the sixteen digits of 4 bits in w is legal: 13 to 15 have the bits 8 and 4, and 2 or 1.
+pub fn are_digits(w: u64) -> bool
+    ensures { λ r. ⌜ r ≡ allDigits 16 w ⌝ }
+{
+    let refused = (w >> 3) & (w >> 2) & ((w >> 1) | w);
+    refused & 0x1111_1111_1111_1111 == 0
 }
 
 // A service (table 42).
