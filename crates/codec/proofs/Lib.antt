@@ -2,3 +2,5 @@ pub mod Whole
 pub mod Reading
 pub mod Filling
 pub mod Entries
+pub mod Kept
+pub mod Stopping

@@ -4,3 +4,4 @@ pub mod Places
 pub mod Whole
 pub mod Reading
 pub mod Examples
+pub mod Stops

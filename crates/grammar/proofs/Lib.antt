@@ -1,4 +1,5 @@
 pub mod Table
 pub mod Codes
-pub mod Sizes
 pub mod Digits
+pub mod Sizes
+pub mod Parts

@@ -1,0 +1,175 @@
+-- The tests of the grammar answer with 0, 3, 4 and 10; and what every way to build a part keeps, the parts of a PDU have. Assumes nothing.
+use mathlib.Core.Bool.{Bool, true, false, _&&_}
+use mathlib.Core.List.{List}
+use Prim.Native.Nat.{ℕ}
+use lib.ListN.{getD}
+use lib.Dec.{leb, eqb}
+use Rattle.bits.specs.Bits.{pick}
+use Rattle.codec.specs.Codec.{Codec}
+use Rattle.codec.specs.Parts.{element, seq, mark}
+use Rattle.codec.specs.Places.{places}
+use Rattle.codec.proofs.Kept.{Kept, in-element, in-pick, in-places}
+use Rattle.grammar.specs.SiteSheet.{ssType, rangeType, refusalIn, rangeRefusal, digitOf, refusalOfDigit, digitRefusal, serviceOf, refusalOfService, serviceRefusal, kindRefusal, resultRefusal, between, entriesOf}
+use Rattle.grammar.specs.Grammar.{extension, identity, noIdentity, zeroIdentity, endsRefusal, rangeEnds, identities, noIdentities, external, noExternal, externals, noExternals, services, noServices, identityPart, numberPart, noPart, partOf, interrogate, interrogateAck, restOf, Five, Rest, pdu}
+use Rattle.grammar.specs.declared.site.RangeType.{RangeType}
+use Rattle.grammar.specs.declared.site.RangeType.the-variants.{Empty, Single, FirstAndLast, NoRangeType}
+use Rattle.grammar.specs.declared.site.Listing.{Listing}
+use Rattle.grammar.specs.declared.site.Listing.the-variants as of
+use Rattle.grammar.specs.declared.site.Digit.{Digit}
+use Rattle.grammar.specs.declared.site.Digit.the-variants.{Decimal, Star, Hash, Plus, NoDigit}
+use Rattle.grammar.specs.declared.site.Service.{Service}
+use Rattle.grammar.specs.declared.site.Service.the-variants.{All, Speech, CircuitData, ShortData, NoService}
+use Rattle.grammar.specs.declared.record.Identity.{Identity}
+use Rattle.grammar.specs.declared.record.Identities.{Identities}
+use Rattle.grammar.specs.declared.record.Lists.{Lists}
+use Rattle.grammar.specs.declared.record.Number.{Number}
+use Rattle.grammar.specs.declared.record.Numbers.{Numbers}
+use Rattle.grammar.specs.declared.record.Record.{Record}
+use Rattle.grammar.specs.declared.record.Services.{Services}
+
+module _ (Code : ℕ → Type 0) (passed : Code 0) (three : Code 3) (four : Code 4) where
+  -- ---- the tests: no refusal, 3 or 4; of the PDU type also 10
+
+  either : {m n : ℕ} (t : Bool) → Code m → Code n → Code (pick t m n)
+  either true h k = h
+  either false h k = k
+
+  code-between : (low high v : ℕ) → Code (between low high v)
+  code-between low high v = either (leb low v && leb v high) passed three
+
+  in-list : (listing : Listing) (t : RangeType) → Code (refusalIn listing t)
+  in-list of.Users Empty = three
+  in-list of.Identities Empty = passed
+  in-list of.Numbers Empty = passed
+  in-list l (Single n) = passed
+  in-list of.Users FirstAndLast = passed
+  in-list of.Identities FirstAndLast = passed
+  in-list of.Numbers FirstAndLast = three
+  in-list l NoRangeType = three
+
+  code-range : (listing : Listing) (v : ℕ) → Code (rangeRefusal listing v)
+  unfolding rangeRefusal
+  code-range listing v = in-list listing (rangeType v)
+
+  of-digit : (d : Digit) → Code (refusalOfDigit d)
+  of-digit (Decimal d) = passed
+  of-digit Star = passed
+  of-digit Hash = passed
+  of-digit Plus = passed
+  of-digit NoDigit = three
+
+  code-digit : (v : ℕ) → Code (digitRefusal v)
+  unfolding digitRefusal
+  code-digit v = of-digit (digitOf v)
+
+  of-service : (s : Service) → Code (refusalOfService s)
+  of-service All = passed
+  of-service Speech = passed
+  of-service CircuitData = passed
+  of-service ShortData = passed
+  of-service NoService = three
+
+  code-service : (v : ℕ) → Code (serviceRefusal v)
+  unfolding serviceRefusal
+  code-service v = of-service (serviceOf v)
+
+  code-result : (v : ℕ) → Code (resultRefusal v)
+  unfolding resultRefusal
+  code-result v = either (eqb v 5) three passed
+
+  code-kind : Code 10 → (v : ℕ) → Code (kindRefusal v)
+  unfolding kindRefusal
+  code-kind ten v = either (leb 11 v && leb v 12) passed (either (leb v 13) ten three)
+
+  code-ends : (code : ℕ) (l : List Identity) → Code (rangeEnds code l)
+  unfolding rangeEnds endsRefusal
+  code-ends code l =
+      let a = getD l 0 zeroIdentity in
+      let b = getD l 1 zeroIdentity in
+      either (eqb code 9) (either (eqb (a .present) (b .present) && eqb (a .extension) (b .extension) && leb (a .ssi) (b .ssi)) passed four) passed
+
+  -- ---- the parts
+
+  module _ {ℓ} (P : (A : Type 0) → Codec A → Type ℓ) (kept : Kept Code P) where
+    -- one part after another, as the grammar sets them
+    then : {A B : Type 0} {c : Codec A} {d : A → Codec B} → P A c → ((a : A) → P B (d a)) → P (A × B) (seq c d)
+    then h k = kept .seq _ _ h k
+
+    of-element : (w : ℕ) {test : ℕ → ℕ} → ((v : ℕ) → Code (test v)) → P ℕ (element w test)
+    of-element w h = in-element Code P kept w _ h
+
+    of-pick : {A : Type 0} (t : Bool) {c d : Codec A} → P A c → P A d → P A (pick t c d)
+    of-pick t h k = in-pick Code P kept t _ _ h k
+
+    of-places : {A : Type 0} {c z : Codec A} → P A c → P A z → (m n : ℕ) → P (List A) (places c z m n)
+    of-places h k m n = in-places Code P kept _ _ h k m n
+
+    of-identity : P Identity identity
+    unfolding identity extension
+    of-identity = kept .shaped _ _ _ _ _ (then (kept .number 24) (λ a. then (kept .number 1) (λ p. of-pick (eqb p 1) (kept .number 24) (kept .absent))))
+
+    of-noIdentity : P Identity noIdentity
+    unfolding noIdentity
+    of-noIdentity = kept .shaped _ _ _ _ _ (then (kept .absent) (λ a. then (kept .absent) (λ b. kept .absent)))
+
+    pub of-identities : (listing : Listing) → P Identities (identities listing)
+    unfolding identities
+    of-identities listing =
+        kept .shaped _ _ _ _ _ (then (of-element 4 (code-range listing)) (λ code.
+        kept .tested _ _ _ (code-ends code) (of-places of-identity of-noIdentity 8 (entriesOf code))))
+
+    of-noIdentities : P Identities noIdentities
+    unfolding noIdentities
+    of-noIdentities = kept .shaped _ _ _ _ _ (then (kept .absent) (λ a. of-places of-noIdentity of-noIdentity 8 0))
+
+    of-external : P Number external
+    unfolding external
+    of-external = kept .shaped _ _ _ _ _ (then (of-element 5 (code-between 1 24)) (λ n. of-places (of-element 4 code-digit) (kept .absent) 24 n))
+
+    of-noExternal : P Number noExternal
+    unfolding noExternal
+    of-noExternal = kept .shaped _ _ _ _ _ (then (kept .absent) (λ a. of-places (kept .absent) (kept .absent) 24 0))
+
+    of-externals : P Numbers externals
+    unfolding externals
+    of-externals = kept .shaped _ _ _ _ _ (then (of-element 4 (code-range of.Numbers)) (λ code. of-places of-external of-noExternal 8 (entriesOf code)))
+
+    of-noExternals : P Numbers noExternals
+    unfolding noExternals
+    of-noExternals = kept .shaped _ _ _ _ _ (then (kept .absent) (λ a. of-places of-noExternal of-noExternal 8 0))
+
+    of-services : P Services services
+    unfolding services
+    of-services = kept .shaped _ _ _ _ _ (then (of-element 3 (code-between 1 7)) (λ n. of-places (of-element 3 code-service) (kept .absent) 7 n))
+
+    of-noServices : P Services noServices
+    unfolding noServices
+    of-noServices = kept .shaped _ _ _ _ _ (then (kept .absent) (λ a. of-places (kept .absent) (kept .absent) 7 0))
+
+    five : {g r x : Codec Identities} {n y : Codec Numbers} → P Identities g → P Identities r → P Identities x → P Numbers n → P Numbers y
+        → P Five (seq g (λ p. seq r (λ q. seq x (λ s. seq n (λ t. y)))))
+    five h i j k l = then h (λ p. then i (λ q. then j (λ s. then k (λ t. l))))
+
+    of-noPart : P Lists noPart
+    unfolding noPart
+    of-noPart = kept .shaped _ _ _ _ _ (five of-noIdentities of-noIdentities of-noIdentities of-noExternals of-noExternals)
+
+    of-part : (result : ℕ) → P Lists (partOf result)
+    unfolding identityPart numberPart
+    of-part result =
+        let ids = of-identities of.Identities in
+        of-pick (eqb result 1) (kept .shaped _ _ _ _ _ (five ids ids ids of-noExternals of-noExternals))
+        (of-pick (eqb result 2) (kept .shaped _ _ _ _ _ (five ids of-noIdentities of-noIdentities of-externals of-externals)) of-noPart)
+
+    pub of-rest : (kind : ℕ) → P Rest (restOf kind)
+    unfolding interrogate interrogateAck
+    of-rest kind =
+        of-pick (eqb kind 11)
+        (then (of-element 2 (code-between 1 3)) (λ a. then (kept .absent) (λ b. then (kept .absent) (λ c. then of-noServices (λ d. of-noPart)))))
+        (then (kept .absent) (λ a. then (of-element 3 code-result) (λ result. then (kept .number 2) (λ c. then of-services (λ d. of-part result)))))
+
+    pub of-pdu : Code 10 → P Record pdu
+    unfolding pdu mark
+    of-pdu ten =
+        kept .shaped _ _ _ _ _ (then (of-element 6 (λ v. either (eqb v ssType) passed three)) (λ x.
+        kept .shaped _ _ _ _ _ (then (of-element 5 (code-kind ten)) (λ kind. then (of-identities of.Users) (λ users. of-rest kind)))))

@@ -1,0 +1,7 @@
+pub mod Bits
+pub mod Codec
+pub mod Grammar
+pub mod Reader
+pub mod Writer
+pub mod Archive
+pub mod Barring

@@ -1,0 +1,31 @@
+-- Each public function of `archive` has one possible outcome.
+use mathlib.Core.Path.{refl}
+use Rattle.promises.specs.Determined.{Determined, by-equations}
+use Rattle.archive.proofs as archive
+
+pub empty-determined : Determined archive.empty.Kinds.ps archive.empty.Kinds.r archive.empty.Reads.Learnt
+empty-determined = by-equations (λ κs a x v p. (p .0, λ i. (tt, (p .1 i, tt))))
+
+pub capture-determined : Determined archive.capture.Kinds.ps archive.capture.Kinds.r archive.capture.Reads.Learnt
+capture-determined = by-equations (λ κs a x v p. (p .0, λ i. (tt, (tt, (tt, (p .1 i, tt))))))
+
+pub restore-determined : Determined archive.restore.Kinds.ps archive.restore.Kinds.r archive.restore.Reads.Learnt
+restore-determined = by-equations (λ κs a x v p. (p .0, λ i. (tt, (tt, (tt, (tt, (p .1 i, tt)))))))
+
+pub list-determined : Determined archive.listing.list.Kinds.ps archive.listing.list.Kinds.r archive.listing.list.Reads.Learnt
+list-determined = by-equations (λ κs a x v p. (p .0, λ i. (tt, (p .1 i, tt))))
+
+pub fetch-determined : Determined archive.fetch.Kinds.ps archive.fetch.Kinds.r archive.fetch.Reads.Learnt
+fetch-determined = by-equations (λ κs a x v p. (p, refl))
+
+pub check-determined : Determined archive.checking.check.Kinds.ps archive.checking.check.Kinds.r archive.checking.check.Reads.Learnt
+check-determined = by-equations (λ κs a x v p. (p, refl))
+
+pub home-determined : Determined archive.contents.home.Kinds.ps archive.contents.home.Kinds.r archive.contents.home.Reads.Learnt
+home-determined = by-equations (λ κs a x v p. (p, refl))
+
+pub within-limits-determined : Determined archive.contents.within_limits.Kinds.ps archive.contents.within_limits.Kinds.r archive.contents.within_limits.Reads.Learnt
+within-limits-determined = by-equations (λ κs a x v p. (p, refl))
+
+pub filing-of-determined : Determined archive.filing.filing_of.Kinds.ps archive.filing.filing_of.Kinds.r archive.filing.filing_of.Reads.Learnt
+filing-of-determined = by-equations (λ κs a x v p. (p, refl))

@@ -1,0 +1,43 @@
+-- Each public function of `grammar` has one possible outcome.
+use mathlib.Core.Path.{refl}
+use Rattle.promises.specs.Determined.{Determined, by-equations}
+use Rattle.grammar.proofs as grammar
+
+pub ss-refusal-determined : Determined grammar.site.ss_refusal.Kinds.ps grammar.site.ss_refusal.Kinds.r grammar.site.ss_refusal.Reads.Learnt
+ss-refusal-determined = by-equations (λ κs a x v p. (p, refl))
+
+pub row-of-determined : Determined grammar.site.row_of.Kinds.ps grammar.site.row_of.Kinds.r grammar.site.row_of.Reads.Learnt
+row-of-determined = by-equations (λ κs a x v p. (p, refl))
+
+pub range-type-determined : Determined grammar.site.range_type.Kinds.ps grammar.site.range_type.Kinds.r grammar.site.range_type.Reads.Learnt
+range-type-determined = by-equations (λ κs a x v p. (p, refl))
+
+pub range-refusal-determined : Determined grammar.site.range_refusal.Kinds.ps grammar.site.range_refusal.Kinds.r grammar.site.range_refusal.Reads.Learnt
+range-refusal-determined = by-equations (λ κs a x v p. (p, refl))
+
+pub digit-of-determined : Determined grammar.site.digit_of.Kinds.ps grammar.site.digit_of.Kinds.r grammar.site.digit_of.Reads.Learnt
+digit-of-determined = by-equations (λ κs a x v p. (p, refl))
+
+pub digit-refusal-determined : Determined grammar.site.digit_refusal.Kinds.ps grammar.site.digit_refusal.Kinds.r grammar.site.digit_refusal.Reads.Learnt
+digit-refusal-determined = by-equations (λ κs a x v p. (p, refl))
+
+pub service-of-determined : Determined grammar.site.service_of.Kinds.ps grammar.site.service_of.Kinds.r grammar.site.service_of.Reads.Learnt
+service-of-determined = by-equations (λ κs a x v p. (p, refl))
+
+pub service-refusal-determined : Determined grammar.site.service_refusal.Kinds.ps grammar.site.service_refusal.Kinds.r grammar.site.service_refusal.Reads.Learnt
+service-refusal-determined = by-equations (λ κs a x v p. (p, refl))
+
+pub kind-refusal-determined : Determined grammar.site.kind_refusal.Kinds.ps grammar.site.kind_refusal.Kinds.r grammar.site.kind_refusal.Reads.Learnt
+kind-refusal-determined = by-equations (λ κs a x v p. (p, refl))
+
+pub result-refusal-determined : Determined grammar.site.result_refusal.Kinds.ps grammar.site.result_refusal.Kinds.r grammar.site.result_refusal.Reads.Learnt
+result-refusal-determined = by-equations (λ κs a x v p. (p, refl))
+
+pub between-refusal-determined : Determined grammar.site.between_refusal.Kinds.ps grammar.site.between_refusal.Kinds.r grammar.site.between_refusal.Reads.Learnt
+between-refusal-determined = by-equations (λ κs a x v p. (p, refl))
+
+pub ends-refusal-determined : Determined grammar.site.ends_refusal.Kinds.ps grammar.site.ends_refusal.Kinds.r grammar.site.ends_refusal.Reads.Learnt
+ends-refusal-determined = by-equations (λ κs a x v p. (p, refl))
+
+pub network-of-determined : Determined grammar.site.network_of.Kinds.ps grammar.site.network_of.Kinds.r grammar.site.network_of.Reads.Learnt
+network-of-determined = by-equations (λ κs a x v p. (p, refl))

@@ -1,0 +1,38 @@
+-- Demand 2: exactly the legal PDUs are read, each as its one record; what was read is written as the same bits, and what was written is read as
+-- the same record.
+use mathlib.Core.Path.{_≡_}
+use mathlib.Core.Logic.{_↔_}
+use mathlib.Core.List.{List, _++_}
+use Prim.Native.Nat.{ℕ, _≤_}
+use lib.ListN.{length, take, drop}
+use Rattle.bits.specs.Frame.{bytesFor}
+use Rattle.bits.proofs.Bytes.{Bytes}
+use Rattle.codec.specs.Codec.{Legal}
+use Rattle.grammar.specs.Grammar.{pdu}
+use Rattle.grammar.specs.declared.record.Record.{Record}
+use Rattle.reader.specs.Read.{readIs}
+use Rattle.writer.specs.Write.{lengthOf, writeIs, outIs}
+use Rattle.writer.specs.declared.Written.the-variants.{Bits}
+use Rattle.pdu.proofs.RoundTrip as trip
+use Rattle.pdu.proofs.RoundTrip.{accepting, WritingOf}
+
+-- A PDU of n bits in the bytes s is accepted with a record exactly if it is the writing of that record, and the record is legal.
+pub read-exactly-legal : (s : List ℕ) (n : ℕ) (r : Record) → Bytes s → (readIs s n ≡ accepting r) ↔ WritingOf s n r
+read-exactly-legal = trip.accepted-iff
+
+-- It is the writing of one record only.
+pub one-record : (s : List ℕ) (n : ℕ) (r q : Record) → WritingOf s n r → WritingOf s n q → r ≡ q
+one-record = trip.record-unique
+
+-- A legal record is written wherever there is room; its length is the sum of its element lengths.
+pub legal-written : (r : Record) (out : List ℕ) → Legal pdu r → bytesFor (lengthOf r) ≤ length out → writeIs r out ≡ Bits (record { 0 = lengthOf r })
+legal-written r out l h = trip.written-legal r out l h .0
+
+-- Writing what was read gives the same bits, in the same bytes, and leaves the bytes after them.
+pub write-gives-the-bits : (s : List ℕ) (n : ℕ) (r : Record) (out : List ℕ) → Bytes s → readIs s n ≡ accepting r → length s ≤ length out
+    → (writeIs r out ≡ Bits (record { 0 = n })) × (outIs r out ≡ s ++ drop (length s) out)
+write-gives-the-bits = trip.written-read
+
+-- Reading what was written gives the same record.
+pub read-gives-the-record : (r : Record) (out : List ℕ) (n : ℕ) → writeIs r out ≡ Bits (record { 0 = n }) → readIs (take (bytesFor n) (outIs r out)) n ≡ accepting r
+read-gives-the-record = trip.read-written

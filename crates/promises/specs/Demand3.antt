@@ -1,0 +1,58 @@
+-- Demand 3: after any sequence of offered PDUs, restoring gives exactly the last one accepted for that user and part, or "not held", and every
+-- decision is the barring rule applied to that same PDU.
+use mathlib.Core.Path.{_≡_, ap, _∙_}
+use mathlib.Core.Bool.{true}
+use mathlib.Core.List.{List}
+use mathlib.Core.Option.{Option, none, some}
+use Prim.Native.Nat.{ℕ, _≤_}
+use lib.ListN.{length, take}
+use Rattle.bits.specs.Frame.{bytesFor}
+use Rattle.reader.specs.Read.{readIs}
+use Rattle.archive.specs.Reading.{isArchive}
+use Rattle.archive.specs.Keeping.{over, emptyIs, emptyOut}
+use Rattle.archive.specs.Restoring.{inRange, restoreIs, restoreOut}
+use Rattle.archive.specs.History.{Offer, afterAll, lastAccepted}
+use Rattle.archive.specs.declared.Archived.the-variants.{Bytes}
+use Rattle.archive.specs.declared.Restored.the-variants.{Bits, Refused}
+use Rattle.archive.proofs.History as history
+use Rattle.barring.specs.Request.{requestRefusal}
+use Rattle.barring.specs.Rule.{ruling}
+use Rattle.barring.specs.Decide.{partFor, partIn, decideIs}
+use Rattle.barring.specs.declared.request.Request.{Request}
+use Rattle.barring.specs.declared.Decision.the-variants.{Allowed, NotHeld}
+use Rattle.barring.proofs.History as deciding
+
+-- An empty archive of a home network, of which `empty` wrote m bytes; and PDUs offered one after another, each with the buffer lent for it.
+-- After a refusal one goes on with the old archive.
+module _ (home : ℕ) (lent : List ℕ) (m : ℕ) (e : emptyIs home (length lent) ≡ Bytes m) (offers : List Offer) where
+  abbrev pub archive : List ℕ
+  archive = afterAll (take m (emptyOut home lent)) offers
+
+  -- the last PDU accepted for a user and part
+  abbrev pub last : ℕ → ℕ → ℕ → Option Offer
+  last network ssi part = lastAccepted network ssi part (take m (emptyOut home lent)) none offers
+
+  module _ (network ssi part : ℕ) (r : inRange network ssi part ≡ true) (out : List ℕ) where
+    -- Restoring gives exactly its bits, if the buffer has room for them,
+    pub restores-the-last : (o : Offer) → last network ssi part ≡ some o → bytesFor (o .bits) ≤ length out
+        → (restoreIs archive network ssi part (length out) ≡ Bits (record { 0 = o .bits })) × (restoreOut archive network ssi part out ≡ over (o .pdu) out)
+    restores-the-last = history.always home lent m e offers network ssi part r out
+
+    -- or "not held", and no byte changed.
+    pub restores-nothing-else : last network ssi part ≡ none
+        → (restoreIs archive network ssi part (length out) ≡ Refused 11) × (restoreOut archive network ssi part out ≡ out)
+    restores-nothing-else = history.never home lent m e offers network ssi part r out
+
+  module _ (q : Request) (f : requestRefusal q ≡ 0) where
+    -- The decision is the barring rule applied to the record of that same PDU,
+    pub decides-by-the-last : (o : Offer) → last (q .user .network) (q .user .ssi) (partFor (q .destination)) ≡ some o
+        → decideIs archive q ≡ ruling home (readIs (o .pdu) (o .bits) .found) q
+    decides-by-the-last o l = deciding.decided home lent m e offers q f ∙ ap (deciding.saidBy home q) l
+
+    -- or "not held".
+    pub decides-by-nothing-else : last (q .user .network) (q .user .ssi) (partFor (q .destination)) ≡ none → decideIs archive q ≡ NotHeld
+    decides-by-nothing-else l = deciding.decided home lent m e offers q f ∙ ap (deciding.saidBy home q) l
+
+-- A part that is not held never allows a call.
+pub not-held-never-allows : (b : List ℕ) (q : Request) → requestRefusal q ≡ 0 → isArchive b ≡ true → partIn b q ≡ none → decideIs b q ≡ Allowed → ⊥
+not-held-never-allows = deciding.not-held-not-allowed
