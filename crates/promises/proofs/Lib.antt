@@ -1,1 +1,3 @@
+pub mod Tables
+pub mod Demand1
 pub mod Determined

@@ -1,0 +1,7 @@
+pub mod Reading
+pub mod Writing
+pub mod Empty
+pub mod Capture
+pub mod Restore
+pub mod Listing
+pub mod Decision

@@ -1,0 +1,60 @@
+-- `empty` keeps its promise. Assumes nothing.
+use mathlib.Core.Path.{_≡_, refl, ap}
+use mathlib.Core.Bool.{Bool, true, false}
+use mathlib.Core.List.{List, [], _∷_}
+use Prim.Native.Nat.{ℕ}
+use native.Mathlib.Omega.{arith}
+use lib.ListN.{length}
+use lib.Dec.{ltb, leb}
+use borrow.Author.Tests.{ltb-true, ltb-false, leb-true, leb-false, lt-ltb, le-ltb, le-leb, lt-leb}
+use Rattle.bits.specs.Bits.{pick}
+use Rattle.archive.specs.Model.{headerWidth, headerBytes, bytesOf}
+use Rattle.archive.specs.Keeping.{archivedNumber, leaves, emptyOf, emptyIs, emptyOut}
+use Rattle.archive.specs.declared.Archived.{Archived}
+use Rattle.archive.specs.declared.Archived.the-variants.{Bytes, Refused}
+use Rattle.promises.specs.Answers.{OneOf}
+use Rattle.promises.specs.Demand1.Empty.{number, Given, success, unranged, no-room, Promise}
+use Rattle.promises.proofs.Tables.{exactly}
+
+abbrev answerBy : Bool → Bool → Archived
+answerBy ranged room = pick ranged (pick room (Bytes headerWidth) (Refused 8)) (Refused 9)
+
+module _ (home room : ℕ) where
+  abbrev Both : ℕ → Type 0
+  Both k = Given home room k × OneOf (0 ∷ 9 ∷ 8 ∷ []) k
+
+  row : Both (number home room)
+  unfolding emptyIs
+  row = go (ltb home 16777216) refl (leb headerWidth room) refl
+    where
+      go : (p : Bool) → ltb home 16777216 ≡ p → (q : Bool) → leb headerWidth room ≡ q → Both (archivedNumber (answerBy p q))
+      go true e true f = (success (ltb-true _ _ e) (leb-true _ _ f), refl)
+      go true e false f = (no-room (ltb-true _ _ e) (leb-false _ _ f), refl)
+      go false e q f = (unranged (ltb-false _ _ e), refl)
+
+  back : (k : ℕ) → Given home room k → number home room ≡ k
+  unfolding emptyIs
+  back k (success h l) = rw (lt-ltb _ _ h, le-leb _ _ l)
+  back k (unranged h) = rw (le-ltb _ _ h)
+  back k (no-room h l) = rw (lt-ltb _ _ h, lt-leb _ _ l)
+
+  header : (m : ℕ) → emptyIs home room ≡ Bytes m → m ≡ headerWidth
+  unfolding emptyIs
+  header m = go (ltb home 16777216) (leb headerWidth room)
+    where
+      go : (p q : Bool) → answerBy p q ≡ Bytes m → m ≡ headerWidth
+      go true true e = cc
+      go true false e = absurd (let z : _≡_ {A = ℕ} 0 1 = cc in omega arith)
+      go false q e = absurd (let z : _≡_ {A = ℕ} 0 1 = cc in omega arith)
+
+empty-leaves : (home : ℕ) (out : List ℕ) {r : Archived} → emptyIs home (length out) ≡ r → emptyOut home out ≡ leaves r (bytesOf (emptyOf home)) out
+unfolding emptyOut
+empty-leaves home out e = ap (λ (r : Archived). leaves r (bytesOf (emptyOf home)) out) e
+
+pub promise : Promise
+unfolding headerBytes
+promise = record {
+  table = λ home room. exactly (Given home room) (row home room .0) (row home room .1) (back home room);
+  success = λ home out m e. (header home (length out) m e, empty-leaves home out e);
+  refusal = λ home out k e. empty-leaves home out e;
+}

@@ -1,0 +1,88 @@
+-- Writing keeps its promise. Assumes nothing.
+use mathlib.Core.Path.{_≡_, refl, sym, ap, _∙_}
+use mathlib.Core.Bool.{Bool, true, false, _&&_}
+use mathlib.Core.List.{List, [], _∷_, _++_}
+use Prim.Native.Nat.{ℕ, zero, suc}
+use native.Mathlib.Omega.{arith}
+use lib.ListN.{length, drop}
+use lib.Dec.{leb}
+use borrow.Author.Tests.{leb-true, leb-false, lt-leb}
+use Rattle.bits.specs.Bits.{pick}
+use Rattle.bits.specs.Frame.{bytesFor, pack}
+use Rattle.codec.specs.Codec.{first}
+use Rattle.codec.specs.Parts.{isZero, is-zero}
+use Rattle.grammar.specs.SiteSheet.{kindRefusal}
+use Rattle.grammar.specs.Grammar.{pdu}
+use Rattle.grammar.specs.declared.record.Record.{Record}
+use Rattle.writer.specs.Write.{recordRefusal, lengthOf, writeRefusal, written, writeIs, outIs}
+use Rattle.writer.specs.declared.Written.the-variants.{Bits, Refused}
+use Rattle.pdu.proofs.RoundTrip.{legal-iff, written-legal}
+use Rattle.pdu.proofs.Refusals.{ThreeOrFour, three, four, refused-with}
+use Rattle.archive.proofs.Tests.{differ, and-false}
+use Rattle.promises.specs.Answers.{writtenNumber, OneOf}
+use Rattle.promises.specs.Demand1.Writing.{number, Given, success, unread, unclean, faulty, no-room, Promise}
+use Rattle.promises.proofs.Tables.{exactly}
+
+module _ (r : Record) (out : List ℕ) where
+  abbrev refusalBy : Bool → Bool → ℕ → ℕ
+  refusalBy read clean fault = pick (read && clean) fault 3
+
+  abbrev numberBy : ℕ → Bool → ℕ
+  numberBy refusal room = writtenNumber (written (lengthOf r) (first refusal (pick room 0 8)))
+
+  abbrev Both : ℕ → Type 0
+  Both k = Given r out k × OneOf (0 ∷ 3 ∷ 4 ∷ 8 ∷ []) k
+
+  three-or-four : {k : ℕ} → ThreeOrFour (suc k) → OneOf (0 ∷ 3 ∷ 4 ∷ 8 ∷ []) (suc k)
+  three-or-four three = refl
+  three-or-four four = refl
+
+  row : Both (number r out)
+  unfolding writeIs writeRefusal recordRefusal
+  row = go (isZero (kindRefusal (r .kind))) refl (pdu .clean r) refl (pdu .fault r) refl (leb (bytesFor (lengthOf r)) (length out)) refl (refused-with r)
+    where
+      go : (t : Bool) → isZero (kindRefusal (r .kind)) ≡ t → (c : Bool) → pdu .clean r ≡ c → (m : ℕ) → pdu .fault r ≡ m
+          → (q : Bool) → leb (bytesFor (lengthOf r)) (length out) ≡ q → ThreeOrFour (refusalBy t c m) → Both (numberBy (refusalBy t c m) q)
+      go false t c ec m em q eq h = (unread (λ z. differ (sym (ap isZero z) ∙ t)), refl)
+      go true t false ec m em q eq h = (unclean ec, refl)
+      go true t true ec (suc k) em q eq h = (faulty k (is-zero (kindRefusal (r .kind)) t) ec em, three-or-four h)
+      go true t true ec zero em true eq h = (success (record { clean = ec; faultless = em }) (leb-true _ _ eq), refl)
+      go true t true ec zero em false eq h = (no-room (record { clean = ec; faultless = em }) (leb-false _ _ eq), refl)
+
+  not-read : (kindRefusal (r .kind) ≡ 0 → ⊥) → isZero (kindRefusal (r .kind)) ≡ false
+  not-read f = go (kindRefusal (r .kind)) refl
+    where
+      go : (k : ℕ) → kindRefusal (r .kind) ≡ k → isZero k ≡ false
+      go zero e = absurd (f e)
+      go (suc k) e = refl
+
+  back : (k : ℕ) → Given r out k → number r out ≡ k
+  unfolding writeIs writeRefusal recordRefusal
+  back k (success l h) = ap writtenNumber (written-legal r out l h .0)
+  back k (unread f) = rw (not-read f)
+  back k (unclean e) = rw (and-false (isZero (kindRefusal (r .kind))) e)
+  back k (faulty m z c e) = rw (z, c, e)
+  back k (no-room l h) = rw (legal-iff r .1 l, lt-leb _ _ h)
+
+  succeeds : (k : ℕ) → Given r out k → k ≡ 0
+      → (writeIs r out ≡ Bits (record { 0 = lengthOf r })) × (outIs r out ≡ pack (pdu .print r) ++ drop (bytesFor (lengthOf r)) out)
+  succeeds k (success l h) z = written-legal r out l h
+  succeeds k (unread f) z = absurd (omega arith)
+  succeeds k (unclean e) z = absurd (omega arith)
+  succeeds k (faulty m y c e) z = absurd (omega arith)
+  succeeds k (no-room l h) z = absurd (omega arith)
+
+  leaves : (k : ℕ) → writeIs r out ≡ Refused k → outIs r out ≡ out
+  unfolding writeIs outIs
+  leaves k = go (writeRefusal r (length out))
+    where
+      go : (w : ℕ) → written (lengthOf r) w ≡ Refused k → pick (isZero w) (pack (pdu .print r) ++ drop (bytesFor (lengthOf r)) out) out ≡ out
+      go zero e = absurd (let z : _≡_ {A = ℕ} 0 1 = cc in omega arith)
+      go (suc w) e = refl
+
+pub promise : Promise
+promise = record {
+  table = λ r out. exactly (Given r out) (row r out .0) (row r out .1) (back r out);
+  success = λ r out e. succeeds r out (number r out) (row r out .0) e;
+  refusal = leaves;
+}
