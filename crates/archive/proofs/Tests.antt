@@ -11,6 +11,10 @@ use Rattle.archive.specs.declared.contents.Entry.{Entry}
 pub differ : {A : Type 0} → true ≡ false → A
 differ e = absurd (let z : _≡_ {A = ℕ} 0 1 = cc in omega arith)
 
+pub false-unless : (p : Bool) → (p ≡ true → ⊥) → p ≡ false
+false-unless true f = absurd (f refl)
+false-unless false f = refl
+
 pub and-false : (a : Bool) {b : Bool} → b ≡ false → a && b ≡ false
 and-false true p = p
 and-false false p = refl

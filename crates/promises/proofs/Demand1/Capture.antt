@@ -1,6 +1,6 @@
 -- Capture keeps its promise. Assumes nothing.
 use mathlib.Core.Path.{_≡_, refl, sym, ap, _∙_, subst}
-use mathlib.Core.Bool.{Bool, true, false, _&&_, _||_}
+use mathlib.Core.Bool.{Bool, true, false, _||_}
 use mathlib.Core.List.{List, [], _∷_, _++_}
 use mathlib.Core.Option.{Option, none, some}
 use Prim.Native.Nat.{ℕ}
@@ -17,7 +17,7 @@ use Rattle.archive.specs.Reading.{reading, isArchive}
 use Rattle.archive.specs.Keeping.{archivedNumber, heldFor, captured, captureIs}
 use Rattle.archive.specs.Restoring.{lookup}
 use Rattle.archive.specs.declared.Archived.the-variants.{Bytes, Refused}
-use Rattle.archive.proofs.Tests.{differ, and-true, and-both}
+use Rattle.archive.proofs.Tests.{differ, false-unless, and-true, and-both}
 use Rattle.archive.proofs.Putting.{isNone}
 use Rattle.archive.proofs.Capturing.{no-archive, pdu-refused, may-not, capture-leaves}
 use Rattle.archive.proofs.Captured.{taken, captured-formed}
@@ -85,15 +85,8 @@ module _ (b s : List ℕ) (n room : ℕ) where
   or-true true e = refl
   or-true false e = e
 
-  not-full : (Full b s n → ⊥) → isFull ≡ false
-  not-full f = go isFull refl
-    where
-      go : (p : Bool) → isFull ≡ p → p ≡ false
-      go true e = absurd (f (is-full e))
-      go false e = refl
-
   back : (k : ℕ) → Given b s n room k → number b s n room ≡ k
-  back k (success o f l h) = ap archivedNumber (placed o) ∙ rw (not-full f, le-ltb _ _ l, le-ltb _ _ h)
+  back k (success o f l h) = ap archivedNumber (placed o) ∙ rw (false-unless isFull (λ t. f (is-full t)), le-ltb _ _ l, le-ltb _ _ h)
   back k (damaged e) = ap archivedNumber (no-archive b s n room e)
   back k (unread m e f) = ap archivedNumber (pdu-refused b s n room e f)
   back k (not-kept e f g) = ap archivedNumber (may-not b s n room e f g)

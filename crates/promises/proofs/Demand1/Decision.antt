@@ -13,7 +13,7 @@ use Rattle.grammar.specs.declared.record.Record.{Record}
 use Rattle.reader.specs.Read.{readIs}
 use Rattle.archive.specs.Model.{Held}
 use Rattle.archive.specs.Reading.{reading, isArchive}
-use Rattle.archive.proofs.Tests.{differ}
+use Rattle.archive.proofs.Tests.{differ, false-unless}
 use Rattle.barring.specs.Search.{every}
 use Rattle.barring.specs.Request.{isUser, isService, isDestination, isGroup, isDigit, isUnused, digitsUsed, requestRefusal}
 use Rattle.barring.specs.Rule.{ruling, ruled, isExcepted, isRestricted, isOutside, bothEmpty}
@@ -104,16 +104,9 @@ module _ (q : Request) where
         go true e false f = to (ap refusalOf (answer true false e f)) (damaged (in-range e) f, refl)
         go true e true f = to (ap refusalOf (answer true true e f) ∙ verdict-number decided) (success (in-range e) f, refl)
 
-    out-of-range : (Ranged q → ⊥) → number b q ≡ 9
-    out-of-range r = go test refl
-      where
-        go : (t : Bool) → test ≡ t → number b q ≡ 9
-        go true e = absurd (r (in-range e))
-        go false e = ap refusalOf (answer false (isArchive b) e refl)
-
     back : (k : ℕ) → Given b q k → number b q ≡ k
     back k (success r a) = ap refusalOf (answer true true (passes r) a) ∙ verdict-number decided
-    back k (unranged r) = out-of-range r
+    back k (unranged r) = ap refusalOf (answer false (isArchive b) (false-unless test (λ e. r (in-range e))) refl)
     back k (damaged r a) = ap refusalOf (answer true false (passes r) a)
 
     succeeds : (k : ℕ) → Given b q k → k ≡ 0 → Verdict (decideIs b q)

@@ -3,7 +3,6 @@ use mathlib.Core.Path.{_≡_, refl, ap}
 use mathlib.Core.Bool.{Bool, true, false}
 use mathlib.Core.List.{List, [], _∷_}
 use Prim.Native.Nat.{ℕ}
-use native.Mathlib.Omega.{arith}
 use lib.ListN.{length}
 use lib.Dec.{ltb, leb}
 use borrow.Author.Tests.{ltb-true, ltb-false, leb-true, leb-false, lt-ltb, le-ltb, le-leb, lt-leb}
@@ -12,6 +11,7 @@ use Rattle.archive.specs.Model.{headerWidth, headerBytes, bytesOf}
 use Rattle.archive.specs.Keeping.{archivedNumber, leaves, emptyOf, emptyIs, emptyOut}
 use Rattle.archive.specs.declared.Archived.{Archived}
 use Rattle.archive.specs.declared.Archived.the-variants.{Bytes, Refused}
+use Rattle.archive.proofs.History.{was-empty}
 use Rattle.promises.specs.Answers.{OneOf}
 use Rattle.promises.specs.Demand1.Empty.{number, Given, success, unranged, no-room, Promise}
 use Rattle.promises.proofs.Tables.{exactly}
@@ -38,15 +38,6 @@ module _ (home room : ℕ) where
   back k (unranged h) = rw (le-ltb _ _ h)
   back k (no-room h l) = rw (lt-ltb _ _ h, lt-leb _ _ l)
 
-  header : (m : ℕ) → emptyIs home room ≡ Bytes m → m ≡ headerWidth
-  unfolding emptyIs
-  header m = go (ltb home 16777216) (leb headerWidth room)
-    where
-      go : (p q : Bool) → answerBy p q ≡ Bytes m → m ≡ headerWidth
-      go true true e = cc
-      go true false e = absurd (let z : _≡_ {A = ℕ} 0 1 = cc in omega arith)
-      go false q e = absurd (let z : _≡_ {A = ℕ} 0 1 = cc in omega arith)
-
 empty-leaves : (home : ℕ) (out : List ℕ) {r : Archived} → emptyIs home (length out) ≡ r → emptyOut home out ≡ leaves r (bytesOf (emptyOf home)) out
 unfolding emptyOut
 empty-leaves home out e = ap (λ (r : Archived). leaves r (bytesOf (emptyOf home)) out) e
@@ -55,6 +46,6 @@ pub promise : Promise
 unfolding headerBytes
 promise = record {
   table = λ home room. exactly (Given home room) (row home room .0) (row home room .1) (back home room);
-  success = λ home out m e. (header home (length out) m e, empty-leaves home out e);
+  success = λ home out m e. (was-empty home (length out) m e .1, empty-leaves home out e);
   refusal = λ home out k e. empty-leaves home out e;
 }

@@ -19,7 +19,7 @@ use Rattle.grammar.specs.declared.record.Record.{Record}
 use Rattle.reader.specs.Read.{refusalOf, answered, refusing, readIs}
 use Rattle.reader.specs.declared.Answer.the-variants.{Accepted, Refused}
 use Rattle.reader.specs.declared.Reading.{Reading}
-use Rattle.archive.proofs.Tests.{differ}
+use Rattle.archive.proofs.Tests.{differ, false-unless}
 use Rattle.promises.specs.Answers.{OneOf}
 use Rattle.promises.specs.Demand1.Reading.{number, Given, accepted, unframed, stopped, left-over, numbers, Promise}
 use Rattle.promises.proofs.Tables.{exactly}
@@ -70,11 +70,7 @@ module _ (s : List ℕ) (n : ℕ) where
 
   not-framed : (Framed s n → ⊥) → number s n ≡ 1
   unfolding readIs
-  not-framed f = go (framed s n) refl
-    where
-      go : (t : Bool) → framed s n ≡ t → numberIn (pick t (answered (wholeParse pdu (bitsIn n s))) (refusing 1)) ≡ 1
-      go true e = absurd (f (framed-says s n e))
-      go false e = refl
+  not-framed f = rw (false-unless (framed s n) (λ t. f (framed-says s n t)))
 
   by-refusal : {k : ℕ} {o : Outcome Record} → Refuses k o → numberIn (answerTo o) ≡ k
   by-refusal (refuses p) = refl

@@ -18,7 +18,7 @@ use Rattle.writer.specs.Write.{recordRefusal, lengthOf, writeRefusal, written, 
 use Rattle.writer.specs.declared.Written.the-variants.{Bits, Refused}
 use Rattle.pdu.proofs.RoundTrip.{legal-iff, written-legal}
 use Rattle.pdu.proofs.Refusals.{ThreeOrFour, three, four, refused-with}
-use Rattle.archive.proofs.Tests.{differ, and-false}
+use Rattle.archive.proofs.Tests.{differ, false-unless, and-false}
 use Rattle.promises.specs.Answers.{writtenNumber, OneOf}
 use Rattle.promises.specs.Demand1.Writing.{number, Given, success, unread, unclean, faulty, no-room, Promise}
 use Rattle.promises.proofs.Tables.{exactly}
@@ -49,17 +49,10 @@ module _ (r : Record) (out : List ℕ) where
       go true t true ec zero em true eq h = (success (record { clean = ec; faultless = em }) (leb-true _ _ eq), refl)
       go true t true ec zero em false eq h = (no-room (record { clean = ec; faultless = em }) (leb-false _ _ eq), refl)
 
-  not-read : (kindRefusal (r .kind) ≡ 0 → ⊥) → isZero (kindRefusal (r .kind)) ≡ false
-  not-read f = go (kindRefusal (r .kind)) refl
-    where
-      go : (k : ℕ) → kindRefusal (r .kind) ≡ k → isZero k ≡ false
-      go zero e = absurd (f e)
-      go (suc k) e = refl
-
   back : (k : ℕ) → Given r out k → number r out ≡ k
   unfolding writeIs writeRefusal recordRefusal
   back k (success l h) = ap writtenNumber (written-legal r out l h .0)
-  back k (unread f) = rw (not-read f)
+  back k (unread f) = rw (false-unless (isZero (kindRefusal (r .kind))) (λ t. f (is-zero _ t)))
   back k (unclean e) = rw (and-false (isZero (kindRefusal (r .kind))) e)
   back k (faulty m z c e) = rw (z, c, e)
   back k (no-room l h) = rw (legal-iff r .1 l, lt-leb _ _ h)
