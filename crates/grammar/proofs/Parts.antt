@@ -1,14 +1,14 @@
 -- The tests of the grammar answer with 0, 3, 4 and 10; and what every way to build a part keeps, the parts of a PDU have. Assumes nothing.
 use mathlib.Core.Bool.{Bool, true, false, _&&_}
 use mathlib.Core.List.{List}
-use Prim.Native.Nat.{ℕ}
+use Prim.Native.Nat.{ℕ, zero, suc}
 use lib.ListN.{getD}
 use lib.Dec.{leb, eqb}
 use Rattle.bits.specs.Bits.{pick}
 use Rattle.codec.specs.Codec.{Codec}
-use Rattle.codec.specs.Parts.{element, seq, mark}
+use Rattle.codec.specs.Parts.{number, element, seq, mark}
 use Rattle.codec.specs.Places.{places}
-use Rattle.codec.proofs.Kept.{Kept, in-element, in-pick, in-places}
+use Rattle.codec.proofs.Kept.{Kept}
 use Rattle.grammar.specs.SiteSheet.{ssType, rangeType, refusalIn, rangeRefusal, digitOf, refusalOfDigit, digitRefusal, serviceOf, refusalOfService, serviceRefusal, kindRefusal, resultRefusal, between, entriesOf}
 use Rattle.grammar.specs.Grammar.{extension, identity, noIdentity, zeroIdentity, endsRefusal, rangeEnds, identities, noIdentities, external, noExternal, externals, noExternals, services, noServices, identityPart, numberPart, noPart, partOf, interrogate, interrogateAck, restOf, Five, Rest, pdu}
 use Rattle.grammar.specs.declared.site.RangeType.{RangeType}
@@ -96,13 +96,18 @@ module _ (Code : ℕ → Type 0) (passed : Code 0) (three : Code 3) (four : Code
     then h k = kept .seq _ _ h k
 
     of-element : (w : ℕ) {test : ℕ → ℕ} → ((v : ℕ) → Code (test v)) → P ℕ (element w test)
-    of-element w h = in-element Code P kept w _ h
+    unfolding element
+    of-element w h = kept .tested (number w) _ (λ v. 0) h (kept .number w)
 
     of-pick : {A : Type 0} (t : Bool) {c d : Codec A} → P A c → P A d → P A (pick t c d)
-    of-pick t h k = in-pick Code P kept t _ _ h k
+    of-pick true h k = h
+    of-pick false h k = k
 
     of-places : {A : Type 0} {c z : Codec A} → P A c → P A z → (m n : ℕ) → P (List A) (places c z m n)
-    of-places h k m n = in-places Code P kept _ _ h k m n
+    unfolding places
+    of-places h k zero n = kept .nil
+    of-places h k (suc m) zero = kept .cons _ _ k (of-places h k m zero)
+    of-places h k (suc m) (suc n) = kept .cons _ _ h (of-places h k m n)
 
     of-identity : P Identity identity
     unfolding identity extension

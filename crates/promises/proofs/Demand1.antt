@@ -1,3 +1,4 @@
+-- Each call keeps its promise.
 pub mod Reading
 pub mod Writing
 pub mod Empty

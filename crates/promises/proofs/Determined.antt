@@ -1,3 +1,4 @@
+-- Each public function has one possible outcome. One file for each crate.
 pub mod Bits
 pub mod Codec
 pub mod Grammar
