@@ -80,6 +80,11 @@ listing a = firstLine (a .home) (length (a .held)) ++ lines (a .held)
 
 -- ---- list: 7, then 8 if the lent buffer is too short
 
+-- the paper's number of an answer, 0 for success
+abbrev pub listedNumber : Listed → ℕ
+listedNumber (Bytes n) = 0
+listedNumber (Refused k) = k
+
 unfoldable pub listIs : List ℕ → ℕ → Listed
 listIs b room =
     pick (isArchive b)

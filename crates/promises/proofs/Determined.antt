@@ -6,3 +6,4 @@ pub mod Reader
 pub mod Writer
 pub mod Archive
 pub mod Barring
+pub mod Boc

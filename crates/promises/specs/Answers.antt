@@ -5,18 +5,6 @@ use mathlib.Core.Bool.{Bool, true, false, _||_}
 use mathlib.Core.List.{List, [], _∷_}
 use Prim.Native.Nat.{ℕ}
 use lib.Dec.{eqb}
-use Rattle.writer.specs.declared.Written.{Written}
-use Rattle.writer.specs.declared.Written.the-variants.{Bits, Refused}
-use Rattle.archive.specs.declared.listing.Listed.{Listed}
-use Rattle.archive.specs.declared.listing.Listed.the-variants as listed
-
-abbrev pub writtenNumber : Written → ℕ
-writtenNumber (Bits n) = 0
-writtenNumber (Refused k) = k
-
-abbrev pub listedNumber : Listed → ℕ
-listedNumber (listed.Bytes n) = 0
-listedNumber (listed.Refused k) = k
 
 -- ---- one of these numbers
 

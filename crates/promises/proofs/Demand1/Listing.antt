@@ -12,7 +12,8 @@ use Rattle.archive.specs.Reading.{isArchive}
 use Rattle.archive.specs.Listing.{lists, listIs, listOut}
 use Rattle.archive.specs.declared.listing.Listed.{Listed}
 use Rattle.archive.specs.declared.listing.Listed.the-variants.{Bytes, Refused}
-use Rattle.promises.specs.Answers.{listedNumber, OneOf}
+use Rattle.promises.specs.Answers.{OneOf}
+use Rattle.archive.specs.Listing.{listedNumber}
 use Rattle.promises.specs.Demand1.Listing.{number, text, Given, success, damaged, no-room, Promise}
 use Rattle.promises.proofs.Tables.{exactly}
 

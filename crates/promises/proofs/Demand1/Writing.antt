@@ -19,7 +19,8 @@ use Rattle.writer.specs.declared.Written.the-variants.{Bits, Refused}
 use Rattle.pdu.proofs.RoundTrip.{legal-iff, written-legal}
 use Rattle.pdu.proofs.Refusals.{ThreeOrFour, three, four, refused-with}
 use Rattle.archive.proofs.Tests.{differ, false-unless, and-false}
-use Rattle.promises.specs.Answers.{writtenNumber, OneOf}
+use Rattle.promises.specs.Answers.{OneOf}
+use Rattle.writer.specs.Write.{writtenNumber}
 use Rattle.promises.specs.Demand1.Writing.{number, Given, success, unread, unclean, faulty, no-room, Promise}
 use Rattle.promises.proofs.Tables.{exactly}
 

@@ -19,6 +19,12 @@ take-determined = by-equations (λ κs a x v p. (p, refl))
 pub is-framed-determined : Determined bits.is_framed.Kinds.ps bits.is_framed.Kinds.r bits.is_framed.Reads.Learnt
 is-framed-determined = by-equations (λ κs a x v p. (p, refl))
 
+pub window-determined : Determined bits.window.Kinds.ps bits.window.Kinds.r bits.window.Reads.Learnt
+window-determined = by-equations (λ κs a x v p. (p, refl))
+
+pub bit-at-determined : Determined bits.bit_at.Kinds.ps bits.bit_at.Kinds.r bits.bit_at.Reads.Learnt
+bit-at-determined = by-equations (λ κs a x v p. (p, refl))
+
 -- `put` speaks of bits; a buffer has bytes below 256, and such bytes with the same bits are the same
 pub put-determined : Determined bits.put.Kinds.ps bits.put.Kinds.r (λ κs a x s. bits.put.Reads.Learnt κs a x s × Bytes (s .0 .now))
 put-determined = record {

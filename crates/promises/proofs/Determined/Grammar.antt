@@ -41,3 +41,6 @@ ends-refusal-determined = by-equations (λ κs a x v p. (p, refl))
 
 pub network-of-determined : Determined grammar.site.network_of.Kinds.ps grammar.site.network_of.Kinds.r grammar.site.network_of.Reads.Learnt
 network-of-determined = by-equations (λ κs a x v p. (p, refl))
+
+pub are-digits-determined : Determined grammar.site.are_digits.Kinds.ps grammar.site.are_digits.Kinds.r grammar.site.are_digits.Reads.Learnt
+are-digits-determined = by-equations (λ κs a x v p. (p, refl))

@@ -9,7 +9,8 @@ use Rattle.archive.specs.Keeping.{over}
 use Rattle.archive.specs.Listing.{digits, decimal, item, firstLine, lines, listing, listIs, listOut}
 use Rattle.archive.specs.Examples.{calls}
 use Rattle.archive.specs.declared.listing.Listed.the-variants.{Bytes, Refused}
-use Rattle.promises.specs.Answers.{listedNumber, Exactly}
+use Rattle.promises.specs.Answers.{Exactly}
+use Rattle.archive.specs.Listing.{listedNumber}
 
 abbrev pub number : List ℕ → ℕ → ℕ
 number b room = listedNumber (listIs b room)

@@ -14,7 +14,8 @@ use Rattle.grammar.specs.Examples.{user, asking}
 use Rattle.grammar.specs.declared.record.Record.{Record}
 use Rattle.writer.specs.Write.{recordRefusal, lengthOf, writeRefusal, writeIs, outIs}
 use Rattle.writer.specs.declared.Written.the-variants.{Bits, Refused}
-use Rattle.promises.specs.Answers.{writtenNumber, Exactly}
+use Rattle.promises.specs.Answers.{Exactly}
+use Rattle.writer.specs.Write.{writtenNumber}
 
 abbrev pub number : Record → List ℕ → ℕ
 number r out = writtenNumber (writeIs r out)

@@ -1,0 +1,29 @@
+-- The answer passed on. Assumes nothing.
+use borrow.Author.Needs.{needs}
+use Rattle.boc.specs.Calls.{listedLength}
+use Rattle.archive.specs.Listing.{listedNumber}
+use Rattle.boc.proofs.Answering.{passed}
+use Rattle.boc.proofs.boc_contents.Statement.{statement}
+use Rattle.boc.proofs.boc_contents.Tie as tie
+
+returns : tie.Need-returns
+returns c =
+    let call = c .before .before .before .before .before .list in
+    passed listedNumber listedLength _ (call .ensures .0) (c .before .length .given .1) (call .ensures .1)
+
+returns-2 : tie.Need-returns-2
+returns-2 c =
+    let call = c .before .before .before .before .before .list in
+    passed listedNumber listedLength _ (call .ensures .0) (c .before .number .given .1) (call .ensures .1)
+
+pub boc-contents-spec : {M : Type 1} → statement M
+boc-contents-spec =
+    tie.close
+    (tie.spec
+    (λ c κs. search needs)
+    (λ c. search needs)
+    (λ c. search needs)
+    (λ c. search needs)
+    returns
+    (λ c. search needs)
+    returns-2)

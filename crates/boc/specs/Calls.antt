@@ -1,0 +1,93 @@
+-- What each call returns, 0 or the refusal number, and what it leaves behind its pointers: a refusal leaves all of it as it was.
+use Prim.Native.Nat.{ℕ}
+use mathlib.Core.List.{List}
+use mathlib.Core.Bool.{Bool, _&&_}
+use lib.ListN.{length}
+use lib.Dec.{eqb}
+use Rattle.bits.specs.Bits.{pick}
+use Rattle.reader.specs.Read.{readIs, refusalOf}
+use Rattle.reader.specs.declared.Answer.{Answer}
+use Rattle.reader.specs.declared.Answer.the-variants as answer
+use Rattle.writer.specs.Write.{writtenNumber, writeIs, outIs}
+use Rattle.writer.specs.declared.Written.{Written}
+use Rattle.writer.specs.declared.Written.the-variants as written
+use Rattle.archive.specs.declared.Archived.{Archived}
+use Rattle.archive.specs.declared.Archived.the-variants as archived
+use Rattle.archive.specs.declared.Restored.{Restored}
+use Rattle.archive.specs.declared.Restored.the-variants as restored
+use Rattle.archive.specs.declared.listing.Listed.{Listed}
+use Rattle.archive.specs.declared.listing.Listed.the-variants as listed
+use Rattle.barring.specs.Decide.{decideIs}
+use Rattle.barring.specs.Decision as verdict
+use Rattle.barring.specs.declared.Decision.{Decision}
+use Rattle.barring.specs.declared.Decision.the-variants as decided
+use Rattle.boc.specs.RecordWords.{recordWords, recordFrom}
+use Rattle.boc.specs.RequestWords.{areRequest, requestFrom}
+
+-- ---- boc_read
+
+-- a slice of words of another length than a record's gives 9, before anything else
+abbrev pub areRecord : ℕ → Bool
+areRecord words = eqb words 514
+
+unfoldable pub readRefusal : List ℕ → ℕ → ℕ → ℕ
+readRefusal s n words = pick (areRecord words) (refusalOf (readIs s n .answer)) 9
+
+abbrev pub ifAccepted : {A : Type 0} → Answer → A → A → A
+ifAccepted answer.Accepted new old = new
+ifAccepted (answer.Refused k) new old = old
+
+unfoldable pub readWords : List ℕ → ℕ → List ℕ → List ℕ
+readWords s n words = pick (areRecord (length words)) (ifAccepted (readIs s n .answer) (recordWords (readIs s n .found)) words) words
+
+-- ---- boc_write
+
+abbrev pub writtenLength : Written → ℕ → ℕ
+writtenLength (written.Bits n) old = n .0
+writtenLength (written.Refused k) old = old
+
+unfoldable pub writeRefusal : List ℕ → List ℕ → ℕ
+writeRefusal words out = pick (areRecord (length words)) (writtenNumber (writeIs (recordFrom words) out)) 9
+
+unfoldable pub writeOut : List ℕ → List ℕ → List ℕ
+writeOut words out = pick (areRecord (length words)) (outIs (recordFrom words) out) out
+
+unfoldable pub writeBits : List ℕ → List ℕ → ℕ → ℕ
+writeBits words out old = pick (areRecord (length words)) (writtenLength (writeIs (recordFrom words) out) old) old
+
+-- ---- boc_empty and boc_capture
+
+abbrev pub archivedLength : Archived → ℕ → ℕ
+archivedLength (archived.Bytes n) old = n
+archivedLength (archived.Refused k) old = old
+
+-- ---- boc_restore
+
+abbrev pub restoredLength : Restored → ℕ → ℕ
+restoredLength (restored.Bits n) old = n .0
+restoredLength (restored.Refused k) old = old
+
+-- ---- boc_decide
+
+-- 0 to 2 barred with that cause, 3 allowed, 4 not held
+abbrev pub decidedNumber : Decision → ℕ → ℕ
+decidedNumber (decided.Barred cause) old = cause
+decidedNumber decided.Allowed old = 3
+decidedNumber decided.NotHeld old = 4
+decidedNumber (decided.Refused k) old = old
+
+-- 34 words that are a request's, otherwise 9
+abbrev pub isRequest : List ℕ → Bool
+isRequest words = eqb (length words) 34 && areRequest words
+
+unfoldable pub decideRefusal : List ℕ → List ℕ → ℕ
+decideRefusal b words = pick (isRequest words) (verdict.refusalOf (decideIs b (requestFrom words))) 9
+
+unfoldable pub decision : List ℕ → List ℕ → ℕ → ℕ
+decision b words old = pick (isRequest words) (decidedNumber (decideIs b (requestFrom words)) old) old
+
+-- ---- boc_contents
+
+abbrev pub listedLength : Listed → ℕ → ℕ
+listedLength (listed.Bytes n) old = n
+listedLength (listed.Refused k) old = old

@@ -1,0 +1,5 @@
+pub mod RecordWords
+pub mod RequestWords
+pub mod Putting
+pub mod Calls
+pub mod Examples

@@ -1,0 +1,167 @@
+// The public calls for C: each returns 0 or the refusal number; what it answers besides goes through a pointer to one number,
+// which a refusal leaves alone. A slice of words of another length than it should have gives 9, before anything else.
+mod record_words;
+mod request_words;
+
+use archive::Archived;
+use archive::Restored;
+use archive::listing;
+use archive::listing::Listed;
+use barring::Decision;
+use bits::BitCount;
+use pdu::Answer;
+use pdu::Written;
+use record_words::RECORD_WORDS;
+use request_words::REQUEST_WORDS;
+ghost use mathlib.Core.Path.{_≡_};
+ghost use lib.ListN.{length};
+ghost use Rattle.boc.specs.Calls.{readRefusal, readWords, writeRefusal, writeOut, writeBits, archivedLength, restoredLength, decideRefusal, decision, listedLength};
+ghost use Rattle.archive.specs.Keeping.{archivedNumber, emptyIs, emptyOut, captureIs, captureOut};
+ghost use Rattle.archive.specs.Restoring.{restoredNumber, restoreIs, restoreOut};
+ghost use Rattle.archive.specs.Listing.{listedNumber, listIs, listOut};
+
+// Reads the PDU of `count` bits in `bytes`; its record goes to 514 words.
+#[no_mangle]
+pub extern "C" fn boc_read(bytes: &[u8], count: usize, words: &mut [u32]) -> u32
+    ensures { λ r. ⌜ r ≡ readRefusal (now (bytes .entry)) count (length (now (words .entry))) ⌝ }
+    ensures { λ _. ⌜ now (words .exit) ≡ readWords (now (bytes .entry)) count (now (words .entry)) ⌝ }
+{
+    if words.len() != RECORD_WORDS {
+        return 9;
+    }
+    let reading = pdu::read(bytes, BitCount(count));
+    let answer = reading.answer;
+    let found = reading.found;
+    match answer {
+        Answer::Accepted => {
+            record_words::put_record(words, found);
+            0
+        },
+        Answer::Refused(number) => number,
+    }
+}
+
+// Writes the record in 514 words as a PDU; its length in bits goes to `count`.
+#[no_mangle]
+pub extern "C" fn boc_write(words: &[u32], out: &mut [u8], count: &mut usize) -> u32
+    ensures { λ r. ⌜ r ≡ writeRefusal (now (words .entry)) (now (out .entry)) ⌝ }
+    ensures { λ _. ⌜ now (out .exit) ≡ writeOut (now (words .entry)) (now (out .entry)) ⌝ }
+    ensures { λ _. ⌜ now (count .exit) ≡ writeBits (now (words .entry)) (now (out .entry)) (now (count .entry)) ⌝ }
+{
+    if words.len() != RECORD_WORDS {
+        return 9;
+    }
+    match pdu::write(record_words::record_from(words), out) {
+        Written::Bits(length) => {
+            *count = length.0;
+            0
+        },
+        Written::Refused(number) => number,
+    }
+}
+
+// Writes the empty archive of a home network; its length in bytes goes to `size`.
+#[no_mangle]
+pub extern "C" fn boc_empty(home: u32, out: &mut [u8], size: &mut usize) -> u32
+    ensures { λ r. ⌜ r ≡ archivedNumber (emptyIs home (length (now (out .entry)))) ⌝ }
+    ensures { λ _. ⌜ now (out .exit) ≡ emptyOut home (now (out .entry)) ⌝ }
+    ensures { λ _. ⌜ now (size .exit) ≡ archivedLength (emptyIs home (length (now (out .entry)))) (now (size .entry)) ⌝ }
+{
+    match archive::empty(home, out) {
+        Archived::Bytes(n) => {
+            *size = n;
+            0
+        },
+        Archived::Refused(number) => number,
+    }
+}
+
+// Captures the PDU of `count` bits in `bytes`: writes the new archive; its length in bytes goes to `size`.
+#[no_mangle]
+pub extern "C" fn boc_capture(
+    held: &[u8],
+    bytes: &[u8],
+    count: usize,
+    out: &mut [u8],
+    size: &mut usize,
+) -> u32
+    ensures { λ r. ⌜ r ≡ archivedNumber (captureIs (now (held .entry)) (now (bytes .entry)) count (length (now (out .entry)))) ⌝ }
+    ensures { λ _. ⌜ now (out .exit) ≡ captureOut (now (held .entry)) (now (bytes .entry)) count (now (out .entry)) ⌝ }
+    ensures { λ _. ⌜ now (size .exit) ≡ archivedLength (captureIs (now (held .entry)) (now (bytes .entry)) count (length (now (out .entry)))) (now (size .entry)) ⌝ }
+{
+    match archive::capture(held, bytes, BitCount(count), out) {
+        Archived::Bytes(n) => {
+            *size = n;
+            0
+        },
+        Archived::Refused(number) => number,
+    }
+}
+
+// Restores the PDU held for a user and part; its length in bits goes to `count`.
+#[no_mangle]
+pub extern "C" fn boc_restore(
+    held: &[u8],
+    network: u32,
+    ssi: u32,
+    part: u32,
+    out: &mut [u8],
+    count: &mut usize,
+) -> u32
+    ensures { λ r. ⌜ r ≡ restoredNumber (restoreIs (now (held .entry)) network ssi part (length (now (out .entry)))) ⌝ }
+    ensures { λ _. ⌜ now (out .exit) ≡ restoreOut (now (held .entry)) network ssi part (now (out .entry)) ⌝ }
+    ensures { λ _. ⌜ now (count .exit) ≡ restoredLength (restoreIs (now (held .entry)) network ssi part (length (now (out .entry)))) (now (count .entry)) ⌝ }
+{
+    match archive::restore(held, network, ssi, part, out) {
+        Restored::Bits(n) => {
+            *count = n.0;
+            0
+        },
+        Restored::Refused(number) => number,
+    }
+}
+
+// Decides the request in 34 words; the decision goes to `verdict`: 0 to 2 barred with that cause, 3 allowed, 4 not held.
+#[no_mangle]
+pub extern "C" fn boc_decide(held: &[u8], words: &[u32], verdict: &mut u32) -> u32
+    ensures { λ r. ⌜ r ≡ decideRefusal (now (held .entry)) (now (words .entry)) ⌝ }
+    ensures { λ _. ⌜ now (verdict .exit) ≡ decision (now (held .entry)) (now (words .entry)) (now (verdict .entry)) ⌝ }
+{
+    if words.len() != REQUEST_WORDS {
+        return 9;
+    }
+    if !request_words::are_request(words) {
+        return 9;
+    }
+    match barring::decide(held, request_words::request_from(words)) {
+        Decision::Barred(cause) => {
+            *verdict = cause;
+            0
+        },
+        Decision::Allowed => {
+            *verdict = 3;
+            0
+        },
+        Decision::NotHeld => {
+            *verdict = 4;
+            0
+        },
+        Decision::Refused(number) => number,
+    }
+}
+
+// Lists an archive as text; its length in bytes goes to `size`.
+#[no_mangle]
+pub extern "C" fn boc_contents(held: &[u8], out: &mut [u8], size: &mut usize) -> u32
+    ensures { λ r. ⌜ r ≡ listedNumber (listIs (now (held .entry)) (length (now (out .entry)))) ⌝ }
+    ensures { λ _. ⌜ now (out .exit) ≡ listOut (now (held .entry)) (now (out .entry)) ⌝ }
+    ensures { λ _. ⌜ now (size .exit) ≡ listedLength (listIs (now (held .entry)) (length (now (out .entry)))) (now (size .entry)) ⌝ }
+{
+    match listing::list(held, out) {
+        Listed::Bytes(length) => {
+            *size = length;
+            0
+        },
+        Listed::Refused(number) => number,
+    }
+}
