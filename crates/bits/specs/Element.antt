@@ -1,8 +1,8 @@
 -- An element at a place: taken by the cursor, put into a buffer.
 use Prim.Native.Nat.{ℕ, _+_, _*_}
-use mathlib.Core.List.{List}
-use mathlib.Core.Bool.{Bool, _&&_}
-use lib.ListN.{length, take, drop}
+use mathlib.Core.List.{List, _++_}
+use mathlib.Core.Bool.{Bool, false, _&&_}
+use lib.ListN.{length, take, drop, replicate}
 use lib.Dec.{leb}
 use Rattle.bits.specs.Bits.{pick, bits, value, bitsOf, splice}
 use Rattle.bits.specs.Frame.{bitsIn}
@@ -16,6 +16,10 @@ elementAt l at w = pick (leb (at + w) (length l)) (Element (value (take w (drop 
 -- an element of a PDU of n bits in the bytes s; an element has 1 to 32 bits
 unfoldable pub takeAt : List ℕ → ℕ → ℕ → ℕ → Taken
 takeAt s n at w = pick (leb 1 w && leb w 32) (elementAt (bitsIn n s) at w) Short
+
+-- the number that the 57 bits from a place on are; zeros stand for those after the end
+unfoldable pub windowAt : List ℕ → ℕ → ℕ
+windowAt s at = value (take 57 (drop at (bits s) ++ replicate 57 false))
 
 -- an element has up to 32 bits, and they end within the bytes
 abbrev pub hasRoom : List ℕ → ℕ → ℕ → Bool

@@ -2,10 +2,11 @@
 // the counts of bits and digits, and the frame of a PDU (document 01, "The two PDUs").
 ghost use mathlib.Core.Path.{_≡_};
 ghost use Prim.Native.Nat.{_+_, _-_, _*_, _/_, _%_, _^_, _≤_, _<_, min};
-ghost use lib.ListN.{length, take, drop};
+ghost use mathlib.Core.List.{_++_};
+ghost use lib.ListN.{length, take, drop, getD, replicate};
 ghost use Rattle.bits.specs.Bits.{bits, bitsOf, value, splice};
 ghost use Rattle.bits.specs.Frame.{bytesFor, framed};
-ghost use Rattle.bits.specs.Element.{takeAt, hasRoom, putAt};
+ghost use Rattle.bits.specs.Element.{takeAt, windowAt, hasRoom, putAt};
 
 // A length in bits: a PDU's.
 pub struct BitCount(pub usize);
@@ -69,47 +70,81 @@ impl Cursor {
             return Taken::Short;
         }
         let next = at + width;
-        if at / 8 + 8 <= s.len() {
-            return Taken::Element(number_at(s, at, width, 8), Cursor { at: next });
-        }
         if s.len() < BitCount(next).bytes() {
             return Taken::Short;
         }
-        Taken::Element(
-            number_at(s, at, width, (at % 8 + width + 7) / 8),
-            Cursor { at: next },
-        )
+        Taken::Element((window(s, at) >> (57 - width)) as u32, Cursor { at: next })
     }
 }
 
-// The number that `width` bits at `at` are: the middle of the number that the `count` bytes around them are.
-fn number_at(s: &[u8], at: usize, width: usize, count: usize) -> u32
-    requires { ⌜ (1 ≤ width) × (width ≤ 32) × (count ≤ 8) × (at % 8 + width ≤ 8 * count) × (at / 8 + count ≤ length (now s)) ⌝ }
-    ensures { λ r. ⌜ r ≡ value (take width (drop at (bits (now (s .entry))))) ⌝ }
+// The number that the 57 bits from a place on are; zeros stand for those after the end.
+pub fn window(s: &[u8], at: usize) -> u64
+    ensures { λ r. ⌜ r ≡ windowAt (now (s .entry)) at ⌝ }
 {
-    let around = bytes_at(s, at / 8, count);
-    let after = 8 * count - at % 8 - width;
-    ((around >> after) % (1u64 << width)) as u32
+    if s.len() < 8 {
+        return window_of(&padded(s), at);
+    }
+    window_of(s, at)
 }
 
-// The number that the bits of `count` bytes from `from` on are.
-fn bytes_at(s: &[u8], from: usize, count: usize) -> u64
-    requires { ⌜ (count ≤ 8) × (from + count ≤ length (now s)) ⌝ }
-    ensures { λ r. ⌜ r ≡ value (bits (take count (drop from (now (s .entry))))) ⌝ }
+// The same where there are eight bytes: the bits are among the eight from theirs on, or among the last eight.
+fn window_of(s: &[u8], at: usize) -> u64
+    requires { ⌜ 8 ≤ length (now s) ⌝ }
+    ensures { λ r. ⌜ r ≡ windowAt (now (s .entry)) at ⌝ }
 {
-    let mut sum: u64 = 0;
+    let first = least(at / 8, s.len() - 8);
+    let into = at - 8 * first;
+    if 63 < into {
+        return 0;
+    }
+    (eight(s, first) << into) >> 7u32
+}
+
+// Fewer than eight bytes, and zeros after them.
+fn padded(s: &[u8]) -> [u8; 8]
+    requires { ⌜ length (now s) ≤ 8 ⌝ }
+    ensures { λ r. ⌜ r ≡ now (s .entry) ++ replicate (8 - length (now (s .entry))) 0 ⌝ }
+{
+    let mut held = [0u8; 8];
     let mut i: usize = 0;
-    while i < count {
-        sum = sum * 256 + wide(s[from + i]);
+    while i < s.len() {
+        held[i] = s[i];
         i += 1;
     }
-    sum
+    held
 }
 
-fn wide(b: u8) -> u64
-    ensures { λ r. ⌜ r ≡ b ⌝ }
+// The numbers that the bits of eight bytes and of four are. Written so, each becomes a single load.
+fn eight(s: &[u8], from: usize) -> u64
+    requires { ⌜ from + 8 ≤ length (now s) ⌝ }
+    ensures { λ r. ⌜ r ≡ value (bits (take 8 (drop from (now (s .entry))))) ⌝ }
 {
-    b as u64
+    (four(s, from) as u64) * 4294967296 + four(s, from + 4) as u64
+}
+
+fn four(s: &[u8], from: usize) -> u32
+    requires { ⌜ from + 4 ≤ length (now s) ⌝ }
+    ensures { λ r. ⌜ r ≡ value (bits (take 4 (drop from (now (s .entry))))) ⌝ }
+{
+    let high = byte(s, from) * 16777216 + byte(s, from + 1) * 65536;
+    high + byte(s, from + 2) * 256 + byte(s, from + 3)
+}
+
+fn byte(s: &[u8], at: usize) -> u32
+    requires { ⌜ at < length (now s) ⌝ }
+    ensures { λ r. ⌜ (r ≡ getD (now (s .entry)) at 0) × (r < 256) ⌝ }
+{
+    s[at] as u32
+}
+
+// The bit at a place; 0 after the end.
+pub fn bit_at(s: &[u8], at: usize) -> usize
+    ensures { λ r. ⌜ r ≡ value (take 1 (drop at (bits (now (s .entry))))) ⌝ }
+{
+    if s.len() <= at / 8 {
+        return 0;
+    }
+    ((s[at / 8] >> (7 - at % 8)) % 2) as usize
 }
 
 // Puts the `width` low bits of an element, up to 32, at `at`, and says whether there was room; without it no bit changes.

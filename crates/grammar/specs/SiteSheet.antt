@@ -1,6 +1,6 @@
 -- The codes: what each means, or that it is refused. The site sheet stands in for EN 300 392-9; tables are those of EN 300 392-12-18.
-use Prim.Native.Nat.{ℕ}
-use mathlib.Core.Bool.{true, false, _&&_}
+use Prim.Native.Nat.{ℕ, zero, suc, _/_, _%_}
+use mathlib.Core.Bool.{Bool, true, false, _&&_}
 use lib.Dec.{eqb, leb}
 use Rattle.bits.specs.Bits.{pick}
 use Rattle.grammar.specs.declared.site.RangeType.{RangeType}
@@ -64,6 +64,11 @@ refusalOfDigit NoDigit = 3
 
 unfoldable pub digitRefusal : ℕ → ℕ
 digitRefusal d = refusalOfDigit (digitOf d)
+
+-- k digits, the low four bits of a number first
+unfoldable pub allDigits : ℕ → ℕ → Bool
+allDigits zero w = true
+allDigits (suc k) w = eqb (digitRefusal (w % 16)) 0 && allDigits k (w / 16)
 
 -- ---- services: table 42
 

@@ -2,7 +2,7 @@
 ghost use mathlib.Core.Path.{_≡_};
 ghost use Prim.Native.Nat.{_<_};
 ghost use Rattle.codec.specs.Parts.{only};
-ghost use Rattle.grammar.specs.SiteSheet.{rangeType, rowOf, rangeRefusal, ssType, digitOf, digitRefusal, serviceOf, serviceRefusal, kindRefusal, resultRefusal, between};
+ghost use Rattle.grammar.specs.SiteSheet.{rangeType, rowOf, rangeRefusal, ssType, digitOf, digitRefusal, allDigits, serviceOf, serviceRefusal, kindRefusal, resultRefusal, between};
 ghost use Rattle.grammar.specs.Grammar.{endsRefusal, networkOf};
 use crate::record::Identity;
 
@@ -179,6 +179,22 @@ pub fn digit_refusal(code: u32) -> u32
         Digit::Plus => 0,
         Digit::NoDigit => 3,
     }
+}
+
+// Whether all sixteen digits of a number are legal.
+pub fn are_digits(w: u64) -> bool
+    ensures { λ r. ⌜ r ≡ allDigits 16 w ⌝ }
+{
+    let mut rest = w;
+    let mut left: usize = 16;
+    while 0 < left {
+        if digit_refusal((rest % 16) as u32) != 0 {
+            return false;
+        }
+        rest = rest / 16;
+        left -= 1;
+    }
+    true
 }
 
 // A service (table 42).

@@ -1,0 +1,9 @@
+pub mod Walks
+pub mod Elements
+pub mod Windows
+pub mod Rows
+pub mod Identities
+pub mod Ranges
+pub mod Lists
+pub mod Counted
+pub mod Digits
