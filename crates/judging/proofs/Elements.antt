@@ -34,10 +34,10 @@ module _ (w : ℕ) (l : List Bool) (at : ℕ) (some : 1 ≤ w) where
     unfolding element
     tested-at = readAt-tested (number w) refuse (λ v. 0) l at ∙ simp add-zero
 
-    element-at : at + w ≤ length l → readAt (element w refuse) l at ≡ barring (refuse (value (take w (drop at l)))) at (got (value (take w (drop at l))) (at + w))
+    pub element-at : at + w ≤ length l → readAt (element w refuse) l at ≡ barring (refuse (value (take w (drop at l)))) at (got (value (take w (drop at l))) (at + w))
     element-at h = tested-at ∙ rw (number-there h)
 
-    element-cut : length l < at + w → readAt (element w refuse) l at ≡ refused 2 at
+    pub element-cut : length l < at + w → readAt (element w refuse) l at ≡ refused 2 at
     element-cut h = tested-at ∙ rw (number-short h)
 
     pub walk-element : at + w ≤ length l → walk (element w refuse) l at ≡ pick (eqb (refuse (value (take w (drop at l)))) 0) (At (at + w)) Off

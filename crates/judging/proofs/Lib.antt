@@ -7,3 +7,5 @@ pub mod Ranges
 pub mod Lists
 pub mod Counted
 pub mod Digits
+pub mod Judging
+pub mod Heads

@@ -51,7 +51,7 @@ module _ {x y u v : ℕ} (p : x ≡ u) (q : y ≡ v) where
 
 -- ---- one end after the other
 
-places-first : {A : Type 0} (c z : Codec A) (l : List Bool) (m n at : ℕ)
+pub places-first : {A : Type 0} (c z : Codec A) (l : List Bool) (m n at : ℕ)
     → readAt (places c z (suc m) (suc n)) l at ≡ andNext (readAt c l at) (λ a p. andNext (readAt (places c z m n) l p) (λ t q. got (a ∷ t) q))
 unfolding places
 places-first c z l m n at = readAt-cons c (places c z m n) l at

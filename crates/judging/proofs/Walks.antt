@@ -97,17 +97,24 @@ module _ {f : ℕ → Walked} {n count from left at : ℕ} (r : Walking f n coun
 
 -- ---- where a walk ends
 
+-- what is read is legal, and is written as the bits that were read
+module _ {A : Type 0} (c : Codec A) (l : List Bool) (at : ℕ) where
+  pub read-cases : (P : Answer A → Type 0) → ((k p : ℕ) → P (refused k p))
+      → ((a : A) → Legal c a → (rest : List Bool) → drop at l ≡ c .print a ++ rest → P (got a (at + length (c .print a)))) → P (readAt c l at)
+  unfolding readAt
+  read-cases P no-read reads = go (c .parse at (drop at l)) (c .sound at (drop at l))
+    where
+      go : (o : Outcome A) → Right (c .clean) (c .fault) (c .print) at (drop at l) o → P (answer o)
+      go (ok a p rest) h = rw (h .3) (reads a (record { clean = h .0; faultless = h .1 }) rest (h .2))
+      go (no k p) h = no-read k p
+
 module _ {A : Type 0} (c : Codec A) (l : List Bool) (at : ℕ) (start : at ≤ length l) where
   -- a walk ends where the writing of a legal value does, within the PDU
-  pub walk-cases : (P : Walked → Type 0) → P Off
+  walk-cases : (P : Walked → Type 0) → P Off
       → ((a : A) → Legal c a → at + length (c .print a) ≤ length l → P (At (at + length (c .print a)))) → P (walk c l at)
-  unfolding walk readAt
-  walk-cases P off ends = go (c .parse at (drop at l)) (c .sound at (drop at l))
-    where
-      go : (o : Outcome A) → Right (c .clean) (c .fault) (c .print) at (drop at l) o → P (walked (answer o))
-      go (ok a p r) h =
-          rw (h .3) (ends a (record { clean = h .0; faultless = h .1 }) (omega (arith, length-drop at l, ap length (h .2), length-append (c .print a) r)))
-      go (no n p) h = off
+  unfolding walk
+  walk-cases P off ends = read-cases c l at (λ o. P (walked o)) (λ k p. off) (λ a g rest e.
+      ends a g (omega (arith, length-drop at l, ap length e, length-append (c .print a) rest)))
 
   pub walk-inside : {p : ℕ} → walk c l at ≡ At p → p ≤ length l
   walk-inside {p} =
