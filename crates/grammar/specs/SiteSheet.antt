@@ -65,7 +65,7 @@ refusalOfDigit NoDigit = 3
 unfoldable pub digitRefusal : ℕ → ℕ
 digitRefusal d = refusalOfDigit (digitOf d)
 
--- k digits, the low four bits of a number first
+-- the k lowest digits of a number, of 4 bits each, are legal
 unfoldable pub allDigits : ℕ → ℕ → Bool
 allDigits zero w = true
 allDigits (suc k) w = eqb (digitRefusal (w % 16)) 0 && allDigits k (w / 16)

@@ -181,20 +181,12 @@ pub fn digit_refusal(code: u32) -> u32
     }
 }
 
-// Whether all sixteen digits of a number are legal.
+// Whether each of the sixteen digits of 4 bits in w is legal: 13 to 15 have the bits 8 and 4, and 2 or 1.
 pub fn are_digits(w: u64) -> bool
     ensures { λ r. ⌜ r ≡ allDigits 16 w ⌝ }
 {
-    let mut rest = w;
-    let mut left: usize = 16;
-    while 0 < left {
-        if digit_refusal((rest % 16) as u32) != 0 {
-            return false;
-        }
-        rest = rest / 16;
-        left -= 1;
-    }
-    true
+    let refused = (w >> 3) & (w >> 2) & ((w >> 1) | w);
+    refused & 0x1111_1111_1111_1111 == 0
 }
 
 // A service (table 42).

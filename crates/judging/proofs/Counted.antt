@@ -34,7 +34,7 @@ pub external-counted : (l : List Bool) (at : ℕ) → walk external l at ≡ wal
 unfolding external counted
 external-counted l at = walk-shaped _ l at _ _ _ _
 
-module _ {s : List ℕ} {n at : ℕ} (i : Inside s n at) (k high w : ℕ) (refuse : ℕ → ℕ) (some : 1 ≤ k) (fits : k ≤ 57) (wide : 1 ≤ w) where
+module _ {s : List ℕ} {n at : ℕ} (i : Inside s n at) (k high w : ℕ) (refuse : ℕ → ℕ) (some : 1 ≤ k) (fits : k ≤ 57) where
   pub counted-short : n < at + k → walk (counted k high w refuse) (bitsIn n s) at ≡ Off
   unfolding counted
   counted-short h = coded-short i k some fits _ _ h
@@ -48,7 +48,8 @@ module _ {s : List ℕ} {n at : ℕ} (i : Inside s n at) (k high w : ℕ) (refus
     unfolding counted
     counted-above j = coded-refused i k some fits (between 1 high) _ h (rw (← is) (λ z. omega (arith, between-le 1 high v z)))
 
-    pub counted-passed : 1 ≤ v → v ≤ high → walk (counted k high w refuse) (bitsIn n s) at ≡ walk (places (element w refuse) absent high v) (bitsIn n s) (at + k)
+    pub counted-passed : 1 ≤ v → v ≤ high
+        → walk (counted k high w refuse) (bitsIn n s) at ≡ walk (places (element w refuse) absent high v) (bitsIn n s) (at + k)
     unfolding counted
     counted-passed more few =
         coded-passed i k some fits (between 1 high) _ h (rw (← is, le-leb 1 v more, le-leb v high few))

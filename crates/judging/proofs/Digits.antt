@@ -4,7 +4,7 @@ use mathlib.Core.Bool.{Bool, _&&_}
 use mathlib.Core.List.{List}
 use Prim.Native.Nat.{ℕ, zero, suc, _+_, _-_, _*_, _/_, _%_, _^_, _≤_, _<_}
 use native.Mathlib.Omega.{arith}
-use lib.ListN.{length, take, drop, length-drop}
+use lib.ListN.{take, drop, length-drop}
 use lib.Seq.{drop-drop}
 use lib.Dec.{eqb}
 use Rattle.bits.specs.Bits.{value}
@@ -27,12 +27,14 @@ sixteen k x h e = sym (at-once digitRefusal 4 refl k 16 x h) ∙ ap (passing dig
 
 module _ {s : List ℕ} {n at : ℕ} (i : Inside s n at) {count : ℕ} (inside : at + 5 + 4 * count ≤ n) where
   pub digits-few : count ≤ 13
-      → passing digitRefusal 4 count (value (take (4 * count) (drop (at + 5) (bitsIn n s)))) ≡ allDigits 16 (windowAt s at / 2 ^ (57 - 5 - 4 * count) % 2 ^ (4 * count))
+      → passing digitRefusal 4 count (value (take (4 * count) (drop (at + 5) (bitsIn n s))))
+      ≡ allDigits 16 (windowAt s at / 2 ^ (57 - 5 - 4 * count) % 2 ^ (4 * count))
   digits-few h = sixteen count (drop (at + 5) (bitsIn n s)) (omega arith) (window-value s n (i .bytes) at 5 (4 * count) (omega arith) inside)
 
   pub digits-many : 13 < count → count ≤ 24
       → passing digitRefusal 4 count (value (take (4 * count) (drop (at + 5) (bitsIn n s))))
-      ≡ allDigits 16 (windowAt s at / 2 ^ (57 - 5 - 52) % 2 ^ 52) && allDigits 16 (windowAt s (at + 57) / 2 ^ (57 - 0 - (4 * count - 52)) % 2 ^ (4 * count - 52))
+      ≡ allDigits 16 (windowAt s at / 2 ^ (57 - 5 - 52) % 2 ^ 52) && allDigits 16
+      (windowAt s (at + 57) / 2 ^ (57 - 0 - (4 * count - 52)) % 2 ^ (4 * count - 52))
   digits-many h few =
       let x : List Bool = drop (at + 5) (bitsIn n s) in
       let k : ℕ = count - 13 in

@@ -1,6 +1,6 @@
 -- Elements: one at a place, and one that decides what follows it. Assumes nothing.
-use mathlib.Core.Path.{_≡_, refl, sym, ap, _∙_}
-use mathlib.Core.Bool.{Bool, true, false}
+use mathlib.Core.Path.{_≡_, refl, ap, _∙_}
+use mathlib.Core.Bool.{Bool}
 use mathlib.Core.List.{List}
 use Prim.Native.Nat.{ℕ, zero, suc, _+_, _-_, _/_, _^_, _≤_, _<_}
 use native.Mathlib.Nat.{add-zero}
@@ -17,7 +17,6 @@ use Rattle.codec.specs.Parts.{number, element, seq}
 use Rattle.codec.specs.Reading.{Answer, got, refused, andNext, barring, readAt}
 use Rattle.codec.proofs.Reading.{barring-some, taken, readAt-number, readAt-tested, readAt-seq}
 use Rattle.judging.specs.Walk.{walked, walk, Inside}
-use Rattle.judging.specs.declared.walking.Walked.{Walked}
 use Rattle.judging.specs.declared.walking.Walked.the-variants.{At, Off}
 use Rattle.judging.proofs.Walks.{walked-made}
 use Rattle.judging.proofs.Windows.{length-pdu, window-first}
@@ -34,10 +33,11 @@ module _ (w : ℕ) (l : List Bool) (at : ℕ) (some : 1 ≤ w) where
     unfolding element
     tested-at = readAt-tested (number w) refuse (λ v. 0) l at ∙ simp add-zero
 
-    pub element-at : at + w ≤ length l → readAt (element w refuse) l at ≡ barring (refuse (value (take w (drop at l)))) at (got (value (take w (drop at l))) (at + w))
+    pub element-at : at + w ≤ length l
+        → readAt (element w refuse) l at ≡ barring (refuse (value (take w (drop at l)))) at (got (value (take w (drop at l))) (at + w))
     element-at h = tested-at ∙ rw (number-there h)
 
-    pub element-cut : length l < at + w → readAt (element w refuse) l at ≡ refused 2 at
+    element-cut : length l < at + w → readAt (element w refuse) l at ≡ refused 2 at
     element-cut h = tested-at ∙ rw (number-short h)
 
     pub walk-element : at + w ≤ length l → walk (element w refuse) l at ≡ pick (eqb (refuse (value (take w (drop at l)))) 0) (At (at + w)) Off
@@ -64,7 +64,8 @@ module _ {s : List ℕ} {n at : ℕ} (i : Inside s n at) (w : ℕ) (some : 1 ≤
   coded-short h = let size = length-pdu s n (i .bytes) in after ∙ rw (element-cut w (bitsIn n s) at some refuse (omega arith))
 
   module _ (h : at + w ≤ n) where
-    code-at : readAt (element w refuse) (bitsIn n s) at ≡ barring (refuse (windowAt s at / 2 ^ (57 - w))) at (got (windowAt s at / 2 ^ (57 - w)) (at + w))
+    code-at : readAt (element w refuse) (bitsIn n s) at
+        ≡ barring (refuse (windowAt s at / 2 ^ (57 - w))) at (got (windowAt s at / 2 ^ (57 - w)) (at + w))
     code-at =
         let size = length-pdu s n (i .bytes) in
         element-at w (bitsIn n s) at some refuse (omega arith)
@@ -73,6 +74,8 @@ module _ {s : List ℕ} {n at : ℕ} (i : Inside s n at) (w : ℕ) (some : 1 ≤
     pub coded-refused : (refuse (windowAt s at / 2 ^ (57 - w)) ≡ 0 → ⊥) → walk (seq (element w refuse) d) (bitsIn n s) at ≡ Off
     coded-refused k = let v : ℕ = windowAt s at / 2 ^ (57 - w) in after ∙ rw (code-at, barring-some (refuse v) at (got v (at + w)) k)
 
-    pub coded-passed : refuse (windowAt s at / 2 ^ (57 - w)) ≡ 0 → walk (seq (element w refuse) d) (bitsIn n s) at ≡ walk (d (windowAt s at / 2 ^ (57 - w))) (bitsIn n s) (at + w)
+    pub coded-passed : refuse (windowAt s at / 2 ^ (57 - w)) ≡ 0
+        → walk (seq (element w refuse) d) (bitsIn n s) at ≡ walk (d (windowAt s at / 2 ^ (57 - w))) (bitsIn n s) (at + w)
     unfolding walk
-    coded-passed k = let v : ℕ = windowAt s at / 2 ^ (57 - w) in after ∙ rw (code-at, k) (walked-made (readAt (d v) (bitsIn n s) (at + w)) (λ b. (v, b)))
+    coded-passed k =
+        let v : ℕ = windowAt s at / 2 ^ (57 - w) in after ∙ rw (code-at, k) (walked-made (readAt (d v) (bitsIn n s) (at + w)) (λ b. (v, b)))

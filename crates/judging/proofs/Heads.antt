@@ -1,105 +1,39 @@
 -- A PDU's head, its first 15 bits, and its affected user. Assumes nothing.
 use mathlib.Core.Path.{_≡_, refl, sym, ap, _∙_}
 use mathlib.Core.Bool.{Bool, true, false, _&&_}
-use mathlib.Core.List.{List, [], _∷_, _++_}
-use Prim.Native.Nat.{ℕ, zero, suc, _+_, _*_, _/_, _%_, _^_, _≤_, _<_}
+use mathlib.Core.List.{List, _++_}
+use Prim.Native.Nat.{ℕ, _+_, _*_, _/_, _^_, _≤_, _<_}
 use native.Mathlib.Omega.{arith}
-use borrow.Author.Tests.{ltb-true, ltb-false, leb-true, leb-false, eqb-true, eqb-false, ne-eqb}
-use lib.ListN.{length, take, drop, replicate}
+use borrow.Author.Tests.{leb-true, leb-false, eqb-true, eqb-false}
+use lib.ListN.{length, take, drop}
 use lib.Dec.{ltb, leb, eqb}
 use Rattle.bits.specs.Bits.{pick, value, bitsOf}
 use Rattle.bits.specs.Frame.{bitsIn, framed}
 use Rattle.bits.specs.Element.{windowAt}
 use Rattle.bits.proofs.Frames.{framed-says}
-use Rattle.codec.specs.Codec.{Codec}
 use Rattle.codec.specs.Parts.{both, number, element, seq, tested, shaped, mark, only}
-use Rattle.codec.specs.Places.{places}
-use Rattle.codec.specs.Reading.{Answer, got, refused, andNext, barring, readAt}
-use Rattle.codec.proofs.Reading.{andNext-assoc, readAt-tested}
-use Rattle.codec.proofs.Filling.{places-rest}
+use Rattle.codec.specs.Reading.{Answer, got, refused, andNext, readAt}
+use Rattle.codec.proofs.Reading.{andNext-assoc}
 use Rattle.grammar.specs.SiteSheet.{ssType, rangeType, rowOf, rangeRefusal, kindRefusal}
-use Rattle.grammar.specs.Grammar.{identity, noIdentity, zeroIdentity, rangeEnds, secondEnd, identities, Rest, interrogateAck, restOf, toRecord, pdu}
+use Rattle.grammar.specs.Grammar.{identity, identities, interrogateAck, pdu}
 use Rattle.grammar.specs.declared.record.Identity.{Identity}
-use Rattle.grammar.specs.declared.record.Identities.{Identities}
 use Rattle.grammar.specs.declared.record.Record.{Record}
 use Rattle.grammar.specs.declared.site.Listing.the-variants as of
-use Rattle.reader.specs.Read.{readIs}
 use Rattle.reader.specs.Reader.{recordAt}
-use Rattle.reader.proofs.Answers.{not-framed, refused-inside, bits-left, accepted-whole}
-use Rattle.reader.proofs.Steps.{noIdentity-at, identities-at, pdu-at}
+use Rattle.reader.proofs.Steps.{identities-at, pdu-at}
 use Rattle.judging.specs.Walk.{walked, walk, Inside}
-use Rattle.judging.specs.Judge.{mayHold, userOf, judgedIs, ending, partAfter, held}
-use Rattle.judging.specs.declared.Judged.{Judged}
+use Rattle.judging.specs.Judge.{mayHold, userOf, judgedIs, partAfter, held}
 use Rattle.judging.specs.declared.Judged.the-variants.{Part, Other}
-use Rattle.judging.specs.declared.walking.Walked.the-variants.{At, Off}
+use Rattle.judging.specs.declared.walking.Walked.the-variants.{Off}
 use Rattle.judging.proofs.Walks.{read-cases, walk-short}
 use Rattle.judging.proofs.Windows.{length-pdu, window-value, window-first}
 use Rattle.judging.proofs.Elements.{element-at}
 use Rattle.judging.proofs.Identities.{identity-short}
-use Rattle.judging.proofs.Ranges.{places-first}
-
--- what is said of a PDU that was read
-abbrev judgedOf : ℕ → Answer Record → Judged
-judgedOf n (got r at) = pick (ltb at n) Other (pick (mayHold r) (Part (userOf r) (r .result)) Other)
-judgedOf n (refused k p) = Other
-
-off-judged : (n : ℕ) (o : Answer Record) → walked o ≡ Off → judgedOf n o ≡ Other
-off-judged n (got r p) e = absurd (let z : _≡_ {A = ℕ} 0 1 = cc in omega arith)
-off-judged n (refused k p) e = refl
-
-pub judged-unframed : (s : List ℕ) (n : ℕ) → framed s n ≡ false → judgedIs s n ≡ Other
-unfolding judgedIs
-judged-unframed s n e = rw (not-framed s n e)
-
-judged-at : (s : List ℕ) (n : ℕ) → framed s n ≡ true → judgedIs s n ≡ judgedOf n (readAt pdu (bitsIn n s) 0)
-unfolding judgedIs
-judged-at s n f = go (readAt pdu (bitsIn n s) 0) refl
-  where
-    go : (o : Answer Record) → readAt pdu (bitsIn n s) 0 ≡ o → judgedIs s n ≡ judgedOf n o
-    go (refused k p) e = rw (refused-inside s n f e)
-    go (got r at) e = left (ltb at n) refl
-      where
-        left : (b : Bool) → ltb at n ≡ b → judgedIs s n ≡ pick b Other (pick (mayHold r) (Part (userOf r) (r .result)) Other)
-        left true l = rw (bits-left s n f e (ltb-true at n l))
-        left false l = rw (accepted-whole s n f e (ltb-false at n l))
-
--- ---- the head
+use Rattle.judging.proofs.Users.{judgedOf, off-judged, judged-at, one, one-at, one-held}
 
 head-bits : (r : Record) (rest : List Bool) → r .kind ≡ 12 → r .affected .code ≡ 1 → value (take 15 (pdu .print r ++ rest)) ≡ 9409
 unfolding pdu mark shaped seq element tested number identities bitsOf value
 head-bits r rest k c = rw (k, c)
-
--- ---- one affected user
-
-abbrev one : Identity → Identities
-one u = record { code = 1; entries = u ∷ replicate 7 zeroIdentity }
-
-one-at : (l : List Bool) (at : ℕ) → readAt (tested (places identity noIdentity 8 1) (rangeEnds 1) secondEnd) l at
-    ≡ andNext (readAt identity l at) (λ u p. got (u ∷ replicate 7 zeroIdentity) p)
-unfolding rangeEnds
-one-at l at =
-    readAt-tested (places identity noIdentity 8 1) (rangeEnds 1) secondEnd l at
-    ∙ simp (places-first identity noIdentity l 7 0 at, places-rest identity noIdentity l zeroIdentity (noIdentity-at l) 7, andNext-assoc)
-
--- what follows one user decides
-one-held : (l : List Bool) (n at : ℕ) (u : Identity) → judgedOf n (recordAt interrogateAck l 12 (one u) at) ≡ held u (partAfter n (readAt interrogateAck l at))
-unfolding recordAt
-one-held l n at u = go (readAt interrogateAck l at)
-  where
-    pair : (result p : ℕ) (a b d : Bool) → leb 1 result ≡ a
-        → pick d Other (pick (a && (b && true)) (Part u result) Other) ≡ held u (pick (a && b) (pick d 0 result) 0)
-    pair result p true true true e = refl
-    pair result p true true false e = rw (ne-eqb result 0 (λ z. omega (arith, leb-true 1 result e)))
-    pair result p true false true e = refl
-    pair result p true false false e = refl
-    pair result p false b true e = refl
-    pair result p false b false e = refl
-
-    go : (o : Answer Rest) → judgedOf n (andNext o (λ rest p. got (toRecord (12, (one u, rest))) p)) ≡ held u (partAfter n o)
-    go (got rest p) = pair (rest .1 .0) p (leb 1 (rest .1 .0)) (leb (rest .1 .0) 2) (ltb p n) refl
-    go (refused k p) = refl
-
--- ---- the head
 
 module _ (s : List ℕ) (n : ℕ) (f : framed s n ≡ true) where
   room : n ≤ 8 * length s
@@ -118,7 +52,8 @@ module _ (s : List ℕ) (n : ℕ) (f : framed s n ≡ true) where
       ∙ head-bits r rest (eqb-true (r .kind) 12 (a .0)) (eqb-true (r .affected .code) 1 (d .1))
 
   pub judged-other : 15 ≤ n → (windowAt s 0 / 2 ^ 42 ≡ 9409 → ⊥) → judgedIs s n ≡ Other
-  judged-other h k = judged-at s n f ∙ read-cases pdu (bitsIn n s) 0 (λ o. judgedOf n o ≡ Other) (λ j p. refl) (λ r g rest e. may r rest e (mayHold r) refl _)
+  judged-other h k =
+      judged-at s n f ∙ read-cases pdu (bitsIn n s) 0 (λ o. judgedOf n o ≡ Other) (λ j p. refl) (λ r g rest e. may r rest e (mayHold r) refl _)
     where
       neither : (b : Bool) → pick b Other Other ≡ Other
       neither true = refl
@@ -153,10 +88,12 @@ module _ (s : List ℕ) (n : ℕ) (f : framed s n ≡ true) where
     unfolding rowOf rangeType
     user-at = pdu-at (bitsIn n s) 0 ∙ rw (ss-at, kind-at, identities-at, code-at) (simp (one-at, andNext-assoc))
 
-    pub judged-user : {u : Identity} {p : ℕ} → readAt identity (bitsIn n s) 15 ≡ got u p → judgedIs s n ≡ held u (partAfter n (readAt interrogateAck (bitsIn n s) p))
+    pub judged-user : {u : Identity} {p : ℕ} → readAt identity (bitsIn n s) 15 ≡ got u p
+        → judgedIs s n ≡ held u (partAfter n (readAt interrogateAck (bitsIn n s) p))
     judged-user {u} {p} e = judged-at s n f ∙ ap (judgedOf n) user-at ∙ rw e (one-held (bitsIn n s) n p u)
 
-    no-user : walk identity (bitsIn n s) 15 ≡ Off → judgedOf n (andNext (readAt identity (bitsIn n s) 15) (λ u p. recordAt interrogateAck (bitsIn n s) 12 (one u) p)) ≡ Other
+    no-user : walk identity (bitsIn n s) 15 ≡ Off
+        → judgedOf n (andNext (readAt identity (bitsIn n s) 15) (λ u p. recordAt interrogateAck (bitsIn n s) 12 (one u) p)) ≡ Other
     unfolding walk
     no-user e = go (readAt identity (bitsIn n s) 15) e
       where
@@ -170,7 +107,8 @@ module _ (s : List ℕ) (n : ℕ) (f : framed s n ≡ true) where
   headless : n < 15 → judgedIs s n ≡ Other
   unfolding walk pdu mark shaped seq element tested number identities bitsOf
   headless h =
-      judged-at s n f ∙ off-judged n (readAt pdu (bitsIn n s) 0) (walk-short pdu (bitsIn n s) 0 (omega arith) 15 (λ a g. omega arith) (omega (arith, size)))
+      judged-at s n f
+      ∙ off-judged n (readAt pdu (bitsIn n s) 0) (walk-short pdu (bitsIn n s) 0 (omega arith) 15 (λ a g. omega arith) (omega (arith, size)))
 
   -- the head and a user have at least 40 bits
   pub judged-short : n < 40 → judgedIs s n ≡ Other

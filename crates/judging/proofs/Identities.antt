@@ -1,30 +1,25 @@
 -- Identities and the ends of a range, as the windows at their places have them. Assumes nothing.
-use mathlib.Core.Path.{_≡_, refl, sym, ap, _∙_, subst}
-use mathlib.Core.Bool.{Bool, true, false, _&&_}
-use mathlib.Core.List.{List, [], _∷_}
-use Prim.Native.Nat.{ℕ, zero, suc, _+_, _-_, _*_, _/_, _%_, _^_, _≤_, _<_}
+use mathlib.Core.Path.{_≡_, sym, ap, _∙_, subst}
+use mathlib.Core.Bool.{Bool, true, false}
+use mathlib.Core.List.{List}
+use Prim.Native.Nat.{ℕ, _+_, _-_, _/_, _%_, _^_, _≤_, _<_}
 use native.Mathlib.Omega.{arith}
-use borrow.Author.Tests.{eqb-true}
-use lib.ListN.{length, take, drop, replicate}
-use lib.Dec.{eqb, leb}
+use lib.ListN.{take, drop}
+use lib.Dec.{eqb}
 use Rattle.bits.specs.Bits.{pick, bits, value}
 use Rattle.bits.specs.Frame.{bitsIn}
 use Rattle.bits.specs.Element.{windowAt}
 use Rattle.bits.proofs.Windows.{window-part}
-use Rattle.codec.specs.Codec.{Codec}
-use Rattle.codec.specs.Parts.{number, tested}
-use Rattle.codec.specs.Places.{places}
-use Rattle.codec.specs.Reading.{Answer, got, refused, andNext, barring, readAt}
-use Rattle.codec.proofs.Reading.{andNext-assoc, barring-some, readAt-absent, readAt-cons, readAt-tested}
-use Rattle.codec.proofs.Filling.{places-rest}
-use Rattle.grammar.specs.Grammar.{extension, identity, noIdentity, zeroIdentity, endsRefusal, rangeEnds, secondEnd}
+use Rattle.codec.specs.Parts.{number}
+use Rattle.codec.specs.Reading.{Answer, got, andNext, readAt}
+use Rattle.codec.proofs.Reading.{readAt-absent}
+use Rattle.grammar.specs.Grammar.{extension, identity}
 use Rattle.grammar.specs.declared.record.Identity.{Identity}
 use Rattle.grammar.proofs.Codes.{identity-length}
-use Rattle.reader.proofs.Steps.{identity-at, noIdentity-at}
-use Rattle.judging.specs.Walk.{walked, walk, range, Inside}
-use Rattle.judging.specs.declared.walking.Walked.{Walked}
-use Rattle.judging.specs.declared.walking.Walked.the-variants.{At, Off}
-use Rattle.judging.proofs.Walks.{walk-short, off-next}
+use Rattle.reader.proofs.Steps.{identity-at}
+use Rattle.judging.specs.Walk.{walked, walk, Inside}
+use Rattle.judging.specs.declared.walking.Walked.the-variants.{Off}
+use Rattle.judging.proofs.Walks.{walk-short}
 use Rattle.judging.proofs.Windows.{length-pdu, window-value, window-first}
 use Rattle.judging.proofs.Elements.{number-there, number-short}
 
@@ -40,7 +35,8 @@ abbrev pub wideAt : List ℕ → ℕ → Identity
 wideAt s at = record { ssi = windowAt s at / 2 ^ 33; present = 1; extension = windowAt s at / 2 ^ 8 % 2 ^ 24 }
 
 module _ {s : List ℕ} {n at : ℕ} (i : Inside s n at) where
-  field-at : (k w q : ℕ) → 1 ≤ w → k + w ≤ 57 → q ≡ at + k + w → q ≤ n → readAt (number w) (bitsIn n s) (at + k) ≡ got (windowAt s at / 2 ^ (57 - k - w) % 2 ^ w) q
+  field-at : (k w q : ℕ) → 1 ≤ w → k + w ≤ 57 → q ≡ at + k + w → q ≤ n
+      → readAt (number w) (bitsIn n s) (at + k) ≡ got (windowAt s at / 2 ^ (57 - k - w) % 2 ^ w) q
   field-at k w q some h e j =
       rw e (number-there w (bitsIn n s) (at + k) some (omega (arith, length-pdu s n (i .bytes)))
       ∙ ap {B = Answer ℕ} (λ (v : ℕ). got v (at + k + w)) (window-value s n (i .bytes) at k w h (omega arith)))
@@ -74,7 +70,8 @@ module _ {s : List ℕ} {n at : ℕ} (i : Inside s n at) where
 
       pub identity-cut : n < at + 49 → walk identity (bitsIn n s) at ≡ Off
       unfolding walk extension
-      identity-cut j = ap walked up-to-extension ∙ rw (e, number-short 24 (bitsIn n s) (at + 25) (omega arith) (omega (arith, length-pdu s n (i .bytes))))
+      identity-cut j =
+          ap walked up-to-extension ∙ rw (e, number-short 24 (bitsIn n s) (at + 25) (omega arith) (omega (arith, length-pdu s n (i .bytes))))
 
     -- the present bit, taken alone
     pub present-is : {b : ℕ} → b ≡ value (take 1 (drop (at + 24) (bits s))) → windowAt s at / 2 ^ 32 % 2 ≡ b

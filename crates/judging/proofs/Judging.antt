@@ -1,41 +1,36 @@
 -- What judging a PDU says, step by step. Assumes nothing.
-use mathlib.Core.Path.{_≡_, refl, sym, ap, ap₂, _∙_}
+use mathlib.Core.Path.{_≡_, refl, sym, ap, _∙_}
 use mathlib.Core.Bool.{Bool, true, false, _&&_}
-use mathlib.Core.List.{List, [], _∷_, _++_}
-use Prim.Native.Nat.{ℕ, zero, suc, _+_, _/_, _%_, _^_, _≤_, _<_}
+use mathlib.Core.List.{List}
+use Prim.Native.Nat.{ℕ, zero, suc, _+_, _/_, _^_, _≤_, _<_}
 use native.Mathlib.Omega.{arith}
-use borrow.Author.Tests.{ltb-true, ltb-false, leb-true, le-leb, ne-eqb}
-use lib.ListN.{length, take, drop, replicate}
-use lib.Dec.{ltb, leb, eqb}
+use borrow.Author.Tests.{leb-true, le-leb, ne-eqb}
+use lib.ListN.{length, take, drop}
+use lib.Dec.{leb}
 use Rattle.bits.specs.Bits.{pick, value, bitsOf}
-use Rattle.bits.specs.Frame.{bitsIn, framed}
+use Rattle.bits.specs.Frame.{bitsIn}
 use Rattle.bits.specs.Element.{windowAt}
 use Rattle.codec.specs.Parts.{number, absent, element, seq, tested}
-use Rattle.codec.specs.Places.{places}
 use Rattle.codec.specs.Reading.{Answer, got, refused, andNext, barring, readAt}
-use Rattle.codec.proofs.Reading.{andNext-assoc, barring-some, readAt-absent, readAt-seq}
+use Rattle.codec.proofs.Reading.{andNext-assoc, readAt-absent, readAt-seq}
 use Rattle.grammar.specs.SiteSheet.{resultRefusal}
-use Rattle.grammar.specs.Grammar.{identity, services, partOf, Rest, interrogateAck, pdu}
-use Rattle.grammar.specs.declared.record.Identity.{Identity}
+use Rattle.grammar.specs.Grammar.{services, partOf, Rest, interrogateAck}
 use Rattle.grammar.specs.declared.record.Services.{Services}
 use Rattle.grammar.specs.declared.record.Lists.{Lists}
-use Rattle.grammar.specs.declared.record.Record.{Record}
-use Rattle.reader.specs.Read.{readIs}
-use Rattle.reader.proofs.Answers.{not-framed, refused-inside, bits-left, accepted-whole}
 use Rattle.judging.specs.Walk.{walked, walk, Inside}
-use Rattle.judging.specs.Judge.{mayHold, userOf, judgedIs, ending, partAfter, held}
-use Rattle.judging.specs.declared.Judged.{Judged}
-use Rattle.judging.specs.declared.Judged.the-variants.{Part, Other}
-use Rattle.judging.specs.declared.walking.Walked.the-variants.{At, Off}
+use Rattle.judging.specs.Judge.{ending, partAfter}
+use Rattle.judging.specs.declared.walking.Walked.the-variants.{Off}
 use Rattle.judging.proofs.Walks.{onward, walk-seq, walk-short}
 use Rattle.judging.proofs.Windows.{length-pdu, window-first}
-use Rattle.judging.proofs.Elements.{number-there, number-short, element-at, element-cut}
+use Rattle.judging.proofs.Elements.{number-there, element-at}
 
 -- ---- what follows the affected user
 
 module _ (l : List Bool) (at : ℕ) where
-  ack-at : readAt interrogateAck l at ≡ andNext (readAt (element 3 resultRefusal) l at) (λ result at₁. andNext (readAt (number 2) l at₁) (λ delivery at₂.
-      andNext (readAt services l at₂) (λ listed at₃. andNext (readAt (partOf result) l at₃) (λ lists at₄. got (0, (result, (delivery, (listed, lists)))) at₄))))
+  ack-at : readAt interrogateAck l at
+      ≡ andNext (readAt (element 3 resultRefusal) l at) (λ result at₁. andNext (readAt (number 2) l at₁) (λ delivery at₂.
+      andNext (readAt services l at₂)
+      (λ listed at₃. andNext (readAt (partOf result) l at₃) (λ lists at₄. got (0, (result, (delivery, (listed, lists)))) at₄))))
   unfolding interrogateAck
   ack-at = simp (readAt-seq, andNext-assoc, readAt-absent)
 
@@ -86,16 +81,20 @@ module _ {s : List ℕ} {n at : ℕ} (i : Inside s n at) where
 
   pub part-short : n < at + 5 → partAfter n (readAt interrogateAck (bitsIn n s) at) ≡ 0
   unfolding interrogateAck seq absent element tested number bitsOf walk
-  part-short h = off-part n (readAt interrogateAck (bitsIn n s) at) (walk-short interrogateAck (bitsIn n s) at (omega (arith, size, i .place)) 5 (λ a g. omega arith) (omega (arith, size)))
+  part-short h =
+      off-part n (readAt interrogateAck (bitsIn n s) at)
+      (walk-short interrogateAck (bitsIn n s) at (omega (arith, size, i .place)) 5 (λ a g. omega arith) (omega (arith, size)))
 
   module _ {v : ℕ} (is : v ≡ windowAt s at / 2 ^ 54) (h : at + 5 ≤ n) where
     result-at : readAt (element 3 resultRefusal) (bitsIn n s) at ≡ barring (resultRefusal v) at (got v (at + 3))
     result-at =
         element-at 3 (bitsIn n s) at (omega arith) resultRefusal (omega (arith, size))
-        ∙ ap {B = Answer ℕ} (λ (x : ℕ). barring (resultRefusal x) at (got x (at + 3))) (window-first s n (i .bytes) at 3 (omega arith) (omega arith) ∙ sym is)
+        ∙ ap {B = Answer ℕ} (λ (x : ℕ). barring (resultRefusal x) at (got x (at + 3))) (window-first s n (i .bytes) at 3 (omega arith) (omega arith)
+        ∙ sym is)
 
     -- a result of 1 or 2, and the part that it says
-    pub part-at : 1 ≤ v → v ≤ 2 → partAfter n (readAt interrogateAck (bitsIn n s) at) ≡ ending n v (walk (seq services (λ x. partOf v)) (bitsIn n s) (at + 5))
+    pub part-at : 1 ≤ v → v ≤ 2
+        → partAfter n (readAt interrogateAck (bitsIn n s) at) ≡ ending n v (walk (seq services (λ x. partOf v)) (bitsIn n s) (at + 5))
     unfolding resultRefusal
     part-at a b = after-result v (result-at ∙ rw (ne-eqb v 5 (λ e. omega arith))) h ∙ rw (le-leb 1 v a, le-leb v 2 b)
 
@@ -104,5 +103,7 @@ module _ {s : List ℕ} {n at : ℕ} (i : Inside s n at) where
     part-none k = go (resultRefusal v) refl
       where
         go : (r : ℕ) → resultRefusal v ≡ r → partAfter n (readAt interrogateAck (bitsIn n s) at) ≡ 0
-        go zero e = after-result v (result-at ∙ rw e) h ∙ ap (λ b. pick b (ending n v (walk (seq services (λ x. partOf v)) (bitsIn n s) (at + 5))) 0) (not-both v k)
+        go zero e =
+            after-result v (result-at ∙ rw e) h
+            ∙ ap (λ b. pick b (ending n v (walk (seq services (λ x. partOf v)) (bitsIn n s) (at + 5))) 0) (not-both v k)
         go (suc r) e = ap (partAfter n) (ack-at (bitsIn n s) at) ∙ rw (result-at, e)

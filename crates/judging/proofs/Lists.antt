@@ -9,7 +9,6 @@ use lib.Dec.{eqb}
 use Rattle.bits.specs.Bits.{pick}
 use Rattle.bits.specs.Frame.{bitsIn}
 use Rattle.bits.specs.Element.{windowAt}
-use Rattle.codec.specs.Codec.{Codec}
 use Rattle.codec.specs.Parts.{element, seq, tested}
 use Rattle.codec.specs.Places.{places}
 use Rattle.codec.specs.Reading.{Answer, got, refused, andNext, barring, readAt}
@@ -77,7 +76,8 @@ module _ {s : List ℕ} {n at : ℕ} (i : Inside s n at) where
         shape
         ∙ coded-passed i 4 (omega arith) (omega arith) (rangeRefusal of.Identities) _ h (rw (← is) (t .0))
         ∙ rw (← is) (ap walked (readAt-tested (places identity noIdentity 8 (entriesOf code)) (rangeEnds code) secondEnd (bitsIn n s) (at + 4))
-        ∙ untested (readAt (places identity noIdentity 8 (entriesOf code)) (bitsIn n s) (at + 4)) (rangeEnds code) (λ a. at + 4 + secondEnd a) (not-nine code (λ e. omega arith))
+        ∙ untested (readAt (places identity noIdentity 8 (entriesOf code)) (bitsIn n s) (at + 4)) (rangeEnds code) (λ a. at + 4 + secondEnd a)
+        (not-nine code (λ e. omega arith))
         ∙ ap (λ (c : ℕ). walked (readAt (places identity noIdentity 8 c) (bitsIn n s) (at + 4))) (t .2))
 
     pub identities-range : code ≡ 9 → walk (identities of.Identities) (bitsIn n s) at ≡ walk range (bitsIn n s) (at + 4)
@@ -86,12 +86,14 @@ module _ {s : List ℕ} {n at : ℕ} (i : Inside s n at) where
 
     pub identities-none : 9 < code → walk (identities of.Identities) (bitsIn n s) at ≡ Off
     identities-none k =
-        shape ∙ coded-refused i 4 (omega arith) (omega arith) (rangeRefusal of.Identities) _ h (rw (← is) (λ z. omega (arith, above of.Identities code k)))
+        shape ∙ coded-refused i 4 (omega arith) (omega arith) (rangeRefusal of.Identities) _ h
+        (rw (← is) (λ z. omega (arith, above of.Identities code k)))
 
 -- ---- a list of external numbers
 
 module _ {s : List ℕ} {n at : ℕ} (i : Inside s n at) where
-  numbers-shape : walk externals (bitsIn n s) at ≡ walk (seq (element 4 (rangeRefusal of.Numbers)) (λ code. places external noExternal 8 (entriesOf code))) (bitsIn n s) at
+  numbers-shape : walk externals (bitsIn n s) at
+      ≡ walk (seq (element 4 (rangeRefusal of.Numbers)) (λ code. places external noExternal 8 (entriesOf code))) (bitsIn n s) at
   unfolding externals
   numbers-shape = walk-shaped _ (bitsIn n s) at _ _ _ _
 
@@ -106,16 +108,19 @@ module _ {s : List ℕ} {n at : ℕ} (i : Inside s n at) where
         ∙ rw (← is) (ap (λ (c : ℕ). walk (places external noExternal 8 c) (bitsIn n s) (at + 4)) (single code k .2))
 
     pub externals-none : 8 < code → walk externals (bitsIn n s) at ≡ Off
-    externals-none k = numbers-shape ∙ coded-refused i 4 (omega arith) (omega arith) (rangeRefusal of.Numbers) _ h (rw (← is) (λ z. omega (arith, not-single code k)))
+    externals-none k =
+        numbers-shape ∙ coded-refused i 4 (omega arith) (omega arith) (rangeRefusal of.Numbers) _ h (rw (← is) (λ z. omega (arith, not-single code k)))
 
 -- ---- services and the lists of a part
 
 module _ (l : List Bool) (at : ℕ) where
   pub identity-part : walk (seq services (λ x. identityPart)) l at
-      ≡ onward (walk services l at) (λ p. onward (walk (identities of.Identities) l p) (λ q. onward (walk (identities of.Identities) l q) (walk (identities of.Identities) l)))
+      ≡ onward (walk services l at)
+      (λ p. onward (walk (identities of.Identities) l p) (λ q. onward (walk (identities of.Identities) l q) (walk (identities of.Identities) l)))
   unfolding walk
   identity-part = walk-seq services l at identityPart ∙ onward-same (walk services l at) (λ p.
-      ap walked (identityPart-at l p) ∙ walked-three (readAt (identities of.Identities) l p) (readAt (identities of.Identities) l) (readAt (identities of.Identities) l) identityLists)
+      ap walked (identityPart-at l p)
+      ∙ walked-three (readAt (identities of.Identities) l p) (readAt (identities of.Identities) l) (readAt (identities of.Identities) l) identityLists)
 
   pub number-part : walk (seq services (λ x. numberPart)) l at
       ≡ onward (walk services l at) (λ p. onward (walk (identities of.Identities) l p) (λ q. onward (walk externals l q) (walk externals l)))

@@ -74,7 +74,7 @@ module _ (l : List Bool) (at : ℕ) where
   range-off e = ap walked range-at ∙ off-next (readAt identity l at) _ e
 
   module _ {a : Identity} {p : ℕ} (first : readAt identity l at ≡ got a p) where
-    pub range-half : walk identity l p ≡ Off → walk range l at ≡ Off
+    range-half : walk identity l p ≡ Off → walk range l at ≡ Off
     unfolding walk
     range-half e = ap walked range-at ∙ rw first (off-next (readAt identity l p) _ e)
 
@@ -85,7 +85,9 @@ module _ (l : List Bool) (at : ℕ) where
 
       pub range-differs : (endsRefusal a b ≡ 0 → ⊥) → walk range l at ≡ Off
       unfolding walk
-      range-differs h = ap walked range-at ∙ rw (first, second, barring-some (endsRefusal a b) (at + length (identity .print a)) (got (a ∷ b ∷ replicate 6 zeroIdentity) q) h)
+      range-differs h =
+          ap walked range-at
+          ∙ rw (first, second, barring-some (endsRefusal a b) (at + length (identity .print a)) (got (a ∷ b ∷ replicate 6 zeroIdentity) q) h)
 
 -- ---- the second end, after the first
 
@@ -98,7 +100,7 @@ module _ {s : List ℕ} {n p : ℕ} {a : Identity} (at : ℕ) (j : Inside s n p)
     second-plain wide e = range-differs (bitsIn n s) at first (identity-plain j h e) (λ z. let f = ends-say _ _ z in omega arith)
 
     module _ (e : windowAt s p / 2 ^ 32 % 2 ≡ 1) where
-      pub second-cut : n < p + 49 → walk range (bitsIn n s) at ≡ Off
+      second-cut : n < p + 49 → walk range (bitsIn n s) at ≡ Off
       second-cut k = range-half (bitsIn n s) at first (identity-cut j h e k)
 
       pub second-wide : a .present ≡ 0 → walk range (bitsIn n s) at ≡ Off

@@ -1,7 +1,7 @@
 -- Elements in a row: their numbers are those of one number, and they pass if each does. Assumes nothing.
 use mathlib.Core.Path.{_≡_, refl, sym, ap, ap₂, _∙_, subst}
 use mathlib.Core.Bool.{Bool, true, false, _&&_}
-use mathlib.Core.List.{List, _++_}
+use mathlib.Core.List.{List}
 use Prim.Native.Nat.{ℕ, zero, suc, _+_, _*_, _/_, _%_, _^_, _≤_, _<_}
 use native.Mathlib.Nat.{add-zero, mul-one, zero-div, zero-mod, mul-suc, mul-zero, mul-assoc, add-suc, mul-add-div-right, mul-add-mod-self-right, mod-eq-of-lt}
 use native.Mathlib.Omega.{arith}
@@ -35,7 +35,7 @@ module _ (refuse : ℕ → ℕ) (w : ℕ) where
   rest-lt k v h = shr-lt (w * k) w (subst (λ (m : ℕ). v < 2 ^ m) (mul-suc w k) h)
 
   -- some elements and some more
-  pub passing-join : (j k h v : ℕ) → v < 2 ^ (w * k) → passing refuse w (j + k) (h * 2 ^ (w * k) + v) ≡ passing refuse w j h && passing refuse w k v
+  passing-join : (j k h v : ℕ) → v < 2 ^ (w * k) → passing refuse w (j + k) (h * 2 ^ (w * k) + v) ≡ passing refuse w j h && passing refuse w k v
   unfolding passing
   passing-join j zero h v lt =
       let e : v ≡ 0 = lt-one (subst (λ (m : ℕ). v < 2 ^ m) (mul-zero w) lt) in
@@ -43,7 +43,8 @@ module _ (refuse : ℕ → ℕ) (w : ℕ) where
       ap₂ (passing refuse w) (add-zero j) one ∙ sym (and-true (passing refuse w j h))
   passing-join j (suc k) h v lt =
       let m : ℕ = h * 2 ^ (w * k) in
-      let e : h * 2 ^ (w * suc k) ≡ m * 2 ^ w = ap (λ (x : ℕ). h * x) (ap (λ (x : ℕ). 2 ^ x) (mul-suc w k) ∙ pow-add 2 (w * k) w) ∙ sym (mul-assoc h (2 ^ (w * k)) (2 ^ w)) in
+      let e : h * 2 ^ (w * suc k) ≡ m * 2 ^ w = ap (λ (x : ℕ). h * x) (ap (λ (x : ℕ). 2 ^ x) (mul-suc w k) ∙ pow-add 2 (w * k) w)
+      ∙ sym (mul-assoc h (2 ^ (w * k)) (2 ^ w)) in
       ap₂ (passing refuse w) (add-suc j k) (ap (λ (x : ℕ). x + v) e)
       ∙ ap₂ (λ (x y : ℕ). eqb (refuse x) 0 && passing refuse w (j + k) y) (mul-add-mod-self-right m (2 ^ w) v) (mul-add-div-right (pow-pos w) m v)
       ∙ ap (λ (b : Bool). eqb (refuse (v % 2 ^ w)) 0 && b) (passing-join j k h (v / 2 ^ w) (rest-lt k v lt))
@@ -61,10 +62,12 @@ module _ (refuse : ℕ → ℕ) (w : ℕ) where
       let z : v ≡ 0 = lt-one (subst (λ (m : ℕ). v < 2 ^ m) (mul-zero w) lt) in
       ap (passing refuse w m) z ∙ passing-zero e m
   passing-more e (suc k) zero v h lt = absurd (omega arith)
-  passing-more e (suc k) (suc m) v h lt = ap (λ (b : Bool). eqb (refuse (v % 2 ^ w)) 0 && b) (passing-more e k m (v / 2 ^ w) (omega arith) (rest-lt k v lt))
+  passing-more e (suc k) (suc m) v h lt =
+      ap (λ (b : Bool). eqb (refuse (v % 2 ^ w)) 0 && b) (passing-more e k m (v / 2 ^ w) (omega arith) (rest-lt k v lt))
 
   -- so a test of m elements at once tests the k that there are
-  pub at-once : refuse 0 ≡ 0 → (k m : ℕ) (l : List Bool) → k ≤ m → passing refuse w m (value (take (w * k) l)) ≡ passing refuse w k (value (take (w * k) l))
+  pub at-once : refuse 0 ≡ 0 → (k m : ℕ) (l : List Bool) → k ≤ m
+      → passing refuse w m (value (take (w * k) l)) ≡ passing refuse w k (value (take (w * k) l))
   at-once e k m l h = passing-more e k m (value (take (w * k) l)) h (value-take-fits (w * k) (w * k) l (omega arith))
 
   -- some of the elements, and the rest
@@ -131,5 +134,6 @@ module _ (refuse : ℕ → ℕ) (w : ℕ) (some : 1 ≤ w) (l : List Bool) where
           → onward (walk (element w refuse) l at) (steps (walk (element w refuse) l) k) ≡ Off
       go true e rest =
           let j : at + w ≤ length l = leb-true (at + w) (length l) e in
-          rw (walk-element w l at some refuse j) (first-off (eqb (refuse (value (take w (drop at l)))) 0) (at + w) (steps (walk (element w refuse) l) k) (rest j))
+          rw (walk-element w l at some refuse j)
+          (first-off (eqb (refuse (value (take w (drop at l)))) 0) (at + w) (steps (walk (element w refuse) l) k) (rest j))
       go false e rest = rw (walk-cut w l at some refuse (leb-false (at + w) (length l) e))

@@ -7,7 +7,7 @@ use native.Mathlib.Omega.{arith}
 use lib.ListN.{length, drop, length-append, length-drop}
 use Rattle.codec.specs.Codec.{Outcome, ok, no, Right, Codec, Legal}
 use Rattle.codec.specs.Parts.{seq, shaped}
-use Rattle.codec.specs.Places.{nil, cons, places}
+use Rattle.codec.specs.Places.{cons, places}
 use Rattle.codec.specs.Reading.{Answer, got, refused, andNext, answer, readAt}
 use Rattle.codec.proofs.Reading.{readAt-seq, readAt-shaped, readAt-nil, readAt-cons}
 use Rattle.judging.specs.Walk.{walked, walk}
@@ -39,7 +39,8 @@ walked-both (got a p) d f = walked-made (d p) (f a)
 walked-both (refused n p) d f = refl
 
 pub walked-three : {A B C D : Type 0} (o : Answer A) (d : ℕ → Answer B) (e : ℕ → Answer C) (f : A → B → C → D)
-    → walked (andNext o (λ a p. andNext (d p) (λ b q. andNext (e q) (λ c r. got (f a b c) r)))) ≡ onward (walked o) (λ p. onward (walked (d p)) (λ q. walked (e q)))
+    → walked (andNext o (λ a p. andNext (d p) (λ b q. andNext (e q) (λ c r. got (f a b c) r))))
+    ≡ onward (walked o) (λ p. onward (walked (d p)) (λ q. walked (e q)))
 walked-three (got a p) d e f = walked-both (d p) e (f a)
 walked-three (refused n p) d e f = refl
 
@@ -50,7 +51,8 @@ module _ {A B : Type 0} (c : Codec A) (l : List Bool) (at : ℕ) where
   unfolding walk
   walk-seq d = ap walked (readAt-seq c (λ a. d) l at) ∙ walked-both (readAt c l at) (readAt d l) (λ a b. (a, b))
 
-  pub walk-shaped : (to : A → B) (from : B → A) (there : (a : A) → c .clean a ≡ true → c .fault a ≡ 0 → from (to a) ≡ a) (back : (b : B) → to (from b) ≡ b)
+  pub walk-shaped : (to : A → B) (from : B → A) (there : (a : A) → c .clean a ≡ true → c .fault a ≡ 0 → from (to a) ≡ a) (back : (b : B)
+      → to (from b) ≡ b)
       → walk (shaped c to from there back) l at ≡ walk c l at
   unfolding walk
   walk-shaped to from there back = ap walked (readAt-shaped c to from there back l at) ∙ walked-made (readAt c l at) to

@@ -1,13 +1,14 @@
 // Judging a PDU without filling its record: whether an archive may hold it, for which user, and as which part.
+use crate::walking::Walked;
 use bits::BitCount;
 use grammar::record::Identity;
-use crate::walking::Walked;
 ghost use mathlib.Core.Path.{_≡_};
 ghost use Rattle.bits.specs.Frame.{bitsIn};
 ghost use Rattle.codec.specs.Reading.{readAt};
 ghost use Rattle.grammar.specs.Grammar.{interrogateAck};
 ghost use Rattle.judging.specs.Walk.{Inside};
 ghost use Rattle.judging.specs.Judge as judging;
+
 pub mod walking;
 
 // A PDU that an archive may hold: its affected user and its interrogation result. Any other PDU, legal or not, is none.

@@ -13,7 +13,8 @@ use Rattle.grammar.specs.declared.record.Identity.{Identity}
 use Rattle.judging.specs.Walk.{Inside}
 use Rattle.judging.specs.Judge.{held}
 use Rattle.judging.proofs.Identities.{identity-plain, identity-wide, identity-cut}
-use Rattle.judging.proofs.Heads.{judged-unframed, judged-other, judged-user, judged-no-user, judged-short}
+use Rattle.judging.proofs.Users.{judged-unframed}
+use Rattle.judging.proofs.Heads.{judged-other, judged-user, judged-no-user, judged-short}
 use Rattle.judging.proofs.judge.Statement.{statement}
 use Rattle.judging.proofs.judge.Tie as tie
 
@@ -28,7 +29,8 @@ returns-2 c = sym (judged-short _ _ (frame (c .before)) (omega arith))
 
 returns-3 : tie.Need-returns-3
 returns-3 c =
-    sym (judged-other _ _ (frame (c .before .before .before)) (omega arith) (λ e. c .if3 .taken (ap (λ (w : ℕ). w / 2 ^ 42) (c .before .window .ensures) ∙ e)))
+    sym (judged-other _ _ (frame (c .before .before .before)) (omega arith)
+    (λ e. c .if3 .taken (ap (λ (w : ℕ). w / 2 ^ 42) (c .before .window .ensures) ∙ e)))
 
 head : (c : tie.Else3) → let a = c .before .before .before .before .before .before .args in windowAt (now (a .s)) 0 / 2 ^ 42 ≡ 9409
 head c = ap (λ (w : ℕ). w / 2 ^ 42) (sym (c .before .window .ensures)) ∙ c .if3 .left
@@ -44,13 +46,15 @@ returns-4 c =
     let plain : ℕ → Identity = λ x. record { ssi = x / 2 ^ 33; present = 0; extension = 0 } in
     c .held .ensures
     ∙ ap₂ held (ap plain w) (c .before .part-after .ensures)
-    ∙ sym (judged-user _ _ (frame (d .before .before .before)) (omega arith) (head d) (identity-plain (inside d 15 (omega arith)) (omega arith) (omega arith)))
+    ∙ sym (judged-user _ _ (frame (d .before .before .before)) (omega arith) (head d)
+    (identity-plain (inside d 15 (omega arith)) (omega arith) (omega arith)))
 
 returns-5 : tie.Need-returns-5
 returns-5 c =
     let d = c .before .before .before in
     let w = c .before .before .window2 .ensures in
-    sym (judged-no-user _ _ (frame (d .before .before .before)) (omega arith) (head d) (identity-cut (inside d 15 (omega arith)) (omega arith) (omega arith) (omega arith)))
+    sym (judged-no-user _ _ (frame (d .before .before .before)) (omega arith) (head d)
+    (identity-cut (inside d 15 (omega arith)) (omega arith) (omega arith) (omega arith)))
 
 returns-6 : tie.Need-returns-6
 returns-6 c =
@@ -59,7 +63,8 @@ returns-6 c =
     let wide : ℕ → Identity = λ x. record { ssi = x / 2 ^ 33; present = 1; extension = x / 2 ^ 8 % 2 ^ 24 } in
     c .held2 .ensures
     ∙ ap₂ held (ap wide w) (c .before .part-after2 .ensures)
-    ∙ sym (judged-user _ _ (frame (d .before .before .before)) (omega arith) (head d) (identity-wide (inside d 15 (omega arith)) (omega arith) (omega arith) (omega arith)))
+    ∙ sym (judged-user _ _ (frame (d .before .before .before)) (omega arith) (head d)
+    (identity-wide (inside d 15 (omega arith)) (omega arith) (omega arith) (omega arith)))
 
 pub judge-spec : {M : Type 1} → statement M
 judge-spec =

@@ -32,7 +32,8 @@ mask-step v m =
     let q : m * 4 + 2 ≡ (m * 2 + 1) * 2 + 0 = omega arith in
     let eighth : v / 2 / 2 / 2 ≡ v / 8 = omega arith in
     let a : bitAnd v (m * 8 + 4) ≡ bitAnd (v / 2) (m * 4 + 2) * 2 + min (v % 2) 0 = ap (bitAnd v) p ∙ low-bit v (m * 4 + 2) 0 (omega arith) in
-    let b : bitAnd (v / 2) (m * 4 + 2) ≡ bitAnd (v / 2 / 2) (m * 2 + 1) * 2 + min (v / 2 % 2) 0 = ap (bitAnd (v / 2)) q ∙ low-bit (v / 2) (m * 2 + 1) 0 (omega arith) in
+    let b : bitAnd (v / 2) (m * 4 + 2) ≡ bitAnd (v / 2 / 2) (m * 2 + 1) * 2 + min (v / 2 % 2) 0 = ap (bitAnd (v / 2)) q
+    ∙ low-bit (v / 2) (m * 2 + 1) 0 (omega arith) in
     let d : bitAnd (v / 2 / 2) (m * 2 + 1) ≡ bitAnd (v / 8) m * 2 + min (v / 2 / 2 % 2) 1 =
     low-bit (v / 2 / 2) m 1 (omega arith) ∙ ap (λ (x : ℕ). bitAnd x m * 2 + min (v / 2 / 2 % 2) 1) eighth in
     let same : v / 2 / 2 % 2 ≡ v / 4 % 2 = omega arith in

@@ -34,11 +34,13 @@ tested from width a b d = sym (a ∙ ap (allDigits 16) (b ∙ ap (λ (x : ℕ). 
 few : (c : tie.After-are-digits) {b : Bool} →
     let a = c .before .before .before .before .before .args in
     c .are-digits .result ≡ b
-    → walk (places (element 4 digitRefusal) absent 24 (a .count)) (bitsIn (a .n) (now (a .s))) (a .start + 5) ≡ pick b (At (a .start + 5 + 4 * a .count)) Off
+    → walk (places (element 4 digitRefusal) absent 24 (a .count)) (bitsIn (a .n) (now (a .s))) (a .start + 5)
+    ≡ pick b (At (a .start + 5 + 4 * a .count)) Off
 few c e =
     let start = c .before .before .before .before .before in
     row-passed (there start) 24 4 digitRefusal (omega arith) (start .pre .2) (omega arith) refl
-    (digits-few (start .pre .0) (omega arith) (omega arith) ∙ tested 5 (4 * start .args .count) (c .are-digits .ensures) (c .before .inner .ensures) (start .pre .3) ∙ e)
+    (digits-few (start .pre .0) (omega arith) (omega arith)
+    ∙ tested 5 (4 * start .args .count) (c .are-digits .ensures) (c .before .inner .ensures) (start .pre .3) ∙ e)
 
 returns-2 : tie.Need-returns-2
 returns-2 c = sym (few (c .before) (not-true _ (c .if3 .taken)))
@@ -51,7 +53,8 @@ many : (c : tie.Else2) {p q : Bool} →
     let a = c .before .before .before .args in
     allDigits 16 (windowAt (now (a .s)) (a .start) / 2 ^ (57 - 5 - 52) % 2 ^ 52) ≡ p
     → allDigits 16 (windowAt (now (a .s)) (a .start + 57) / 2 ^ (57 - 0 - (4 * a .count - 52)) % 2 ^ (4 * a .count - 52)) ≡ q
-    → walk (places (element 4 digitRefusal) absent 24 (a .count)) (bitsIn (a .n) (now (a .s))) (a .start + 5) ≡ pick (p && q) (At (a .start + 5 + 4 * a .count)) Off
+    → walk (places (element 4 digitRefusal) absent 24 (a .count)) (bitsIn (a .n) (now (a .s))) (a .start + 5)
+    ≡ pick (p && q) (At (a .start + 5 + 4 * a .count)) Off
 many c e f =
     let start = c .before .before .before in
     row-passed (there start) 24 4 digitRefusal (omega arith) (start .pre .2) (omega arith) refl
@@ -69,7 +72,8 @@ returns-4 c = sym (many (c .before .before .before) (first (c .before) ∙ not-t
 second : (c : tie.After-are-digits3) {b : Bool} →
     let a = c .before .before .before .before .before .before .before .before .before .args in
     c .are-digits3 .result ≡ b
-    → walk (places (element 4 digitRefusal) absent 24 (a .count)) (bitsIn (a .n) (now (a .s))) (a .start + 5) ≡ pick b (At (a .start + 5 + 4 * a .count)) Off
+    → walk (places (element 4 digitRefusal) absent 24 (a .count)) (bitsIn (a .n) (now (a .s))) (a .start + 5)
+    ≡ pick b (At (a .start + 5 + 4 * a .count)) Off
 second c e =
     let d = c .before .before .before in
     let a = d .before .before .before .before .before .before .args in

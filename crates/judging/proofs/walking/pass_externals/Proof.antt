@@ -20,7 +20,8 @@ returns-2 c = sym (externals-none (c .before .before .before .before .pre) (code
 
 returns-3 : tie.Need-returns-3
 returns-3 c =
-    c .pass-numbers .ensures ∙ sym (externals-single (c .before .before .before .before .before .pre) (code-is (c .before .before)) (omega arith) (omega arith))
+    c .pass-numbers .ensures
+    ∙ sym (externals-single (c .before .before .before .before .before .pre) (code-is (c .before .before)) (omega arith) (omega arith))
 
 pub pass-externals-spec : {M : Type 1} → statement M
 pass-externals-spec =

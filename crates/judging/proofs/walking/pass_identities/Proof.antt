@@ -16,7 +16,9 @@ code-is : (c : tie.After-window) → let a = c .before .before .before .args in 
 code-is c = ap (λ (w : ℕ). w / 2 ^ 53) (c .window .ensures)
 
 returns-2 : tie.Need-returns-2
-returns-2 c = c .pass-range .ensures ∙ sym (identities-range (c .before .before .before .before .before .pre) (code-is (c .before .before)) (omega arith) (c .before .match .keys1))
+returns-2 c =
+    c .pass-range .ensures
+    ∙ sym (identities-range (c .before .before .before .before .before .pre) (code-is (c .before .before)) (omega arith) (c .before .match .keys1))
 
 returns-3 : tie.Need-returns-3
 returns-3 c =
@@ -25,7 +27,8 @@ returns-3 c =
 
 returns-4 : tie.Need-returns-4
 returns-4 c =
-    sym (identities-none (c .before .before .before .before .before .pre) (code-is (c .before .before)) (omega arith) (omega (arith, c .before .match .rest)))
+    sym (identities-none (c .before .before .before .before .before .pre) (code-is (c .before .before)) (omega arith)
+    (omega (arith, c .before .match .rest)))
 
 pub pass-identities-spec : {M : Type 1} → statement M
 pass-identities-spec =

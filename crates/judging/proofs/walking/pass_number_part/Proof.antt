@@ -16,10 +16,12 @@ returns : tie.Need-returns
 returns c = sym (number-part _ _ ∙ rw (sym (c .before .before .pass-services .ensures) ∙ c .enum-told .given .1))
 
 first : (c : tie.After-known-told) →
-    let a = c .before .before .before .before .before .args in walk services (bitsIn (a .n) (now (a .s))) (a .start) ≡ At (c .before .groups .given .0 .0)
+    let a = c .before .before .before .before .before .args in walk services (bitsIn (a .n) (now (a .s))) (a .start) ≡ At
+    (c .before .groups .given .0 .0)
 first c = sym (c .before .before .before .pass-services .ensures) ∙ c .before .groups .given .1
 
-inside : (c : tie.After-known-told) → let a = c .before .before .before .before .before .args in Inside (now (a .s)) (a .n) (c .before .groups .given .0 .0)
+inside : (c : tie.After-known-told) →
+    let a = c .before .before .before .before .before .args in Inside (now (a .s)) (a .n) (c .before .groups .given .0 .0)
 inside c = inside-next services (c .before .before .before .before .before .pre) (first c)
 
 returns-2 : tie.Need-returns-2
@@ -33,7 +35,8 @@ second : (c : tie.After-known-told2) →
 second c = sym (c .before .before .before .pass-identities .ensures) ∙ c .before .numbers .given .1
 
 inside-2 : (c : tie.After-known-told2) →
-    let a = c .before .before .before .before .before .before .before .before .before .args in Inside (now (a .s)) (a .n) (c .before .numbers .given .0 .0)
+    let a = c .before .before .before .before .before .before .before .before .before .args in Inside (now (a .s)) (a .n)
+    (c .before .numbers .given .0 .0)
 inside-2 c = inside-next (identities of.Identities) (inside (c .before .before .before .before)) (second c)
 
 returns-3 : tie.Need-returns-3

@@ -32,7 +32,11 @@ loop-again c =
     let d = c .before .before .before in
     let l = d .before .before in
     let e = sym (d .pass-external .ensures) ∙ c .before .next .given .1 in
-    walking-on (l .loop .inv) (omega arith) e (inside-next external (record { place = l .loop .inv .place; bytes = l .before .before .pre .0 .bytes }) e .place)
+    walking-on (l .loop .inv) (omega arith) e (inside-next external (record {
+      place =
+          l .loop .inv .place;
+      bytes = l .before .before .pre .0 .bytes;
+    }) e .place)
 
 returns-2 : tie.Need-returns-2 Inv-loop μ-loop
 returns-2 c =

@@ -1,7 +1,7 @@
 -- The window has the count and the services. Assumes nothing.
 use mathlib.Core.Path.{_≡_, refl, sym, ap, _∙_}
 use mathlib.Core.Bool.{Bool}
-use Prim.Native.Nat.{ℕ, _+_, _-_, _*_, _/_, _%_, _^_, _≤_, _<_}
+use Prim.Native.Nat.{ℕ, _+_, _-_, _*_, _/_, _%_, _^_, _≤_}
 use native.Mathlib.Omega.{arith}
 use borrow.Author.Needs.{needs}
 use borrow.Author.Tests.{not-true, not-false}
@@ -24,10 +24,11 @@ use Rattle.judging.proofs.walking.pass_services.Statement.{statement}
 use Rattle.judging.proofs.walking.pass_services.Tie as tie
 
 returns : tie.Need-returns
-returns c = sym (services-counted _ _ ∙ counted-short (c .before .before .pre) 3 7 3 serviceRefusal (omega arith) (omega arith) (omega arith) (omega arith))
+returns c = sym (services-counted _ _ ∙ counted-short (c .before .before .pre) 3 7 3 serviceRefusal (omega arith) (omega arith) (omega arith))
 
 -- the count is what the window's first bits say
-count-is : (c : tie.After-window) → let a = c .before .before .before .args in c .window .result / 2 ^ 54 ≡ windowAt (now (a .s)) (a .start) / 2 ^ (57 - 3)
+count-is : (c : tie.After-window) →
+    let a = c .before .before .before .args in c .window .result / 2 ^ 54 ≡ windowAt (now (a .s)) (a .start) / 2 ^ (57 - 3)
 count-is c = ap (λ (w : ℕ). w / 2 ^ 54) (c .window .ensures)
 
 small : (c : tie.After-window) → c .window .result / 2 ^ 54 ≤ 7
@@ -36,7 +37,8 @@ small c = let a = c .before .before .before .args in omega (arith, c .window .en
 returns-2 : tie.Need-returns-2
 returns-2 c =
     sym (services-counted _ _
-    ∙ counted-none (c .before .before .before .before .pre) 3 7 3 serviceRefusal (omega arith) (omega arith) (omega arith) (count-is (c .before)) (omega arith) (omega arith))
+    ∙ counted-none (c .before .before .before .before .pre) 3 7 3 serviceRefusal (omega arith) (omega arith) (count-is (c .before)) (omega arith)
+    (omega arith))
 
 -- what follows the count
 after-count : (c : tie.Else2) →
@@ -45,7 +47,8 @@ after-count : (c : tie.Else2) →
     ≡ walk (places (element 3 serviceRefusal) absent 7 (c .before .window .result / 2 ^ 54)) (bitsIn (a .n) (now (a .s))) (a .start + 3)
 after-count c =
     services-counted _ _
-    ∙ counted-passed (c .before .before .before .before .pre) 3 7 3 serviceRefusal (omega arith) (omega arith) (omega arith) (count-is (c .before)) (omega arith) (omega arith) (small (c .before))
+    ∙ counted-passed (c .before .before .before .before .pre) 3 7 3 serviceRefusal (omega arith) (omega arith) (count-is (c .before)) (omega arith)
+    (omega arith) (small (c .before))
 
 there : (c : tie.Else2) → let a = c .before .before .before .before .args in Inside (now (a .s)) (a .n) (a .start + 3)
 there c = record { place = omega arith; bytes = c .before .before .before .before .pre .bytes }
@@ -59,7 +62,8 @@ inner-requires c κs = let h = small (c .before .before) in omega arith
 -- seven services at once are as many as there are
 row : (c : tie.After-are-services) {b : Bool} →
     let a = c .before .before .before .before .before .before .before .args in
-    c .are-services .result ≡ b → walk services (bitsIn (a .n) (now (a .s))) (a .start) ≡ pick b (At (a .start + 3 + 3 * (c .before .before .before .before .window .result / 2 ^ 54))) Off
+    c .are-services .result ≡ b → walk services (bitsIn (a .n) (now (a .s))) (a .start) ≡ pick b
+    (At (a .start + 3 + 3 * (c .before .before .before .before .window .result / 2 ^ 54))) Off
 unfolding serviceRefusal serviceOf
 row c e =
     let w = c .before .before .before .before in
@@ -73,7 +77,8 @@ row c e =
     ∙ sym (c .before .inner .ensures) in
     after-count (c .before .before .before)
     ∙ row-passed (there (c .before .before .before)) 7 3 serviceRefusal (omega arith) (small w) (omega arith) refl
-    (sym (at-once serviceRefusal 3 refl v 7 (drop (a .start + 3) l) (small w)) ∙ ap (passing serviceRefusal 3 7) list ∙ sym (c .are-services .ensures) ∙ e)
+    (sym (at-once serviceRefusal 3 refl v 7 (drop (a .start + 3) l) (small w)) ∙ ap (passing serviceRefusal 3 7) list ∙ sym (c .are-services .ensures)
+    ∙ e)
 
 returns-4 : tie.Need-returns-4
 returns-4 c = sym (row (c .before) (not-true _ (c .if4 .taken)))

@@ -5,7 +5,6 @@ use native.Mathlib.Omega.{arith}
 use borrow.Author.Needs.{needs}
 use denote.Ref.{now}
 use Rattle.bits.specs.Frame.{bitsIn}
-use Rattle.bits.specs.Element.{windowAt}
 use Rattle.codec.specs.Reading.{got, readAt}
 use Rattle.grammar.specs.Grammar.{identity}
 use Rattle.judging.specs.Walk.{Inside}
@@ -54,7 +53,8 @@ returns-5 c =
     let extension : ℕ → ℕ = λ w. w / 2 ^ 8 % 2 ^ 24 in
     let end : a .start + 98 ≡ a .start + 49 + 49 = omega arith in
     ap At end
-    ∙ sym (range-agrees _ _ (first (c .before .before .before)) (second (c .before .before)) (ends-agree _ _ refl (ap extension (sym g) ∙ c .before .if3 .left ∙ ap extension e) (in-order g e (c .if4 .left))))
+    ∙ sym (range-agrees _ _ (first (c .before .before .before)) (second (c .before .before)) (ends-agree _ _ refl (ap extension (sym g)
+    ∙ c .before .if3 .left ∙ ap extension e) (in-order g e (c .if4 .left))))
 
 pub pass-wide-range-spec : {M : Type 1} → statement M
 pass-wide-range-spec =
