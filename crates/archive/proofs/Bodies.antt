@@ -12,28 +12,48 @@ use Rattle.grammar.specs.declared.record.Identity.{Identity}
 use Rattle.grammar.specs.declared.record.Record.{Record}
 use Rattle.reader.specs.declared.Answer.{Answer}
 use Rattle.reader.specs.declared.Answer.the-variants.{Accepted, Refused}
-use Rattle.reader.specs.declared.Reading.{Reading}
 use Rattle.pdu.proofs.Accepted.{accepted-framed, accepted-small}
 use Rattle.archive.specs.Model.{Held, bodySize}
 use Rattle.grammar.specs.Grammar.{networkOf}
-use Rattle.archive.specs.Filing.{mayHold, entryFor, filingOf, isAccepted, agrees, bodyAgrees}
+use Rattle.judging.specs.Judge.{isAccepted, mayHold, userOf, judgedIs}
+use Rattle.judging.specs.declared.Judged.the-variants.{Part, Other}
+use Rattle.archive.specs.Filing.{entryFor, filingOf, agrees, bodyAgrees}
 use Rattle.archive.specs.Seeking.{EntryFits}
 use Rattle.archive.specs.declared.contents.Entry.{Entry}
-use Rattle.archive.specs.declared.filing.Filing.{Filing}
 use Rattle.archive.specs.declared.filing.Filing.the-variants.{Under, Nowhere}
 use Rattle.archive.proofs.Tests.{differ, and-true, named, is-named}
 
 -- ---- a body and its entry
 
--- what reading a body found decides
-module _ (home : ℕ) (h : Held) {r : Reading} (is : r ≡ readIs (h .body) (h .entry .bits .0)) where
-  pub body-refused : {k : ℕ} → r .answer ≡ Refused k → bodyAgrees home h ≡ false
-  unfolding bodyAgrees
-  body-refused e = rw (← is, e)
+-- what judging a body says decides
+module _ (home : ℕ) (h : Held) where
+  abbrev found : Record
+  found = readIs (h .body) (h .entry .bits .0) .found
 
-  pub body-filed : {f : Filing} → r .answer ≡ Accepted → f ≡ filingOf home (r .found) (h .entry .bits .0) → bodyAgrees home h ≡ agrees f (h .entry)
-  unfolding bodyAgrees
-  body-filed e g = rw (← is, e, g)
+  pub body-other : judgedIs (h .body) (h .entry .bits .0) ≡ Other → bodyAgrees home h ≡ false
+  unfolding bodyAgrees filingOf judgedIs
+  body-other = go (isAccepted (readIs (h .body) (h .entry .bits .0) .answer)) (mayHold found)
+    where
+      go : (a b : Bool) → pick (a && b) (Part (userOf found) (found .result)) Other ≡ Other
+          → a && agrees (pick b (Under (entryFor home found (h .entry .bits .0))) Nowhere) (h .entry) ≡ false
+      go true true e = absurd (let z : _≡_ {A = ℕ} 0 1 = cc in omega arith)
+      go true false e = refl
+      go false b e = refl
+
+  pub body-part : {user : Identity} {part network : ℕ} → judgedIs (h .body) (h .entry .bits .0) ≡ Part user part → network ≡ networkOf home user
+      → bodyAgrees home h ≡ eqb network (h .entry .network) && (eqb (user .ssi) (h .entry .ssi) && eqb part (h .entry .part))
+  unfolding bodyAgrees filingOf judgedIs
+  body-part {user} {part} {network} e f = go (isAccepted (readIs (h .body) (h .entry .bits .0) .answer)) (mayHold found) e
+    where
+      go : (a b : Bool) → pick (a && b) (Part (userOf found) (found .result)) Other ≡ Part user part
+          → a && agrees (pick b (Under (entryFor home found (h .entry .bits .0))) Nowhere) (h .entry)
+          ≡ eqb network (h .entry .network) && (eqb (user .ssi) (h .entry .ssi) && eqb part (h .entry .part))
+      go true true e =
+          let u : userOf found ≡ user = cc in
+          let p : found .result ≡ part = cc in
+          rw (u, p, f)
+      go true false e = absurd (let z : _≡_ {A = ℕ} 0 1 = cc in omega arith)
+      go false b e = absurd (let z : _≡_ {A = ℕ} 0 1 = cc in omega arith)
 
 -- the body is a legal PDU that may be held, and its entry is the one that it is filed under
 pub record Agrees (home : ℕ) (h : Held) : Type 0 where

@@ -10,7 +10,8 @@ use Rattle.reader.specs.Read.{readIs}
 use Rattle.grammar.specs.declared.record.Record.{Record}
 use Rattle.reader.specs.declared.Answer.the-variants as reader
 use Rattle.archive.specs.Model.{bytesOf, Archive, lengthOf, withinLimits}
-use Rattle.archive.specs.Filing.{mayHold, entryFor, filingOf}
+use Rattle.judging.specs.Judge.{mayHold}
+use Rattle.archive.specs.Filing.{entryFor, filingOf}
 use Rattle.archive.specs.Reading.{homeOf, reading, isArchive}
 use Rattle.archive.specs.Keeping.{leaves, heldFor, captured, placed, captureIs, captureOut}
 use Rattle.archive.specs.declared.Archived.{Archived}

@@ -14,7 +14,8 @@ use Rattle.bits.specs.declared.BitCount.{BitCount}
 use Rattle.reader.specs.Read.{readIs}
 use Rattle.reader.specs.declared.Answer.the-variants.{Accepted}
 use Rattle.archive.specs.Model.{Held, keyFor, keyOf}
-use Rattle.archive.specs.Filing.{mayHold, entryFor, names, bodyAgrees, keepsRules}
+use Rattle.judging.specs.Judge.{mayHold}
+use Rattle.archive.specs.Filing.{entryFor, names, bodyAgrees, keepsRules}
 use Rattle.archive.specs.Reading.{reading}
 use Rattle.archive.specs.Restoring.{inRange, fetchIs, lookup}
 use Rattle.archive.specs.declared.Fetched.the-variants.{Body}

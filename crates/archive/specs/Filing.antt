@@ -1,28 +1,18 @@
--- Which PDUs an archive may hold, under which entry, and which archives keep the rules.
+-- Under which entry a PDU is filed, and which archives keep the rules.
 use mathlib.Core.Bool.{Bool, true, false, _&&_}
 use mathlib.Core.List.{List, [], _∷_}
 use Prim.Native.Nat.{ℕ}
-use lib.ListN.{length, getD}
-use lib.Dec.{ltb, leb, eqb}
+use lib.ListN.{length}
+use lib.Dec.{ltb, eqb}
 use Rattle.bits.specs.Bits.{pick}
-use Rattle.grammar.specs.Grammar.{zeroIdentity, networkOf}
+use Rattle.grammar.specs.Grammar.{networkOf}
 use Rattle.reader.specs.Read.{readIs}
-use Rattle.grammar.specs.declared.record.Identity.{Identity}
 use Rattle.grammar.specs.declared.record.Record.{Record}
-use Rattle.reader.specs.declared.Answer.{Answer}
-use Rattle.reader.specs.declared.Answer.the-variants.{Accepted, Refused}
+use Rattle.judging.specs.Judge.{isAccepted, mayHold, userOf}
 use Rattle.archive.specs.Model.{Held, Archive, keyOf, lengthOf, withinLimits}
 use Rattle.archive.specs.declared.contents.Entry.{Entry}
 use Rattle.archive.specs.declared.filing.Filing.{Filing}
 use Rattle.archive.specs.declared.filing.Filing.the-variants.{Under, Nowhere}
-
--- an INTERROGATE ACK (PDU type 12), accepting (interrogation result 1 or 2), with affected range type 1
-abbrev pub mayHold : Record → Bool
-mayHold r = eqb (r .kind) 12 && (leb 1 (r .result) && (leb (r .result) 2 && eqb (r .affected .code) 1))
-
--- its affected user
-abbrev pub userOf : Record → Identity
-userOf r = getD (r .affected .entries) 0 zeroIdentity
 
 -- a user's network is the extension if present, otherwise the home network; results 1 and 2 are parts 1 and 2: identities, numbers
 abbrev pub entryFor : ℕ → Record → ℕ → Entry
@@ -32,10 +22,6 @@ unfoldable pub filingOf : ℕ → Record → ℕ → Filing
 filingOf home r n = pick (mayHold r) (Under (entryFor home r n)) Nowhere
 
 -- ---- an archive that keeps the rules
-
-abbrev pub isAccepted : Answer → Bool
-isAccepted Accepted = true
-isAccepted (Refused k) = false
 
 -- the entry is of that network, SSI and part
 abbrev pub names : Entry → ℕ → ℕ → ℕ → Bool

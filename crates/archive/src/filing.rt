@@ -3,7 +3,7 @@ use crate::contents::Entry;
 use bits::BitCount;
 use grammar::record::Record;
 use grammar::site::network_of;
-use pdu::Answer;
+use judging::Judged;
 ghost use mathlib.Core.Path.{_≡_};
 ghost use Rattle.archive.specs.Filing.{filingOf, bodyAgrees};
 
@@ -44,20 +44,14 @@ pub fn filing_of(home: u32, found: Record, n: BitCount) -> Filing
 pub(crate) fn body_agrees(home: u32, entry: Entry, body: &[u8]) -> bool
     ensures { λ r. ⌜ r ≡ bodyAgrees home (record { entry = entry; body = now (body .entry) }) ⌝ }
 {
-    let reading = pdu::read(body, entry.bits);
-    let answer = reading.answer;
-    let Answer::Accepted = answer else {
+    let Judged::Part(user, part) = judging::judge(body, entry.bits) else {
         return false;
     };
-    let filing = filing_of(home, reading.found, entry.bits);
-    let Filing::Under(found) = filing else {
-        return false;
-    };
-    if found.network != entry.network {
+    if network_of(home, user) != entry.network {
         return false;
     }
-    if found.ssi != entry.ssi {
+    if user.ssi != entry.ssi {
         return false;
     }
-    found.part == entry.part
+    part == entry.part
 }

@@ -11,7 +11,8 @@ use Rattle.reader.specs.Read.{refusalOf, readIs}
 use Rattle.reader.specs.declared.Answer.the-variants.{Accepted}
 use Rattle.reader.specs.declared.Reading.{Reading}
 use Rattle.archive.specs.Model.{Archive, bytesOf}
-use Rattle.archive.specs.Filing.{mayHold, entryFor, filingOf}
+use Rattle.judging.specs.Judge.{mayHold}
+use Rattle.archive.specs.Filing.{entryFor, filingOf}
 use Rattle.archive.specs.Reading.{reading, isArchive}
 use Rattle.archive.specs.Keeping.{leaves, with, heldFor, captured, placed, captureIs}
 use Rattle.archive.specs.declared.Archived.the-variants.{Refused}
