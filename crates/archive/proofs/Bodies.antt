@@ -1,6 +1,7 @@
 -- What the rules say of a body and its entry, and that the numbers of such an entry fit their bytes. Assumes nothing.
 use mathlib.Core.Path.{_≡_, refl, sym, ap, subst}
 use mathlib.Core.Bool.{Bool, true, false, _&&_}
+use mathlib.Core.List.{List}
 use Prim.Native.Nat.{ℕ, _≤_, _<_}
 use native.Mathlib.Omega.{arith}
 use lib.ListN.{length}
@@ -17,37 +18,37 @@ use Rattle.archive.specs.Model.{Held, bodySize}
 use Rattle.grammar.specs.Grammar.{networkOf}
 use Rattle.judging.specs.Judge.{isAccepted, mayHold, userOf, judgedIs}
 use Rattle.judging.specs.declared.Judged.the-variants.{Part, Other}
-use Rattle.archive.specs.Filing.{entryFor, filingOf, agrees, bodyAgrees}
+use Rattle.archive.specs.Filing.{entryFor, filingOf, filingFor, agrees, bodyAgrees}
 use Rattle.archive.specs.Seeking.{EntryFits}
 use Rattle.archive.specs.declared.contents.Entry.{Entry}
+use Rattle.archive.specs.declared.filing.Filing.{Filing}
 use Rattle.archive.specs.declared.filing.Filing.the-variants.{Under, Nowhere}
 use Rattle.archive.proofs.Tests.{differ, and-true, named, is-named}
 
 -- ---- a body and its entry
 
--- what judging a body says decides
-module _ (home : ℕ) (h : Held) where
+-- what judging a PDU says decides its filing
+module _ (home : ℕ) (s : List ℕ) (n : ℕ) where
   abbrev found : Record
-  found = readIs (h .body) (h .entry .bits .0) .found
+  found = readIs s n .found
 
-  pub body-other : judgedIs (h .body) (h .entry .bits .0) ≡ Other → bodyAgrees home h ≡ false
-  unfolding bodyAgrees filingOf judgedIs
-  body-other = go (isAccepted (readIs (h .body) (h .entry .bits .0) .answer)) (mayHold found)
+  pub filing-other : judgedIs s n ≡ Other → filingFor home s n ≡ Nowhere
+  unfolding filingFor filingOf judgedIs
+  filing-other = go (isAccepted (readIs s n .answer)) (mayHold found)
     where
       go : (a b : Bool) → pick (a && b) (Part (userOf found) (found .result)) Other ≡ Other
-          → a && agrees (pick b (Under (entryFor home found (h .entry .bits .0))) Nowhere) (h .entry) ≡ false
+          → pick a (pick b (Under (entryFor home found n)) Nowhere) Nowhere ≡ Nowhere
       go true true e = absurd (let z : _≡_ {A = ℕ} 0 1 = cc in omega arith)
       go true false e = refl
       go false b e = refl
 
-  pub body-part : {user : Identity} {part network : ℕ} → judgedIs (h .body) (h .entry .bits .0) ≡ Part user part → network ≡ networkOf home user
-      → bodyAgrees home h ≡ eqb network (h .entry .network) && (eqb (user .ssi) (h .entry .ssi) && eqb part (h .entry .part))
-  unfolding bodyAgrees filingOf judgedIs
-  body-part {user} {part} {network} e f = go (isAccepted (readIs (h .body) (h .entry .bits .0) .answer)) (mayHold found) e
+  pub filing-part : {user : Identity} {part network : ℕ} → judgedIs s n ≡ Part user part → network ≡ networkOf home user
+      → filingFor home s n ≡ Under (record { network = network; ssi = user .ssi; part = part; bits = record { 0 = n } })
+  unfolding filingFor filingOf judgedIs
+  filing-part {user} {part} {network} e f = go (isAccepted (readIs s n .answer)) (mayHold found) e
     where
       go : (a b : Bool) → pick (a && b) (Part (userOf found) (found .result)) Other ≡ Part user part
-          → a && agrees (pick b (Under (entryFor home found (h .entry .bits .0))) Nowhere) (h .entry)
-          ≡ eqb network (h .entry .network) && (eqb (user .ssi) (h .entry .ssi) && eqb part (h .entry .part))
+          → pick a (pick b (Under (entryFor home found n)) Nowhere) Nowhere ≡ Under (record { network = network; ssi = user .ssi; part = part; bits = record { 0 = n } })
       go true true e =
           let u : userOf found ≡ user = cc in
           let p : found .result ≡ part = cc in
@@ -55,13 +56,22 @@ module _ (home : ℕ) (h : Held) where
       go true false e = absurd (let z : _≡_ {A = ℕ} 0 1 = cc in omega arith)
       go false b e = absurd (let z : _≡_ {A = ℕ} 0 1 = cc in omega arith)
 
+-- a body agrees with its entry if that is the one it is filed under
+pub body-filed : (home : ℕ) (h : Held) → bodyAgrees home h ≡ agrees (filingFor home (h .body) (h .entry .bits .0)) (h .entry)
+unfolding bodyAgrees filingFor
+body-filed home h = go (isAccepted (readIs (h .body) (h .entry .bits .0) .answer)) (filingOf home (readIs (h .body) (h .entry .bits .0) .found) (h .entry .bits .0))
+  where
+    go : (a : Bool) (f : Filing) → a && agrees f (h .entry) ≡ agrees (pick a f Nowhere) (h .entry)
+    go true f = refl
+    go false f = refl
+
 -- the body is a legal PDU that may be held, and its entry is the one that it is filed under
 pub record Agrees (home : ℕ) (h : Held) : Type 0 where
   pub accepted : readIs (h .body) (h .entry .bits .0) .answer ≡ Accepted
   pub may : mayHold (readIs (h .body) (h .entry .bits .0) .found) ≡ true
   pub entry : h .entry ≡ entryFor home (readIs (h .body) (h .entry .bits .0) .found) (h .entry .bits .0)
 
-was-accepted : (a : Answer) → isAccepted a ≡ true → a ≡ Accepted
+pub was-accepted : (a : Answer) → isAccepted a ≡ true → a ≡ Accepted
 was-accepted Accepted e = refl
 was-accepted (Refused k) e = differ (sym e)
 

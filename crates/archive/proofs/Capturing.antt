@@ -8,17 +8,18 @@ use lib.ListN.{length}
 use Rattle.bits.specs.Bits.{pick}
 use Rattle.reader.specs.Read.{readIs}
 use Rattle.grammar.specs.declared.record.Record.{Record}
+use Rattle.reader.specs.declared.Answer.{Answer}
 use Rattle.reader.specs.declared.Answer.the-variants as reader
 use Rattle.archive.specs.Model.{bytesOf, Archive, lengthOf, withinLimits}
-use Rattle.judging.specs.Judge.{mayHold}
-use Rattle.archive.specs.Filing.{entryFor, filingOf}
+use Rattle.judging.specs.Judge.{isAccepted, mayHold}
+use Rattle.archive.specs.Filing.{entryFor, filingOf, filingFor}
 use Rattle.archive.specs.Reading.{homeOf, reading, isArchive}
-use Rattle.archive.specs.Keeping.{leaves, heldFor, captured, placed, captureIs, captureOut}
+use Rattle.archive.specs.Keeping.{leaves, heldFor, captured, ifAccepted, unfitNumber, placed, captureIs, captureOut}
 use Rattle.archive.specs.declared.Archived.{Archived}
 use Rattle.archive.specs.declared.Archived.the-variants.{Bytes, Refused}
 use Rattle.archive.specs.declared.contents.Entry.{Entry}
 use Rattle.archive.specs.declared.filing.Filing.the-variants.{Under, Nowhere}
-use Rattle.archive.proofs.Bodies.{Agrees}
+use Rattle.archive.proofs.Bodies.{Agrees, was-accepted}
 use Rattle.archive.proofs.Tests.{and-false, and-both}
 use Rattle.archive.proofs.Walks.{home-is, sound}
 use lib.Dec.{leb}
@@ -35,21 +36,17 @@ home-fits b ok = sound b ok .home
 
 -- ---- filing
 
-pub filed-nowhere : (home : ℕ) (r : Record) (n : ℕ) → filingOf home r n ≡ Nowhere → mayHold r ≡ false
-unfolding filingOf
-filed-nowhere home r n = go (mayHold r) refl
+pub filed-under : (home : ℕ) (s : List ℕ) (n : ℕ) {e : Entry} → filingFor home s n ≡ Under e
+    → (readIs s n .answer ≡ reader.Accepted) × (mayHold (readIs s n .found) ≡ true) × (entryFor home (readIs s n .found) n ≡ e)
+unfolding filingFor filingOf
+filed-under home s n {e} f = go (isAccepted (readIs s n .answer)) refl (mayHold (readIs s n .found)) refl f
   where
-    go : (p : Bool) → mayHold r ≡ p → pick p (Under (entryFor home r n)) Nowhere ≡ Nowhere → mayHold r ≡ false
-    go true e f = absurd (let z : _≡_ {A = ℕ} 0 1 = cc in omega arith)
-    go false e f = e
-
-pub filed-under : (home : ℕ) (r : Record) (n : ℕ) {e : Entry} → filingOf home r n ≡ Under e → (mayHold r ≡ true) × (entryFor home r n ≡ e)
-unfolding filingOf
-filed-under home r n = go (mayHold r) refl
-  where
-    go : (p : Bool) → mayHold r ≡ p → {e : Entry} → pick p (Under (entryFor home r n)) Nowhere ≡ Under e → (mayHold r ≡ true) × (entryFor home r n ≡ e)
-    go true e f = (e, cc)
-    go false e f = absurd (let z : _≡_ {A = ℕ} 0 1 = cc in omega arith)
+    go : (a : Bool) → isAccepted (readIs s n .answer) ≡ a → (m : Bool) → mayHold (readIs s n .found) ≡ m
+        → pick a (pick m (Under (entryFor home (readIs s n .found) n)) Nowhere) Nowhere ≡ Under e
+        → (readIs s n .answer ≡ reader.Accepted) × (mayHold (readIs s n .found) ≡ true) × (entryFor home (readIs s n .found) n ≡ e)
+    go true x true y f = (was-accepted (readIs s n .answer) x, y, cc)
+    go true x false y f = absurd (let z : _≡_ {A = ℕ} 0 1 = cc in omega arith)
+    go false x m y f = absurd (let z : _≡_ {A = ℕ} 0 1 = cc in omega arith)
 
 -- a PDU that is filed agrees with its entry
 pub offered-agrees : (home : ℕ) (s : List ℕ) (n : ℕ) → readIs s n .answer ≡ reader.Accepted → mayHold (readIs s n .found) ≡ true → Agrees home (heldFor home s n)
@@ -62,13 +59,15 @@ module _ (b s : List ℕ) (n room : ℕ) where
   unfolding captureIs
   no-archive e = rw e
 
-  pub pdu-refused : {k : ℕ} → isArchive b ≡ true → readIs s n .answer ≡ reader.Refused k → captureIs b s n room ≡ Refused k
-  unfolding captureIs
-  pdu-refused e f = rw (e, f)
-
-  pub may-not : isArchive b ≡ true → readIs s n .answer ≡ reader.Accepted → mayHold (readIs s n .found) ≡ false → captureIs b s n room ≡ Refused 6
-  unfolding captureIs
-  may-not e f g = rw (e, f, g)
+  pub not-filed : (home : ℕ) → isArchive b ≡ true → filingFor home s n ≡ Nowhere → captureIs b s n room ≡ Refused (unfitNumber (readIs s n .answer))
+  unfolding captureIs filingFor filingOf
+  not-filed home e = rw e (go (readIs s n .answer) (mayHold (readIs s n .found)))
+    where
+      go : (a : Answer) (m : Bool) → pick (isAccepted a) (pick m (Under (entryFor home (readIs s n .found) n)) Nowhere) Nowhere ≡ Nowhere
+          → ifAccepted a (pick m (placed (captured b s n) room) (Refused 6)) ≡ Refused (unfitNumber a)
+      go reader.Accepted true f = absurd (let z : _≡_ {A = ℕ} 0 1 = cc in omega arith)
+      go reader.Accepted false f = refl
+      go (reader.Refused k) m f = refl
 
   pub as-placed : isArchive b ≡ true → readIs s n .answer ≡ reader.Accepted → mayHold (readIs s n .found) ≡ true → captureIs b s n room ≡ placed (captured b s n) room
   unfolding captureIs

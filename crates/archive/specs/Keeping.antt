@@ -72,6 +72,11 @@ abbrev pub ifAccepted : Answer → Archived → Archived
 ifAccepted reader.Accepted r = r
 ifAccepted (reader.Refused k) r = Refused k
 
+-- the number with which a PDU is not filed: its own refusal, or 6
+abbrev pub unfitNumber : Answer → ℕ
+unfitNumber reader.Accepted = 6
+unfitNumber (reader.Refused k) = k
+
 -- 8 for one entry too many, or a result over the limit or the lent buffer
 unfoldable pub placed : Archive → ℕ → Archived
 placed a room = pick (withinLimits (length (a .held)) (lengthOf a) && leb (lengthOf a) room) (Bytes (lengthOf a)) (Refused 8)

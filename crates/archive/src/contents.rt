@@ -21,7 +21,7 @@ pub struct Entry {
 }
 
 // The limits of an archive: entries and bytes.
-pub fn within_limits(count: usize, size: usize) -> bool
+pub(crate) fn within_limits(count: usize, size: usize) -> bool
     ensures { λ r. ⌜ r ≡ withinLimits count size ⌝ }
 {
     if 512 < count {

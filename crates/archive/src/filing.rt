@@ -1,41 +1,28 @@
 // Which PDUs an archive may hold, under which entry, and whether a body agrees with its entry.
 use crate::contents::Entry;
 use bits::BitCount;
-use grammar::record::Record;
 use grammar::site::network_of;
 use judging::Judged;
 ghost use mathlib.Core.Path.{_≡_};
-ghost use Rattle.archive.specs.Filing.{filingOf, bodyAgrees};
+ghost use Rattle.archive.specs.Filing.{filingFor, bodyAgrees};
 
-// The entry under which a PDU is filed; nowhere if no archive entry may hold it.
+// The entry under which a PDU is filed; nowhere if it is not legal, or no archive entry may hold it.
 pub enum Filing {
     Under(Entry),
     Nowhere,
 }
 
-// Only an accepting INTERROGATE ACK for one user is filed.
-pub fn filing_of(home: u32, found: Record, n: BitCount) -> Filing
-    ensures { λ r. ⌜ r ≡ filingOf home found (n .0) ⌝ }
+// The entry of a PDU of n bits: only an accepting INTERROGATE ACK for one user has one.
+pub(crate) fn filing_of(home: u32, body: &[u8], n: BitCount) -> Filing
+    ensures { λ r. ⌜ r ≡ filingFor home (now (body .entry)) (n .0) ⌝ }
 {
-    if found.kind != 12 {
+    let Judged::Part(user, part) = judging::judge(body, n) else {
         return Filing::Nowhere;
-    }
-    if found.result < 1 {
-        return Filing::Nowhere;
-    }
-    if 2 < found.result {
-        return Filing::Nowhere;
-    }
-    let affected = found.affected;
-    if affected.code != 1 {
-        return Filing::Nowhere;
-    }
-    let users = affected.entries;
-    let user = users[0];
+    };
     Filing::Under(Entry {
         network: network_of(home, user),
         ssi: user.ssi,
-        part: found.result,
+        part,
         bits: n,
     })
 }
@@ -44,14 +31,14 @@ pub fn filing_of(home: u32, found: Record, n: BitCount) -> Filing
 pub(crate) fn body_agrees(home: u32, entry: Entry, body: &[u8]) -> bool
     ensures { λ r. ⌜ r ≡ bodyAgrees home (record { entry = entry; body = now (body .entry) }) ⌝ }
 {
-    let Judged::Part(user, part) = judging::judge(body, entry.bits) else {
+    let Filing::Under(found) = filing_of(home, body, entry.bits) else {
         return false;
     };
-    if network_of(home, user) != entry.network {
+    if found.network != entry.network {
         return false;
     }
-    if user.ssi != entry.ssi {
+    if found.ssi != entry.ssi {
         return false;
     }
-    part == entry.part
+    found.part == entry.part
 }

@@ -2,7 +2,7 @@
 pub mod checking;
 pub mod contents;
 mod copying;
-pub mod filing;
+mod filing;
 pub mod listing;
 
 use bits::BitCount;
@@ -18,11 +18,11 @@ ghost use lib.ListN.{length, take, drop};
 ghost use lib.Dec.{leb};
 ghost use Rattle.bits.specs.Bits.{pick};
 ghost use Rattle.bits.specs.Frame.{bytesFor};
-ghost use Rattle.reader.specs.Read.{refusalOf};
+ghost use Rattle.reader.specs.Read.{readIs};
 ghost use Rattle.archive.specs.Model.{bytesOf};
 ghost use Rattle.archive.specs.Reading.{isArchive};
 ghost use Rattle.archive.specs.Seeking.{EntryFits};
-ghost use Rattle.archive.specs.Keeping.{leaves, emptyIs, emptyOut, filedIn, placed, captureIs, captureOut};
+ghost use Rattle.archive.specs.Keeping.{leaves, emptyIs, emptyOut, filedIn, unfitNumber, placed, captureIs, captureOut};
 ghost use Rattle.archive.specs.Restoring.{inRange, fetchIs, restores, restoreIs, restoreOut};
 
 // The length in bytes of an archive that was written, or a refusal number.
@@ -67,26 +67,23 @@ pub fn capture(archive: &[u8], body: &[u8], n: BitCount, out: &mut [u8]) -> Arch
     if !checking::check(archive) {
         return Archived::Refused(7);
     }
-    let reading = pdu::read(body, n);
-    let answer = reading.answer;
-    let Answer::Accepted = answer else {
-        return Archived::Refused(refusal_of(answer));
-    };
-    let filing = filing::filing_of(contents::home(archive), reading.found, n);
+    let filing = filing::filing_of(contents::home(archive), body, n);
     let Filing::Under(entry) = filing else {
-        return Archived::Refused(6);
+        return Archived::Refused(unfit(body, n));
     };
     file(archive, entry, body, out)
 }
 
-// The number with which a PDU is refused, 0 for an accepted one.
-fn refusal_of(answer: Answer) -> u32
-    ensures { λ r. ⌜ r ≡ refusalOf answer ⌝ }
+// Why a PDU is not filed: its own refusal is passed on, and a legal one that no entry may hold gives 6.
+fn unfit(body: &[u8], n: BitCount) -> u32
+    ensures { λ r. ⌜ r ≡ unfitNumber (readIs (now (body .entry)) (n .0) .answer) ⌝ }
 {
-    match answer {
-        Answer::Accepted => 0,
-        Answer::Refused(number) => number,
-    }
+    let reading = pdu::read(body, n);
+    let answer = reading.answer;
+    let Answer::Refused(number) = answer else {
+        return 6;
+    };
+    number
 }
 
 // Files a body under its entry, in place of what is held for its user and part.

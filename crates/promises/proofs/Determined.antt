@@ -4,6 +4,7 @@ pub mod Codec
 pub mod Grammar
 pub mod Reader
 pub mod Writer
+pub mod Judging
 pub mod Archive
 pub mod Barring
 pub mod Boc

@@ -8,7 +8,8 @@ use Rattle.bits.proofs.Bytes.{Bytes}
 use Rattle.reader.specs.Read.{readIs}
 use Rattle.reader.specs.declared.Answer.the-variants.{Accepted}
 use Rattle.archive.specs.Model.{Archive, bytesOf}
-use Rattle.archive.specs.Filing.{mayHold, entryFor, bodyAgrees, wellFormed}
+use Rattle.judging.specs.Judge.{mayHold}
+use Rattle.archive.specs.Filing.{entryFor, bodyAgrees, wellFormed}
 use Rattle.archive.specs.Reading.{reading, isArchive}
 use Rattle.archive.specs.declared.contents.Entry.{Entry}
 use Rattle.archive.proofs.Tests.{differ, false-unless}

@@ -12,7 +12,7 @@ use Rattle.reader.specs.Read.{refusalOf, readIs}
 use Rattle.reader.specs.declared.Answer.{Answer}
 use Rattle.reader.specs.declared.Answer.the-variants as reader
 use Rattle.archive.specs.Model.{Held, keyOf, lengthOf}
-use Rattle.archive.specs.Filing.{mayHold}
+use Rattle.judging.specs.Judge.{mayHold}
 use Rattle.archive.specs.Reading.{reading, isArchive}
 use Rattle.archive.specs.Keeping.{archivedNumber, heldFor, captured, captureIs}
 use Rattle.archive.specs.Restoring.{lookup}

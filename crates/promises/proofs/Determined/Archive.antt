@@ -23,9 +23,3 @@ check-determined = by-equations (λ κs a x v p. (p, refl))
 
 pub home-determined : Determined archive.contents.home.Kinds.ps archive.contents.home.Kinds.r archive.contents.home.Reads.Learnt
 home-determined = by-equations (λ κs a x v p. (p, refl))
-
-pub within-limits-determined : Determined archive.contents.within_limits.Kinds.ps archive.contents.within_limits.Kinds.r archive.contents.within_limits.Reads.Learnt
-within-limits-determined = by-equations (λ κs a x v p. (p, refl))
-
-pub filing-of-determined : Determined archive.filing.filing_of.Kinds.ps archive.filing.filing_of.Kinds.r archive.filing.filing_of.Reads.Learnt
-filing-of-determined = by-equations (λ κs a x v p. (p, refl))
