@@ -2,5 +2,6 @@ pub mod Whole
 pub mod Reading
 pub mod Filling
 pub mod Entries
+pub mod Windows
 pub mod Kept
 pub mod Stopping

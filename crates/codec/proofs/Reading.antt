@@ -238,6 +238,11 @@ element-small w refuse s at v at′ e =
     let h = first-none (numberFault w v) (refuse v) (readAt-legal (element w refuse) s at v at′ e .0 .faultless) in
     (narrow w v (ltb v (2 ^ w)) refl (h .0), h .1)
 
+-- a number that is not refused is an element
+pub element-got : (w : ℕ) (refuse : ℕ → ℕ) (s : List Bool) (at v at′ : ℕ) → readAt (number w) s at ≡ got v at′ → refuse v ≡ 0 → readAt (element w refuse) s at ≡ got v at′
+unfolding element
+element-got w refuse s at v at′ e h = readAt-tested (number w) refuse (λ v. 0) s at ∙ rw (e, h)
+
 -- a bound of every value that is not refused bounds what is read; beside a refusal stands 0
 pub element-bound : (w : ℕ) (refuse : ℕ → ℕ) (s : List Bool) (p : Reached) {r : NumberRead} (bound : ℕ)
     → r ≡ numberIs (from p (readAt (element w refuse) s)) → ((v : ℕ) → v < 2 ^ w → refuse v ≡ 0 → v ≤ bound) → r .value ≤ bound

@@ -3,7 +3,7 @@ use bits::BitCount;
 use bits::Cursor;
 use bits::Taken;
 ghost use mathlib.Core.Path.{_≡_};
-ghost use Rattle.codec.specs.Reading.{got, from, elementOf, numberIs, testedIs};
+ghost use Rattle.codec.specs.Reading.{from, elementOf, numberIs, testedIs};
 
 // Where reading stands: at a place; or refused, with the number and the bit place of the element at fault.
 pub enum Reached {
@@ -36,16 +36,6 @@ pub fn number(s: &[u8], n: BitCount, start: Reached, width: usize) -> NumberRead
     NumberRead {
         reached: Reached::At(next),
         value: v,
-    }
-}
-
-// Nothing is read: where reading stands, and 0.
-pub fn nothing(start: Reached) -> NumberRead
-    ensures { λ r. ⌜ r ≡ numberIs (from start (λ at. got 0 at)) ⌝ }
-{
-    NumberRead {
-        reached: start,
-        value: 0,
     }
 }
 

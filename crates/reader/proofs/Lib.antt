@@ -1,3 +1,5 @@
 pub mod Steps
 pub mod Readers
 pub mod Answers
+pub mod Windows
+pub mod Digits

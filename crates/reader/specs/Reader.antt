@@ -1,8 +1,12 @@
 -- What the readers of the parts answer: where reading then stands, beside the value, which is zero beside a refusal.
+use mathlib.Core.Path.{_≡_}
 use mathlib.Core.Bool.{Bool}
 use mathlib.Core.List.{List}
-use Prim.Native.Nat.{ℕ, _+_, _≤_}
-use lib.ListN.{replicate}
+use Prim.Native.Nat.{ℕ, _+_, _-_, _*_, _/_, _%_, _^_, _≤_, _<_}
+use lib.Dec.{ltb}
+use lib.ListN.{length, getD, replicate}
+use Rattle.bits.specs.Bits.{pick}
+use Rattle.bits.specs.Element.{windowAt}
 use Rattle.codec.specs.Codec.{Codec}
 use Rattle.codec.specs.Reading.{Answer, got, andNext, barring, readAt, from, reachedOf, valueOr}
 use Rattle.codec.specs.declared.Reached.{Reached}
@@ -50,6 +54,19 @@ identitiesIs o = record { reached = reachedOf o; value = valueOr zeroIdentities 
 
 unfoldable pub digitsIs : Answer (List ℕ) → DigitsRead
 digitsIs o = record { reached = reachedOf o; value = valueOr (replicate 24 0) o }
+
+-- twelve digits as one number: so many from a place on, and zeros after them
+unfoldable pub twelveAt : List ℕ → ℕ → ℕ → ℕ
+twelveAt s at count = windowAt s at / 2 ^ (9 + (48 - 4 * count)) * 2 ^ (48 - 4 * count)
+
+-- the digit in a place, of the 24 of two such numbers
+unfoldable pub digitIn : ℕ → ℕ → ℕ → ℕ
+digitIn high low i = pick (ltb i 12) (high / 2 ^ (44 - 4 * i) % 16) (low / 2 ^ (92 - 4 * i) % 16)
+
+-- an array of 24 places has the first n of these digits in its first n places
+pub record Spread (high low n : ℕ) (l : List ℕ) : Type 0 where
+  pub room : length l ≡ 24
+  pub digits : (i : ℕ) → i < n → getD l i 0 ≡ digitIn high low i
 
 unfoldable pub numberIs : Answer Number → ExternalRead
 numberIs o = record { reached = reachedOf o; value = valueOr zeroNumber o }

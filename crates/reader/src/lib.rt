@@ -15,7 +15,8 @@ use grammar::record::Services;
 use grammar::site;
 use grammar::site::Listing;
 ghost use mathlib.Core.Path.{_≡_};
-ghost use Prim.Native.Nat.{_+_, _≤_, _<_};
+ghost use Prim.Native.Nat.{_+_, _≤_, _<_, min};
+ghost use lib.Dec.{leb};
 ghost use lib.ListN.{length, replicate};
 ghost use Rattle.bits.specs.Frame.{bitsIn};
 ghost use Rattle.codec.specs.Parts.{absent, element};
@@ -26,7 +27,7 @@ ghost use Rattle.grammar.specs.SiteSheet.{digitRefusal, serviceRefusal, between
 ghost use Rattle.grammar.specs.Grammar.{extension, identity, noIdentity, zeroIdentity, identities, external, noExternal, externals, services, identityPart, numberPart, partOf, interrogate, interrogateAck, pdu};
 ghost use Rattle.grammar.specs.Zero.{zeroIdentities, zeroNumbers, zeroServices, zeroLists, zeroRecord};
 ghost use Rattle.reader.specs.Read.{refusing, readIs};
-ghost use Rattle.reader.specs.Reader.{recordAt, identityIs, entriesIs, EndsFit, endsIs, identitiesIs, digitsIs, numberIs, numberEntriesIs, numbersIs, serviceListIs, servicesIs, listsIs, recordIs};
+ghost use Rattle.reader.specs.Reader.{recordAt, identityIs, entriesIs, EndsFit, endsIs, identitiesIs, digitsIs, twelveAt, digitIn, Spread, numberIs, numberEntriesIs, numbersIs, serviceListIs, servicesIs, listsIs, recordIs};
 
 pub struct IdentityRead {
     pub reached: Reached,
@@ -42,16 +43,77 @@ fn bounded(s: &[u8], n: BitCount, start: Reached, width: usize, low: u32, high: 
     codec::tested(start, read, site::between_refusal(low, high, read.value))
 }
 
+// Nothing is read: where reading stands, and 0.
+fn nothing(start: Reached) -> NumberRead
+    ensures { λ r. ⌜ r ≡ reading.numberIs (from start (λ at. got 0 at)) ⌝ }
+{
+    NumberRead {
+        reached: start,
+        value: 0,
+    }
+}
+
 fn extension_of(s: &[u8], n: BitCount, start: Reached, present: u32) -> NumberRead
     ensures { λ r. ⌜ r ≡ reading.numberIs (from start (readAt (extension present) (bitsIn (n .0) (now (s .entry))))) ⌝ }
 {
     if present == 1 {
         return codec::number(s, n, start, 24);
     }
-    codec::nothing(start)
+    nothing(start)
 }
 
+// Whether `width` bits of the PDU stand from a place on.
+fn are_there(s: &[u8], n: BitCount, at: usize, width: usize) -> bool
+    ensures { λ r. ⌜ r ≡ leb (at + width) (length (bitsIn (n .0) (now (s .entry)))) ⌝ }
+{
+    let end = n.0;
+    if end < at {
+        return false;
+    }
+    if end - at < width {
+        return false;
+    }
+    if s.len() < BitCount(at + width).bytes() {
+        return false;
+    }
+    true
+}
+
+// An identity: where 49 bits are there, one window holds it.
 fn identity_of(s: &[u8], n: BitCount, start: Reached) -> IdentityRead
+    ensures { λ r. ⌜ r ≡ identityIs (from start (readAt identity (bitsIn (n .0) (now (s .entry))))) ⌝ }
+{
+    let Reached::At(c) = start else {
+        return identity_by_parts(s, n, start);
+    };
+    let at = c.at;
+    if !are_there(s, n, at, 49) {
+        return identity_by_parts(s, n, start);
+    }
+    let window = bits::window(s, at);
+    let ssi = (window >> 33) as u32;
+    if (window >> 32) % 2 == 1 {
+        return IdentityRead {
+            reached: Reached::At(Cursor { at: at + 49 }),
+            value: Identity {
+                ssi,
+                present: 1,
+                extension: ((window >> 8) % 16777216) as u32,
+            },
+        };
+    }
+    IdentityRead {
+        reached: Reached::At(Cursor { at: at + 25 }),
+        value: Identity {
+            ssi,
+            present: 0,
+            extension: 0,
+        },
+    }
+}
+
+// The same part by part: near the end of a PDU.
+fn identity_by_parts(s: &[u8], n: BitCount, start: Reached) -> IdentityRead
     ensures { λ r. ⌜ r ≡ identityIs (from start (readAt identity (bitsIn (n .0) (now (s .entry))))) ⌝ }
 {
     let ssi = codec::number(s, n, start, 24);
@@ -185,7 +247,7 @@ pub struct IdentitiesRead {
 }
 
 // A range type and its identities.
-pub fn identities_of(s: &[u8], n: BitCount, start: Reached, listing: Listing) -> IdentitiesRead
+fn identities_of(s: &[u8], n: BitCount, start: Reached, listing: Listing) -> IdentitiesRead
     ensures { λ r. ⌜ r ≡ identitiesIs (from start (readAt (identities listing) (bitsIn (n .0) (now (s .entry))))) ⌝ }
 {
     let number = codec::number(s, n, start, 4);
@@ -233,19 +295,42 @@ pub struct DigitsRead {
     pub value: [u8; 24],
 }
 
-// As many digits as a length says, in the first of 24 places. Each is an element of its own.
+// As many digits as a length says, in the first of 24 places. If they are all there and none is refused, two windows hold them.
 fn digits_of(s: &[u8], n: BitCount, start: Reached, count: u32) -> DigitsRead
     requires { ⌜ count ≤ 24 ⌝ }
     ensures { λ r. ⌜ r ≡ digitsIs (from start (readAt (places (element 4 digitRefusal) absent 24 count) (bitsIn (n .0) (now (s .entry))))) ⌝ }
 {
-    let mut held = [0u8; 24];
     let Reached::At(c) = start else {
         return DigitsRead {
             reached: start,
-            value: held,
+            value: [0u8; 24],
         };
     };
-    let mut at = c;
+    let at = c.at;
+    let all = count as usize;
+    if are_there(s, n, at, 4 * all) {
+        let first = in_the_first_twelve(all);
+        let high = twelve(s, at, first);
+        let low = twelve(s, at + 4 * first, all - first);
+        if site::are_digits(high) {
+            if site::are_digits(low) {
+                return DigitsRead {
+                    reached: Reached::At(Cursor { at: at + 4 * all }),
+                    value: spread(high, low),
+                };
+            }
+        }
+    }
+    digits_one_by_one(s, n, c, count)
+}
+
+// The same one by one, each an element of its own: the first that is missing or refused decides.
+fn digits_one_by_one(s: &[u8], n: BitCount, start: Cursor, count: u32) -> DigitsRead
+    requires { ⌜ count ≤ 24 ⌝ }
+    ensures { λ r. ⌜ r ≡ digitsIs (readAt (places (element 4 digitRefusal) absent 24 count) (bitsIn (n .0) (now (s .entry))) (start .at)) ⌝ }
+{
+    let mut held = [0u8; 24];
+    let mut at = start;
     let mut i: usize = 0;
     while i < count as usize {
         let number = codec::number(s, n, Reached::At(at), 4);
@@ -265,6 +350,45 @@ fn digits_of(s: &[u8], n: BitCount, start: Reached, count: u32) -> DigitsRead
         reached: Reached::At(at),
         value: held,
     }
+}
+
+// How many of so many digits stand in the first twelve places.
+fn in_the_first_twelve(count: usize) -> usize
+    ensures { λ r. ⌜ r ≡ min count 12 ⌝ }
+{
+    if count < 12 { count } else { 12 }
+}
+
+// Twelve digits as one number: so many from a place on, and zeros after them.
+fn twelve(s: &[u8], at: usize, count: usize) -> u64
+    requires { ⌜ count ≤ 12 ⌝ }
+    ensures { λ r. ⌜ r ≡ twelveAt (now (s .entry)) at count ⌝ }
+{
+    let unused = 48 - 4 * count;
+    (bits::window(s, at) >> (9 + unused)) << unused
+}
+
+// The digits of two such numbers, each in its place. A fixed number of turns, so that it becomes code without a loop.
+fn spread(high: u64, low: u64) -> [u8; 24]
+    ensures { λ r. ⌜ Spread high low 24 r ⌝ }
+{
+    let mut held = [0u8; 24];
+    let mut i: usize = 0;
+    while i < 24 {
+        held[i] = digit_in(high, low, i);
+        i += 1;
+    }
+    held
+}
+
+fn digit_in(high: u64, low: u64, i: usize) -> u8
+    requires { ⌜ i < 24 ⌝ }
+    ensures { λ r. ⌜ r ≡ digitIn high low i ⌝ }
+{
+    if i < 12 {
+        return ((high >> (44 - 4 * i)) % 16) as u8;
+    }
+    ((low >> (92 - 4 * i)) % 16) as u8
 }
 
 pub struct ExternalRead {
@@ -623,7 +747,7 @@ fn no_services() -> Services
     }
 }
 
-pub fn no_record() -> Record
+fn no_record() -> Record
     ensures { λ r. ⌜ r ≡ zeroRecord ⌝ }
 {
     let affected = no_identities();
@@ -719,7 +843,7 @@ fn interrogate_ack_of(
 }
 
 // The whole of a PDU: SS type, PDU type, affected users, and what its type says.
-pub fn record_of(s: &[u8], n: BitCount, start: Reached) -> RecordRead
+fn record_of(s: &[u8], n: BitCount, start: Reached) -> RecordRead
     ensures { λ r. ⌜ r ≡ recordIs (from start (readAt pdu (bitsIn (n .0) (now (s .entry))))) ⌝ }
 {
     let number = codec::number(s, n, start, 6);

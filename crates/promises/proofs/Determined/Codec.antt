@@ -6,8 +6,5 @@ use Rattle.codec.proofs as codec
 pub number-determined : Determined codec.number.Kinds.ps codec.number.Kinds.r codec.number.Reads.Learnt
 number-determined = by-equations (λ κs a x v p. (p, refl))
 
-pub nothing-determined : Determined codec.nothing.Kinds.ps codec.nothing.Kinds.r codec.nothing.Reads.Learnt
-nothing-determined = by-equations (λ κs a x v p. (p, refl))
-
 pub tested-determined : Determined codec.tested.Kinds.ps codec.tested.Kinds.r codec.tested.Reads.Learnt
 tested-determined = by-equations (λ κs a x v p. (p, refl))

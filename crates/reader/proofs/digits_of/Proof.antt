@@ -1,85 +1,74 @@
--- A loop that fills the places with the digits that are read. Assumes nothing.
-use mathlib.Core.Path.{_≡_, _∙_}
-use Prim.Native.Nat.{_-_}
+-- Digits from two windows if all are there and legal, otherwise one by one. Assumes nothing.
+use mathlib.Core.Path.{sym, _∙_}
+use Prim.Native.Nat.{_+_, _*_, _≤_}
 use native.Mathlib.Omega.{arith}
 use borrow.Author.Needs.{needs}
+use borrow.Author.Tests.{leb-true}
 use denote.Ref.{now}
+use lib.ListN.{length, length-take}
+use Rattle.bits.specs.Bits.{bits}
 use Rattle.bits.specs.Frame.{bitsIn}
-use Rattle.codec.specs.Parts.{absent, element}
-use Rattle.codec.specs.Reading.{from, readAt, numberIs, elementOf}
-use Rattle.codec.specs.declared.Reached.the-variants.{At}
-use Rattle.codec.proofs.Reading.{placed-got, placed-refused, number-read, readAt-absent, tested-element, element-bound}
-use Rattle.codec.proofs.Filling.{Filling, filling-start, filling-got, filling-refused, filling-done}
-use Rattle.grammar.specs.SiteSheet.{digitRefusal}
+use Rattle.codec.specs.Reading.{from}
 use Rattle.reader.specs.Reader.{digitsIs}
+use Rattle.reader.proofs.Digits.{digits-there}
 use Rattle.reader.proofs.digits_of.Statement.{statement}
 use Rattle.reader.proofs.digits_of.Tie as tie
 
-abbrev Inv-loop : tie.InvT-loop
-Inv-loop s n count held₀ at₀ i₀ held at i = Filling (element 4 digitRefusal) absent 0 (bitsIn (n .0) s) 24 count (at₀ .at) i (at .at) held
-
-abbrev μ-loop : tie.MeasureT-loop
-μ-loop s n count held₀ at₀ i₀ held at i = count - i
-
--- a number that is then tested
-read : (c : tie.After-tested Inv-loop μ-loop) →
-    let l = c .before .before .before .before in
-    let a = l .before .before .before .before .before .args in
-    c .tested .result ≡ numberIs (from (At (l .loop .at)) (readAt (element 4 digitRefusal) (bitsIn (a .n .0) (now (a .s)))))
-unfolding elementOf
-read c = c .tested .ensures ∙ tested-element 4 _ _ _ (c .before .before .number .ensures) (c .before .digit-refusal .ensures)
-
-returns : tie.Need-returns Inv-loop μ-loop
+returns : tie.Need-returns
 unfolding from digitsIs
 returns c = rw (c .enum-told .given .1)
 
-returns-2 : tie.Need-returns-2 Inv-loop μ-loop
+there : (c : tie.Then1) →
+    let a = c .before .before .before .before .before .before .args in
+    c .before .before .before .start .given .0 .0 .at + 4 * a .count ≤ length (bitsIn (a .n .0) (now (a .s)))
+there c = leb-true _ _ (sym (c .before .are-there .ensures) ∙ c .if1 .taken)
+
+fits : (c : tie.Then1) →
+    let a = c .before .before .before .before .before .before .args in
+    c .before .before .before .start .given .0 .0 .at + 4 * a .count ≤ a .n .0
+fits c = let a = c .before .before .before .before .before .before .args in omega (arith, there c, length-take (a .n .0) (bits (now (a .s))))
+
+returns-2 : tie.Need-returns-2
 unfolding from digitsIs
 returns-2 c =
-    let d = c .before .before in
-    let l = d .before .before .before .before in
-    let told = c .enum-told2 .given .1 in
-    let e = placed-refused (d .tested .result .value) (number-read _ (read d)) told in
-    rw (l .before .before .start .given .1, told, filling-refused (element 4 digitRefusal) absent 0 _ 24 _ _ _ _ _ (l .loop .inv) (omega arith) _ _ e)
+    let low = c .before .before in
+    let high = low .before .before in
+    let first = high .before .before .before in
+    let d = first .before in
+    let a = d .before .before .before .before .before .before .args in
+    let start = d .before .before .before .start .given in
+    rw (
+      start .1,
+      digits-there (now (a .s)) (a .n .0) (start .0 .0 .at) (a .count) _ (first .in-the-first-twelve .ensures) (omega arith)
+          (high .before .before .twelve .ensures) (high .before .twelve2 .ensures) (there d)
+          (sym (high .are-digits .ensures) ∙ low .before .if2 .taken) (sym (low .are-digits2 .ensures) ∙ c .before .if3 .taken)
+          (c .spread .ensures),
+    )
 
-cast-held : tie.Need-cast-held Inv-loop μ-loop
-cast-held c =
-    let d = c .before .before .before .before in
-    omega (arith, element-bound 4 digitRefusal _ _ 15 (read d) (λ v h r. omega arith))
-
-loop-again : tie.Need-loop-again Inv-loop μ-loop
+returns-3 : tie.Need-returns-3
 unfolding from
-loop-again c =
-    let d = c .before .before .before .before in
-    let l = d .before .before .before .before in
-    let e = placed-got (number-read _ (read d)) (c .before .before .end .given .1) in
-    filling-got (element 4 digitRefusal) absent 0 _ 24 _ _ _ _ _ (l .loop .inv) (omega arith) _ _ e
-
-returns-3 : tie.Need-returns-3 Inv-loop μ-loop
-unfolding from digitsIs
-returns-3 c =
-    let l = c .before in
-    rw (l .before .before .start .given .1, filling-done (element 4 digitRefusal) absent 0 _ 24 _ _ _ _ _ (l .loop .inv) (omega arith) (readAt-absent _))
+returns-3 c = rw (c .before .before .before .before .start .given .1) (c .digits-one-by-one .ensures)
 
 pub digits-of-spec : {M : Type 1} → statement M
 digits-of-spec =
     tie.close
     (tie.spec
-    Inv-loop
-    μ-loop
     (λ c. search needs)
     (λ c. search needs)
     returns
-    (λ c. filling-start (element 4 digitRefusal) absent 0 _ 24 _ _ (omega arith))
+    (λ c. search needs)
     (λ c κs. search needs)
     (λ c κs. search needs)
     (λ c κs. search needs)
     (λ c. search needs)
+    (λ c. omega (arith, fits (c .before .before)))
     (λ c. search needs)
+    (λ c κs. search needs)
+    (λ c κs. search needs)
+    (λ c κs. search needs)
+    (λ c. search needs)
+    (λ c. omega (arith, fits (c .before .before .before .before .before .before .before)))
+    (λ c κs. search needs)
     returns-2
-    cast-held
-    (λ c. search needs)
-    (λ c. search needs)
-    (λ c. search needs)
-    loop-again
+    (λ c κs. search needs)
     returns-3)
