@@ -6,7 +6,7 @@ use Prim.Native.Nat.{ℕ, suc, _+_, _*_, _≤_, _<_}
 use native.Mathlib.Omega.{arith}
 use lib.ListN.{length, getD, take, drop, set, length-append, length-take, length-drop, take-append-drop}
 use lib.Seq.{split-at, set-split, take-at, drop-at, length-take-le, take-append-le, drop-append-le}
-use Rattle.bits.specs.Bits.{value, bitsOf, bits}
+use Rattle.bits.specs.Bits.{value, bitsOf, bits, splice}
 use Rattle.bits.proofs.Numbers.{length-bitsOf, value-of-bits}
 
 pub length-bits : (s : List ℕ) → length (bits s) ≡ 8 * length s
@@ -25,11 +25,6 @@ pub bits-split : (s : List ℕ) (q : ℕ) → q < length s
 unfolding bits
 bits-split s q h = ap bits (split-at s q 0 h) ∙ bits-append (take q s) (getD s q 0 ∷ drop (suc q) s)
 
-pub bits-set : (s : List ℕ) (q x : ℕ) → q < length s
-    → bits (set s q x) ≡ bits (take q s) ++ (bitsOf 8 x ++ bits (drop (suc q) s))
-unfolding bits
-bits-set s q x h = ap bits (set-split s q x h) ∙ bits-append (take q s) (x ∷ drop (suc q) s)
-
 -- whole bytes at either end
 pub bits-drop : (q : ℕ) (s : List ℕ) → q ≤ length s → drop (8 * q) (bits s) ≡ bits (drop q s)
 bits-drop q s h =
@@ -40,6 +35,17 @@ pub bits-take : (n : ℕ) (s : List ℕ) → n ≤ length s → take (8 * n) (bi
 bits-take n s h =
     ap (take (8 * n)) (ap bits (sym (take-append-drop n s)) ∙ bits-append (take n s) (drop n s))
     ∙ take-at (bits (take n s)) (bits (drop n s)) (8 * n) (omega (arith, length-bits (take n s), length-take-le n s h))
+
+-- to store a byte is to splice its bits
+pub bits-set : (s : List ℕ) (q x : ℕ) → q < length s → bits (set s q x) ≡ splice (bits s) (8 * q) (bitsOf 8 x)
+unfolding bits
+bits-set s q x h =
+    let next : 8 * suc q ≡ 8 * q + length (bitsOf 8 x) = omega (arith, length-bitsOf 8 x) in
+    ap bits (set-split s q x h)
+    ∙ bits-append (take q s) (x ∷ drop (suc q) s)
+    ∙ ap₂ (λ (l r : List Bool). l ++ (bitsOf 8 x ++ r))
+    (sym (bits-take q s (omega arith)))
+    (sym (bits-drop (suc q) s h) ∙ ap (λ (n : ℕ). drop n (bits s)) next)
 
 -- what stands before an end is the same with what stands after it cut off
 pub take-before : {A : Type 0} (l : List A) (at w end : ℕ) → at + w ≤ end → at + w ≤ length l → take w (drop at (take end l)) ≡ take w (drop at l)

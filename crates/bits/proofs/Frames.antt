@@ -3,6 +3,7 @@ use mathlib.Core.Path.{_≡_, refl, sym, ap, ap₂, _∙_}
 use mathlib.Core.List.{List, [], _∷_, _++_}
 use mathlib.Core.Bool.{Bool, true, false, _&&_}
 use Prim.Native.Nat.{ℕ, zero, suc, _+_, _-_, _*_, _/_, _%_, _^_, _≤_, _<_}
+use native.Mathlib.Nat.{div-one}
 use native.Mathlib.Omega.{arith}
 use lib.ListN.{length, getD, take, drop, length-append, length-drop, drop-of-length-le, take-append-drop}
 use lib.Seq.{take-all, take-at, drop-at, length-take-le}
@@ -22,7 +23,7 @@ none-unused s n e h = ap value (drop-of-length-le (bits s) {i = n} (omega (arith
 
 -- otherwise the unused bits are the low bits of the last byte
 pub last-unused : (s : List ℕ) (n : ℕ) → length s ≡ bytesFor n → 0 < n % 8
-    → value (drop n (bits s)) ≡ getD s (n / 8) 0 / 2 ^ 0 % 2 ^ (8 - n % 8)
+    → value (drop n (bits s)) ≡ getD s (n / 8) 0 % 2 ^ (8 - n % 8)
 last-unused s n e h =
     let m : ℕ = 8 - n % 8 in
     let place : 8 * (n / 8) + n % 8 ≡ n = omega arith in
@@ -31,6 +32,7 @@ last-unused s n e h =
     ∙ ap (λ (x : ℕ). take m (drop x (bits s))) (sym place)
     ∙ read-within s (n / 8) (n % 8) m 0 (omega arith) (omega arith))
     ∙ value-bitsOf m (getD s (n / 8) 0 / 2 ^ 0)
+    ∙ ap (λ (x : ℕ). x % 2 ^ m) (div-one (getD s (n / 8) 0))
 
 -- ---- the three parts of framed
 

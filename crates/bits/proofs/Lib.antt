@@ -2,6 +2,7 @@ pub mod Numbers
 pub mod Bytes
 pub mod Splices
 pub mod Shares
+pub mod Stores
 pub mod Loads
 pub mod Windows
 pub mod Frames

@@ -43,6 +43,10 @@ bitsOf-add (suc j) k v =
     ∙ ap₂ {C = List Bool} (λ x l. eqb (x % 2) 1 ∷ l)
     (ap (λ (n : ℕ). v / 2 ^ n) (add-comm j k) ∙ sym (shr-shr v k j)) (bitsOf-add j k v)
 
+-- in three
+pub bitsOf-three : (r n k v : ℕ) → bitsOf (r + (n + k)) v ≡ bitsOf r (v / 2 ^ (n + k)) ++ (bitsOf n (v / 2 ^ k) ++ bitsOf k v)
+bitsOf-three r n k v = bitsOf-add r (n + k) v ∙ ap (λ (l : List Bool). bitsOf r (v / 2 ^ (n + k)) ++ l) (bitsOf-add n k v)
+
 shift-suc : (a k : ℕ) → a * 2 ^ suc k ≡ a * 2 * 2 ^ k
 shift-suc a k = ap (λ (x : ℕ). a * x) (pow-succ' 2 k) ∙ sym (mul-assoc a 2 (2 ^ k))
 

@@ -6,7 +6,7 @@ ghost use mathlib.Core.List.{_++_};
 ghost use lib.ListN.{length, take, drop, getD, replicate};
 ghost use Rattle.bits.specs.Bits.{bits, bitsOf, value, splice};
 ghost use Rattle.bits.specs.Frame.{bytesFor, framed};
-ghost use Rattle.bits.specs.Element.{takeAt, windowAt, hasRoom, putAt};
+ghost use Rattle.bits.specs.Element.{takeAt, windowAt, roomFor, putUpTo, hasRoom, putAt};
 
 // A length in bits: a PDU's.
 pub struct BitCount(pub usize);
@@ -154,61 +154,96 @@ pub fn put(buf: &mut [u8], at: usize, width: usize, element: u32) -> bool
     if 32 < width {
         return false;
     }
+    put_wide(buf, at, width, element as u64)
+}
+
+// The same for up to 57 bits: eight bytes hold so many from any place in their first on.
+pub fn put_wide(buf: &mut [u8], at: usize, width: usize, element: u64) -> bool
+    ensures { λ r. ⌜ (r ≡ roomFor 57 (now (buf .entry)) at width) × (bits (now (buf .exit)) ≡ putUpTo 57 (now (buf .entry)) at width element) ⌝ }
+{
+    if 57 < width {
+        return false;
+    }
     if buf.len() < at / 8 {
         return false;
     }
     if buf.len() - at / 8 < (at % 8 + width + 7) / 8 {
         return false;
     }
+    if width == 0 {
+        return true;
+    }
+    if buf.len() < 8 {
+        put_short(buf, at, width, element);
+        return true;
+    }
     put_within(buf, at, width, element);
     true
 }
 
-// The same where there is room, a byte's share at a time.
-fn put_within(buf: &mut [u8], at: usize, width: usize, element: u32)
-    requires { ⌜ (width ≤ 32) × (at + width ≤ 8 * length (now buf)) ⌝ }
+// The same where there is room in fewer than eight bytes.
+fn put_short(buf: &mut [u8], at: usize, width: usize, element: u64)
+    requires { ⌜ (length (now buf) ≤ 8) × (1 ≤ width) × (width ≤ 57) × (at + width ≤ 8 * length (now buf)) ⌝ }
     ensures { λ r. ⌜ bits (now (buf .exit)) ≡ splice (bits (now (buf .entry))) at (bitsOf width element) ⌝ }
 {
-    let mut done: usize = 0;
-    let mut q = at / 8;
-    let mut r = at % 8;
-    while done < width {
-        let room = 8 - r;
-        let n = least(room, width - done);
-        let share = field(element, n, width - done - n);
-        buf[q] = with_field(buf[q], n, room - n, share);
-        done += n;
-        q += (r + n) / 8;
-        r = (r + n) % 8;
+    let mut held = padded(buf);
+    put_within(&mut held, at, width, element);
+    let mut i: usize = 0;
+    while i < buf.len() {
+        buf[i] = held[i];
+        i += 1;
     }
 }
 
-// A byte with the n bits that have k bits after them replaced by those of f.
-fn with_field(b: u8, n: usize, k: usize, f: u32) -> u8
-    requires { ⌜ (n + k ≤ 8) × (f < 2 ^ n) ⌝ }
-    ensures { λ r. ⌜ r ≡ (b / 2 ^ (n + k) * 2 ^ n + f) * 2 ^ k + b % 2 ^ k ⌝ }
+// And in eight or more: the bits are among the eight bytes from theirs on, or among the last eight.
+fn put_within(buf: &mut [u8], at: usize, width: usize, element: u64)
+    requires { ⌜ (8 ≤ length (now buf)) × (1 ≤ width) × (width ≤ 57) × (at + width ≤ 8 * length (now buf)) ⌝ }
+    ensures { λ r. ⌜ bits (now (buf .exit)) ≡ splice (bits (now (buf .entry))) at (bitsOf width element) ⌝ }
 {
-    let x = b as u32;
+    let first = least(at / 8, buf.len() - 8);
+    let after = 64 - (at - 8 * first) - width;
+    let old = eight(buf, first);
+    set_eight(buf, first, with_field(old, width, after, element));
+}
+
+// A number with the n bits that have k bits after them replaced by the n low bits of f.
+fn with_field(x: u64, n: usize, k: usize, f: u64) -> u64
+    requires { ⌜ (n < 64) × (k < 64) × (n + k ≤ 64) ⌝ }
+    ensures { λ r. ⌜ r ≡ (x / 2 ^ (n + k) * 2 ^ n + f % 2 ^ n) * 2 ^ k + x % 2 ^ k ⌝ }
+{
+    let size = pow2(n);
     let low = pow2(k);
-    (((x >> (n + k)) * pow2(n) + f) * low + x % low) as u8
+    let old = (x >> k) % size;
+    x - old * low + (f % size) * low
 }
 
-// The n bits of a number that have k bits after them.
-fn field(x: u32, n: usize, k: usize) -> u32
-    requires { ⌜ (n ≤ 8) × (k < 32) ⌝ }
-    ensures { λ r. ⌜ r ≡ x / 2 ^ k % 2 ^ n ⌝ }
+// The bits of eight bytes and of four become those of a number. Written so, each becomes a single store.
+fn set_eight(buf: &mut [u8], from: usize, x: u64)
+    requires { ⌜ from + 8 ≤ length (now buf) ⌝ }
+    ensures { λ r. ⌜ bits (now (buf .exit)) ≡ splice (bits (now (buf .entry))) (8 * from) (bitsOf 64 x) ⌝ }
 {
-    (x >> k) % pow2(n)
+    set_four(buf, from, (x >> 32u32) as u32);
+    set_four(buf, from + 4, (x % 4294967296) as u32);
 }
 
-fn pow2(n: usize) -> u32
-    requires { ⌜ n ≤ 8 ⌝ }
+fn set_four(buf: &mut [u8], from: usize, x: u32)
+    requires { ⌜ from + 4 ≤ length (now buf) ⌝ }
+    ensures { λ r. ⌜ bits (now (buf .exit)) ≡ splice (bits (now (buf .entry))) (8 * from) (bitsOf 32 x) ⌝ }
+{
+    buf[from] = (x >> 24u32) as u8;
+    buf[from + 1] = ((x >> 16u32) % 256) as u8;
+    buf[from + 2] = ((x >> 8u32) % 256) as u8;
+    buf[from + 3] = (x % 256) as u8;
+}
+
+fn pow2(n: usize) -> u64
+    requires { ⌜ n < 64 ⌝ }
     ensures { λ r. ⌜ r ≡ 2 ^ n ⌝ }
 {
-    1u32 << n
+    1u64 << n
 }
 
-fn least(a: usize, b: usize) -> usize
+pub fn least(a: usize, b: usize) -> usize
     ensures { λ r. ⌜ r ≡ min a b ⌝ }
 {
     if a < b { a } else { b }
@@ -230,5 +265,5 @@ pub fn is_framed(s: &[u8], n: BitCount) -> bool
         return true;
     }
     let last = count / 8;
-    field(s[last] as u32, 8 - used, 0) == 0
+    (s[last] as u64) % pow2(8 - used) == 0
 }

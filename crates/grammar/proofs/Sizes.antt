@@ -99,9 +99,6 @@ pub size-noIdentities : Within 0 noIdentities
 unfolding noIdentities
 size-noIdentities = size-shaped _ _ _ _ _ (size-seq size-absent (λ a. size-places noIdentity noIdentity 0 size-noIdentity size-noIdentity 8 0))
 
-pub size-digit-place : (used : Bool) → Within 4 (pick used (element 4 digitRefusal) absent)
-size-digit-place used = size-pick used (size-element 4 digitRefusal) (size-more size-absent (omega arith))
-
 size-external : Within 101 external
 unfolding external
 size-external =

@@ -309,7 +309,7 @@ fn digits_of(s: &[u8], n: BitCount, start: Reached, count: u32) -> DigitsRead
     let at = c.at;
     let all = count as usize;
     if are_there(s, n, at, 4 * all) {
-        let first = in_the_first_twelve(all);
+        let first = bits::least(all, 12);
         let high = twelve(s, at, first);
         let low = twelve(s, at + 4 * first, all - first);
         if site::are_digits(high) {
@@ -350,13 +350,6 @@ fn digits_one_by_one(s: &[u8], n: BitCount, start: Cursor, count: u32) -> Digits
         reached: Reached::At(at),
         value: held,
     }
-}
-
-// How many of so many digits stand in the first twelve places.
-fn in_the_first_twelve(count: usize) -> usize
-    ensures { λ r. ⌜ r ≡ min count 12 ⌝ }
-{
-    if count < 12 { count } else { 12 }
 }
 
 // Twelve digits as one number: so many from a place on, and zeros after them.

@@ -4,3 +4,5 @@ pub mod PutsPlaces
 pub mod Writes
 pub mod Writing
 pub mod WritingPlaces
+pub mod Runs
+pub mod Digits

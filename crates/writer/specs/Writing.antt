@@ -1,10 +1,11 @@
 -- Writing part by part: what the parts of a record come to before anything is stored, and what each store leaves.
 use mathlib.Core.Path.{_≡_}
-use mathlib.Core.Bool.{true, _&&_}
-use mathlib.Core.List.{List}
+use mathlib.Core.Bool.{Bool, true, _&&_}
+use mathlib.Core.List.{List, [], _∷_, _++_}
 use Prim.Native.Nat.{ℕ, _+_, _*_, _≤_}
 use lib.ListN.{length}
-use Rattle.bits.specs.Bits.{bits, splice}
+use lib.Dec.{leb}
+use Rattle.bits.specs.Bits.{bits, bitsOf, splice}
 use Rattle.codec.specs.Codec.{Codec, first}
 use Rattle.writer.specs.declared.tally.Tally.{Tally}
 
@@ -27,3 +28,17 @@ pub record Room {A : Type 0} (c : Codec A) (a : A) (out : List ℕ) (at : ℕ) :
 pub record Puts {A : Type 0} (c : Codec A) (a : A) (before after : List ℕ) (at end : ℕ) : Type 0 where
   pub there : bits after ≡ splice (bits before) at (c .print a)
   pub next : end ≡ at + length (c .print a)
+
+-- the bits of digits, four each
+unfoldable pub digitBits : List ℕ → List Bool
+digitBits [] = []
+digitBits (d ∷ l) = bitsOf 4 d ++ digitBits l
+
+-- a number that is another with n digits after it, whatever the width of that one
+abbrev pub DigitsAfter : ℕ → ℕ → List ℕ → ℕ → Type 0
+DigitsAfter n start digits run = (w : ℕ) → bitsOf (w + 4 * n) run ≡ bitsOf w start ++ digitBits digits
+
+-- whether no number of a list is above the greatest that it may be
+unfoldable pub noneAbove : ℕ → List ℕ → Bool
+noneAbove most [] = true
+noneAbove most (d ∷ l) = leb d most && noneAbove most l

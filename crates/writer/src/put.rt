@@ -8,21 +8,29 @@ use grammar::record::Record;
 use grammar::record::Services;
 use grammar::site::SS_TYPE;
 use grammar::site::row_of;
-ghost use Prim.Native.Nat.{_≤_};
+ghost use Prim.Native.Nat.{_+_, _≤_, _<_};
+ghost use lib.ListN.{take, drop};
 ghost use Rattle.codec.specs.Parts.{number, absent, element};
 ghost use Rattle.codec.specs.Places.{places};
-ghost use Rattle.grammar.specs.SiteSheet.{digitRefusal, serviceRefusal};
+ghost use Rattle.grammar.specs.SiteSheet.{serviceRefusal};
 ghost use Rattle.grammar.specs.Grammar.{identity, noIdentity, identities, external, noExternal, externals, services, identityPart, numberPart, partOf, interrogateAck, restOf, fromRecord, pdu};
-ghost use Rattle.writer.specs.Writing.{Room, Puts};
+ghost use Rattle.writer.specs.Writing.{Room, Puts, DigitsAfter};
 ghost use Rattle.grammar.specs.declared.site.Listing.the-variants as of;
 
-// Puts the low `width` bits of a value at a place, and gives the next place, as each function below does.
+// Puts a run of up to 57 bits, the low ones of a number, at a place, and gives the next place, as each function below does.
+fn put_run(out: &mut [u8], at: usize, width: usize, run: u64) -> usize
+    requires { ⌜ (width ≤ 57) × Room (number width) run (now out) at ⌝ }
+    ensures { λ r. ⌜ Puts (number width) run (now (out .entry)) (now (out .exit)) at r ⌝ }
+{
+    bits::put_wide(out, at, width, run);
+    at + width
+}
+
 fn put_element(out: &mut [u8], at: usize, width: usize, value: u32) -> usize
     requires { ⌜ (width ≤ 32) × Room (number width) value (now out) at ⌝ }
     ensures { λ r. ⌜ Puts (number width) value (now (out .entry)) (now (out .exit)) at r ⌝ }
 {
-    bits::put(out, at, width, value);
-    at + width
+    put_run(out, at, width, value as u64)
 }
 
 // ---- identities
@@ -33,12 +41,16 @@ fn put_identity(out: &mut [u8], at: usize, e: Identity) -> usize
     ensures { λ r. ⌜ Puts identity e (now (out .entry)) (now (out .exit)) at r ⌝ }
 {
     let present = e.present;
-    let named = put_element(out, at, 24, e.ssi);
-    let told = put_element(out, named, 1, present);
+    let told = (e.ssi as u64) * 2 + (present % 2) as u64;
     if present == 1 {
-        return put_element(out, told, 24, e.extension);
+        return put_run(
+            out,
+            at,
+            49,
+            told * 16777216 + (e.extension % 16777216) as u64,
+        );
     }
-    told
+    put_run(out, at, 25, told)
 }
 
 // The first n places of a list.
@@ -73,25 +85,21 @@ fn put_identities(out: &mut [u8], at: usize, l: Identities) -> usize
 
 // ---- external numbers
 
-// The first n digits of a number.
-fn put_digit_places(out: &mut [u8], at: usize, digits: [u8; 24], n: usize) -> usize
-    requires { ⌜ Room (places (element 4 digitRefusal) absent 24 n) digits (now out) at ⌝ }
-    ensures { λ r. ⌜ Puts (places (element 4 digitRefusal) absent 24 n) digits (now (out .entry)) (now (out .exit)) at r ⌝ }
+// A number, and twelve digits after it.
+fn with_twelve(start: u64, digits: [u8; 24], from: usize) -> u64
+    requires { ⌜ (start < 256) × (from + 12 ≤ 24) ⌝ }
+    ensures { λ r. ⌜ DigitsAfter 12 start (take 12 (drop from digits)) r ⌝ }
 {
-    let mut next = at;
+    let mut run = start;
     let mut i: usize = 0;
-    while i < 24 {
-        if n <= i {
-            return next;
-        }
-        let d = digits[i];
-        next = put_element(out, next, 4, d as u32);
+    while i < 12 {
+        run = run * 16 + (digits[from + i] % 16) as u64;
         i += 1;
     }
-    next
+    run
 }
 
-// The length, and as many digits.
+// The length, and as many digits: up to twelve with it, and up to twelve more.
 fn put_number(out: &mut [u8], at: usize, e: Number) -> usize
     requires { ⌜ Room external e (now out) at ⌝ }
     ensures { λ r. ⌜ Puts external e (now (out .entry)) (now (out .exit)) at r ⌝ }
@@ -99,8 +107,12 @@ fn put_number(out: &mut [u8], at: usize, e: Number) -> usize
     let length = e.length;
     let count = length.0;
     let digits = e.digits;
-    let counted = put_element(out, at, 5, count as u32);
-    put_digit_places(out, counted, digits, count as usize)
+    let early = bits::least(count as usize, 12);
+    let late = bits::least(count as usize, 24) - early;
+    let first = with_twelve(count as u64, digits, 0) >> (48 - 4 * early);
+    let second = with_twelve(0, digits, 12) >> (48 - 4 * late);
+    let middle = put_run(out, at, 5 + 4 * early, first);
+    put_run(out, middle, 4 * late, second)
 }
 
 // The first n places of a list.

@@ -10,7 +10,6 @@ use grammar::record::Services;
 use grammar::site::Listing;
 use grammar::site::SS_TYPE;
 use grammar::site::between_refusal;
-use grammar::site::digit_refusal;
 use grammar::site::ends_refusal;
 use grammar::site::kind_refusal;
 use grammar::site::range_refusal;
@@ -18,14 +17,17 @@ use grammar::site::result_refusal;
 use grammar::site::row_of;
 use grammar::site::service_refusal;
 ghost use mathlib.Core.Path.{_≡_};
+ghost use mathlib.Core.Bool.{_&&_};
 ghost use Prim.Native.Nat.{_+_, _≤_};
+ghost use lib.ListN.{length};
+ghost use lib.Seq.{slice};
 ghost use Rattle.bits.specs.Bits.{pick};
 ghost use Rattle.codec.specs.Codec.{first};
 ghost use Rattle.codec.specs.Parts.{numberFault, absent, element};
 ghost use Rattle.codec.specs.Places.{places};
 ghost use Rattle.grammar.specs.SiteSheet.{digitRefusal, serviceRefusal};
 ghost use Rattle.grammar.specs.Grammar.{identity, noIdentity, rangeEnds, identities, noIdentities, external, noExternal, externals, noExternals, services, noServices, identityPart, numberPart, noPart, partOf, interrogate, interrogateAck, fromRecord, pdu};
-ghost use Rattle.writer.specs.Writing.{nothing, Tallies};
+ghost use Rattle.writer.specs.Writing.{nothing, Tallies, noneAbove};
 
 // What the parts so far come to: all is zero that must be, the first refusal number or 0, and the length in bits.
 // Each function below counts one part more, from `start` on.
@@ -50,6 +52,19 @@ pub(crate) fn first_refusal(a: u32, b: u32) -> u32
     ensures { λ r. ⌜ r ≡ first a b ⌝ }
 {
     if a == 0 { b } else { a }
+}
+
+// 3 unless a value is legal.
+fn refusal_unless(legal: bool) -> u32
+    ensures { λ r. ⌜ r ≡ pick legal 0 3 ⌝ }
+{
+    if legal { 0 } else { 3 }
+}
+
+fn both(a: bool, b: bool) -> bool
+    ensures { λ r. ⌜ r ≡ a && b ⌝ }
+{
+    if a { b } else { false }
 }
 
 // An element whose value has the refusal number `refusal`.
@@ -163,30 +178,35 @@ fn tally_no_identities(start: Tally, l: Identities) -> Tally
 
 // ---- external numbers
 
-// A digit of a number, if its place is used.
-fn tally_digit_place(start: Tally, used: bool, digit: u32) -> Tally
-    requires { ⌜ start .bits + 4 ≤ 4096 ⌝ }
-    ensures { λ r. ⌜ Tallies (pick used (element 4 digitRefusal) absent) digit start r ⌝ }
+// Whether no digit from a place up to another is above `most`. A loop that tests all of them is quicker than one that stops.
+fn none_above(digits: &[u8], from: usize, to: usize, most: u8) -> bool
+    requires { ⌜ (from ≤ to) × (to ≤ length (now digits)) ⌝ }
+    ensures { λ r. ⌜ r ≡ noneAbove most (slice from to (now (digits .entry))) ⌝ }
 {
-    if used {
-        return tally_element(start, 4, digit, digit_refusal(digit));
+    let mut none = true;
+    let mut i = from;
+    while i < to {
+        if most < digits[i] {
+            none = false;
+        }
+        i += 1;
     }
-    tally_absent(start, digit)
+    none
 }
 
-// The first n of 24 places are used.
+// The first n of 24 places are used: digits up to 12, and zeros after them.
 fn tally_digit_places(start: Tally, digits: [u8; 24], n: usize) -> Tally
     requires { ⌜ start .bits + 96 ≤ 4096 ⌝ }
     ensures { λ r. ⌜ Tallies (places (element 4 digitRefusal) absent 24 n) digits start r ⌝ }
 {
-    let mut sum = start;
-    let mut i: usize = 0;
-    while i < 24 {
-        let d = digits[i];
-        sum = tally_digit_place(sum, i < n, d as u32);
-        i += 1;
+    let used = bits::least(n, 24);
+    let legal = none_above(&digits, 0, used, 12);
+    let unused = none_above(&digits, used, 24, 0);
+    Tally {
+        clean: both(start.clean, unused),
+        refusal: first_refusal(start.refusal, refusal_unless(legal)),
+        bits: start.bits + 4 * used,
     }
-    sum
 }
 
 // A place of a list, which the PDU carries if it is used.

@@ -1,11 +1,12 @@
 -- Each way out of the three tests is framed's own value. Assumes nothing.
 use mathlib.Core.Path.{_≡_, ap}
-use Prim.Native.Nat.{ℕ, _/_}
+use Prim.Native.Nat.{ℕ, _-_, _/_, _%_}
 use native.Mathlib.Omega.{arith}
 use borrow.Author.Needs.{needs}
 use borrow.Author.Tests.{eq-eqb, ne-eqb, le-leb, lt-leb}
-use lib.ListN.{length}
+use lib.ListN.{length, getD}
 use lib.Dec.{eqb}
+use lib.Pow.{pow-pos}
 use denote.Ref.{now}
 use Rattle.bits.specs.Frame.{framed, bytesFor}
 use Rattle.bits.proofs.Frames.{none-unused, last-unused}
@@ -31,8 +32,11 @@ returns-3 c =
     let e : length (now (a .s)) ≡ bytesFor (a .n .0) = omega arith in
     rw (le-leb (a .n .0) 4096 (d .if1 .left), eq-eqb (length (now (a .s))) (bytesFor (a .n .0)) e, none-unused (now (a .s)) (a .n .0) e (c .if3 .taken))
 
-cast-field : tie.Need-cast-field
-cast-field c = omega (arith, c .shared-slice-known2 .given (c .before .before .before .before .before .before .args .n .0 / 8))
+cast-result : tie.Need-cast-result
+cast-result c = omega (arith, c .shared-slice-known2 .given (c .before .before .before .before .before .before .args .n .0 / 8))
+
+rem-result : tie.Need-rem-result
+rem-result c = omega (arith, c .pow2 .ensures, pow-pos (8 - c .before .before .before .before .before .before .before .args .n .0 % 8))
 
 returns-4 : tie.Need-returns-4
 unfolding framed
@@ -41,7 +45,7 @@ returns-4 c =
     let a = d .before .before .args in
     let e : length (now (a .s)) ≡ bytesFor (a .n .0) = omega arith in
     rw (le-leb (a .n .0) 4096 (d .if1 .left), eq-eqb (length (now (a .s))) (bytesFor (a .n .0)) e, last-unused (now (a .s)) (a .n .0) e (omega arith))
-    (ap (λ (x : ℕ). eqb x 0) (c .field .ensures))
+    (ap (λ (x : ℕ). eqb (getD (now (a .s)) (a .n .0 / 8) 0 % x) 0) (c .pow2 .ensures))
 
 pub is-framed-spec : {M : Type 1} → statement M
 is-framed-spec =
@@ -52,7 +56,8 @@ is-framed-spec =
     returns-2
     returns-3
     (λ c. search needs)
-    cast-field
+    cast-result
     (λ c. search needs)
     (λ c κs. search needs)
+    rem-result
     returns-4)

@@ -19,7 +19,7 @@ use Rattle.archive.specs.Restoring.{lookup}
 use Rattle.archive.specs.declared.Archived.the-variants.{Bytes, Refused}
 use Rattle.archive.proofs.Tests.{differ, false-unless, and-true, and-both}
 use Rattle.archive.proofs.Putting.{isNone}
-use Rattle.archive.proofs.Capturing.{no-archive, pdu-refused, may-not, capture-leaves}
+use Rattle.archive.proofs.Capturing.{no-archive, capture-leaves}
 use Rattle.archive.proofs.Captured.{taken, captured-formed}
 use Rattle.archive.proofs.Writing.{length-written}
 use Rattle.archive.proofs.Counts.{fullFor, eight}
@@ -28,6 +28,17 @@ use Rattle.promises.specs.Demand1.Reading as read
 use Rattle.promises.specs.Demand1.Capture.{number, Offered, Full, Given, success, damaged, unread, not-kept, full, too-long, no-room, Promise}
 use Rattle.promises.proofs.Tables.{exactly, wider}
 use Rattle.promises.proofs.Demand1.Reading as reading-kept
+
+-- ---- a PDU that is not filed
+
+module _ (b s : List ℕ) (n room : ℕ) where
+  pdu-refused : {k : ℕ} → isArchive b ≡ true → readIs s n .answer ≡ reader.Refused k → captureIs b s n room ≡ Refused k
+  unfolding captureIs
+  pdu-refused e f = rw (e, f)
+
+  may-not : isArchive b ≡ true → readIs s n .answer ≡ reader.Accepted → mayHold (readIs s n .found) ≡ false → captureIs b s n room ≡ Refused 6
+  unfolding captureIs
+  may-not e f g = rw (e, f, g)
 
 is-none : (l : Option Held) → isNone l ≡ true → l ≡ none
 is-none none e = refl

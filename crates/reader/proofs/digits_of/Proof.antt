@@ -39,7 +39,7 @@ returns-2 c =
     let start = d .before .before .before .start .given in
     rw (
       start .1,
-      digits-there (now (a .s)) (a .n .0) (start .0 .0 .at) (a .count) _ (first .in-the-first-twelve .ensures) (omega arith)
+      digits-there (now (a .s)) (a .n .0) (start .0 .0 .at) (a .count) _ (first .least .ensures) (omega arith)
           (high .before .before .twelve .ensures) (high .before .twelve2 .ensures) (there d)
           (sym (high .are-digits .ensures) ∙ low .before .if2 .taken) (sym (low .are-digits2 .ensures) ∙ c .before .if3 .taken)
           (c .spread .ensures),
