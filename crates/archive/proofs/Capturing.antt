@@ -7,7 +7,6 @@ use native.Mathlib.Omega.{arith}
 use lib.ListN.{length}
 use Rattle.bits.specs.Bits.{pick}
 use Rattle.reader.specs.Read.{readIs}
-use Rattle.grammar.specs.declared.record.Record.{Record}
 use Rattle.reader.specs.declared.Answer.{Answer}
 use Rattle.reader.specs.declared.Answer.the-variants as reader
 use Rattle.archive.specs.Model.{bytesOf, Archive, lengthOf, withinLimits}

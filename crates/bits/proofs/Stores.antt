@@ -58,7 +58,8 @@ module _ (x r n k f : ℕ) (lt : f < 2 ^ n) where
 
   -- to put the number back with its field replaced is to put the field
   pub splice-within : (a c : List Bool) (at : ℕ) → length a ≡ at
-      → splice (a ++ (bitsOf (r + (n + k)) x ++ c)) at (bitsOf (r + (n + k)) (within x n k f)) ≡ splice (a ++ (bitsOf (r + (n + k)) x ++ c)) (at + r) (bitsOf n f)
+      → splice (a ++ (bitsOf (r + (n + k)) x ++ c)) at (bitsOf (r + (n + k)) (within x n k f))
+      ≡ splice (a ++ (bitsOf (r + (n + k)) x ++ c)) (at + r) (bitsOf n f)
   splice-within a c at e =
       let high : List Bool = bitsOf r (x / 2 ^ (n + k)) in
       let own : List Bool = bitsOf n (x / 2 ^ k) in

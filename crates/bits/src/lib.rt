@@ -243,6 +243,7 @@ fn pow2(n: usize) -> u64
     1u64 << n
 }
 
+// The lesser of two numbers.
 pub fn least(a: usize, b: usize) -> usize
     ensures { λ r. ⌜ r ≡ min a b ⌝ }
 {

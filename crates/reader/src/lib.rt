@@ -15,7 +15,7 @@ use grammar::record::Services;
 use grammar::site;
 use grammar::site::Listing;
 ghost use mathlib.Core.Path.{_≡_};
-ghost use Prim.Native.Nat.{_+_, _≤_, _<_, min};
+ghost use Prim.Native.Nat.{_+_, _≤_, _<_};
 ghost use lib.Dec.{leb};
 ghost use lib.ListN.{length, replicate};
 ghost use Rattle.bits.specs.Frame.{bitsIn};

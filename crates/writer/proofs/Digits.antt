@@ -17,7 +17,7 @@ use Rattle.grammar.specs.SiteSheet.{digitOf, digitRefusal}
 use Rattle.writer.specs.Writing.{Tallies, noneAbove}
 use Rattle.writer.specs.declared.tally.Tally.{Tally}
 use Rattle.writer.proofs.Writing.{and-true}
-use Rattle.writer.proofs.Runs.{print-digits, length-digitBits, take-least, drop-least}
+use Rattle.writer.proofs.NumberRuns.{print-digits, length-digitBits, take-least, drop-least}
 
 -- ---- one digit
 

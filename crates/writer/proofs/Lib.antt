@@ -5,4 +5,5 @@ pub mod Writes
 pub mod Writing
 pub mod WritingPlaces
 pub mod Runs
+pub mod NumberRuns
 pub mod Digits

@@ -31,10 +31,12 @@ fits c =
     let a = c .before .before .args in
     let r : ℕ = 64 - (a .n + a .k) in
     let size : r + (a .n + a .k) ≡ 64 = omega arith in (
-      subst (λ (y : ℕ). y ≤ a .x) (sym (ap₂ (λ (size low : ℕ). a .x / 2 ^ a .k % size * low) (c .before .pow2 .ensures) (c .pow22 .ensures))) (field-le (a .x) (a .n) (a .k)),
+      subst (λ (y : ℕ). y ≤ a .x) (sym (ap₂ (λ (size low : ℕ). a .x / 2 ^ a .k % size * low) (c .before .pow2 .ensures) (c .pow22 .ensures)))
+          (field-le (a .x) (a .n) (a .k)),
       subst (λ (y : ℕ). y < 2 ^ 64) (sym (whole c))
           (subst (λ (w : ℕ). within (a .x) (a .n) (a .k) (a .f % 2 ^ a .n) < 2 ^ w) size
-          (within-lt (a .x) r (a .n) (a .k) (a .f % 2 ^ a .n) (mod-lt (a .f) (pow-pos (a .n))) (subst (λ (w : ℕ). a .x < 2 ^ w) (sym size) (c .before .before .fits .x .fits)))),
+          (within-lt (a .x) r (a .n) (a .k) (a .f % 2 ^ a .n) (mod-lt (a .f) (pow-pos (a .n)))
+          (subst (λ (w : ℕ). a .x < 2 ^ w) (sym size) (c .before .before .fits .x .fits)))),
     )
 
 pub with-field-spec : {M : Type 1} → statement M

@@ -7,7 +7,7 @@ use borrow.Author.Needs.{needs}
 use Rattle.codec.specs.Parts.{number}
 use Rattle.grammar.specs.Grammar.{external}
 use Rattle.writer.proofs.Puts.{left, right, join}
-use Rattle.writer.proofs.Runs.{digits-length, number-runs}
+use Rattle.writer.proofs.NumberRuns.{digits-length, number-runs}
 use Rattle.writer.proofs.put.put_number.Statement.{statement}
 use Rattle.writer.proofs.put.put_number.Tie as tie
 
@@ -19,7 +19,8 @@ whole c =
     let u = c .before .before in
     let v = u .before in
     let b = v .before .before .before .before in
-    number-runs (b .args .e) _ _ _ _ (digits-length (b .args .e) _ (b .good .1 .1 .0)) (v .least .ensures) (omega (arith, v .least .ensures, u .least2 .ensures)) (c .before .with-twelve .ensures) (c .with-twelve2 .ensures)
+    number-runs (b .args .e) _ _ _ _ (digits-length (b .args .e) _ (b .good .1 .1 .0))
+    (v .least .ensures) (omega (arith, v .least .ensures, u .least2 .ensures)) (c .before .with-twelve .ensures) (c .with-twelve2 .ensures)
 
 put-run-requires : tie.Need-put-run-requires
 put-run-requires c κs =
@@ -30,7 +31,8 @@ put-run-requires-2 : tie.Need-put-run-requires-2
 put-run-requires-2 c κs =
     let p = c .before .before .before in
     let w = p .before .before in
-    (omega (arith, w .before .before .least2 .ensures, w .before .before .before .least .ensures), right (whole w) (w .before .before .before .before .before .before .before .pre) (p .put-run .ensures))
+    let h = w .before .before .before .before .before .before .before .pre in
+    (omega (arith, w .before .before .least2 .ensures, w .before .before .before .least .ensures), right (whole w) h (p .put-run .ensures))
 
 returns : tie.Need-returns
 returns c =
