@@ -1,7 +1,7 @@
 // Lent buffers: filled before a call, and looked through after it.
 pub const PATTERN: u8 = 0xa5;
 
-pub fn fill(out: &mut [u8]) {
+pub(crate) fn fill(out: &mut [u8]) {
     let mut i: usize = 0;
     while i < out.len() {
         out[i] = PATTERN;
@@ -10,7 +10,7 @@ pub fn fill(out: &mut [u8]) {
 }
 
 // Whether every byte from a place on is as `fill` left it.
-pub fn stays(out: &[u8], from: usize) -> bool {
+pub(crate) fn stays(out: &[u8], from: usize) -> bool {
     let mut i = from;
     while i < out.len() {
         if out[i] != PATTERN {
@@ -22,7 +22,7 @@ pub fn stays(out: &[u8], from: usize) -> bool {
 }
 
 // A check sum of the first n bytes.
-pub fn sum(s: &[u8], n: usize) -> u64 {
+pub(crate) fn sum(s: &[u8], n: usize) -> u64 {
     let mut total: u64 = 1;
     let mut i: usize = 0;
     while i < s.len() {
@@ -40,14 +40,14 @@ fn and_byte(total: u64, byte: u8) -> u64 {
 }
 
 // Copies the whole of a buffer to one of the same length.
-pub fn keep(out: &[u8], archive: &mut [u8]) {
+pub(crate) fn keep(out: &[u8], archive: &mut [u8]) {
     if out.len() <= archive.len() {
         bytes::copy(out, archive);
     }
 }
 
 // Puts the first n bytes at a place of a buffer, if they fit there.
-pub fn put_first(s: &[u8], n: usize, archive: &mut [u8], at: usize) {
+pub(crate) fn put_first(s: &[u8], n: usize, archive: &mut [u8], at: usize) {
     if s.len() < n {
         return;
     }

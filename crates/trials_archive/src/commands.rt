@@ -8,7 +8,7 @@ use crate::show;
 use archive::Archived;
 use bits::BitCount;
 
-pub fn empty(line: &[u8], archive: &mut [u8], out: &mut [u8], before: Held) -> Held {
+pub(crate) fn empty(line: &[u8], archive: &mut [u8], out: &mut [u8], before: Held) -> Held {
     let home = input::number_at(line, 6);
     let room = input::number_at(line, home.next);
     let answer = held::empty(input::narrow(home.value), out, room.value as usize);
@@ -17,7 +17,7 @@ pub fn empty(line: &[u8], archive: &mut [u8], out: &mut [u8], before: Held) -> H
     held::after(answer, pdu, out, archive, before.length)
 }
 
-pub fn capture(line: &[u8], archive: &mut [u8], out: &mut [u8], before: Held) -> Held {
+pub(crate) fn capture(line: &[u8], archive: &mut [u8], out: &mut [u8], before: Held) -> Held {
     let room = input::number_at(line, 8);
     let pdu = pdu_of(line, room.next);
     let answer = held::capture(archive, before.length, pdu, out, room.value as usize);
@@ -37,7 +37,7 @@ fn pdu_of(line: &[u8], at: usize) -> Pdu {
     }
 }
 
-pub fn many(line: &[u8], archive: &mut [u8], out: &mut [u8], before: Held) -> Held {
+pub(crate) fn many(line: &[u8], archive: &mut [u8], out: &mut [u8], before: Held) -> Held {
     let from = input::number_at(line, 5);
     let to = input::number_at(line, from.next);
     each_ssi(
@@ -75,7 +75,7 @@ fn is_refused(answer: Archived) -> bool {
     }
 }
 
-pub fn damage(line: &[u8], archive: &mut [u8]) {
+pub(crate) fn damage(line: &[u8], archive: &mut [u8]) {
     let at = input::number_at(line, 7);
     let given = input::bytes_at(line, at.next);
     let bytes = given.bytes;
@@ -83,7 +83,7 @@ pub fn damage(line: &[u8], archive: &mut [u8]) {
     show::labelled(b"put ", given.count as u64);
 }
 
-pub fn length(line: &[u8], before: Held) -> Held {
+pub(crate) fn length(line: &[u8], before: Held) -> Held {
     let length = input::number_at(line, 7);
     show::labelled(b"was ", before.length as u64);
     let pdu = before.pdu;
@@ -93,7 +93,7 @@ pub fn length(line: &[u8], before: Held) -> Held {
     }
 }
 
-pub fn restore(line: &[u8], archive: &[u8], length: usize) {
+pub(crate) fn restore(line: &[u8], archive: &[u8], length: usize) {
     let network = input::number_at(line, 8);
     let ssi = input::number_at(line, network.next);
     let part = input::number_at(line, ssi.next);
@@ -111,7 +111,7 @@ pub fn restore(line: &[u8], archive: &[u8], length: usize) {
     show::restored(answer, &out);
 }
 
-pub fn verify(archive: &[u8], length: usize) {
+pub(crate) fn verify(archive: &[u8], length: usize) {
     if archive.len() < length {
         return;
     }
@@ -122,7 +122,7 @@ pub fn verify(archive: &[u8], length: usize) {
     io::write_all(1, b"refused 7");
 }
 
-pub fn print(line: &[u8], archive: &[u8]) {
+pub(crate) fn print(line: &[u8], archive: &[u8]) {
     let from = input::number_at(line, 6);
     let to = input::number_at(line, from.next);
     show::span(archive, from.value as usize, to.value as usize);

@@ -17,7 +17,7 @@ pub struct Pdu {
     pub bytes: [u8; 520],
 }
 
-pub fn nothing() -> Held {
+pub(crate) fn nothing() -> Held {
     let bytes = [0u8; 520];
     let pdu = Pdu {
         bits: BitCount(0),
@@ -28,7 +28,13 @@ pub fn nothing() -> Held {
 }
 
 // What is held after an answer: the archive that was written, if one was.
-pub fn after(answer: Archived, pdu: Pdu, out: &[u8], archive: &mut [u8], length: usize) -> Held {
+pub(crate) fn after(
+    answer: Archived,
+    pdu: Pdu,
+    out: &[u8],
+    archive: &mut [u8],
+    length: usize,
+) -> Held {
     match answer {
         Archived::Bytes(n) => {
             buffer::keep(out, archive);
@@ -39,7 +45,7 @@ pub fn after(answer: Archived, pdu: Pdu, out: &[u8], archive: &mut [u8], length:
 }
 
 // The same PDU for another SSI, which stands behind SS type, PDU type and range type.
-pub fn with_ssi(p: Pdu, ssi: u32) -> Pdu {
+pub(crate) fn with_ssi(p: Pdu, ssi: u32) -> Pdu {
     let mut bytes = p.bytes;
     bits::put(&mut bytes, 15, 24, ssi);
     let bits = p.bits;
@@ -53,7 +59,7 @@ pub fn with_ssi(p: Pdu, ssi: u32) -> Pdu {
 // The answer where a line asks for more bytes than a buffer has: no call is made.
 pub const NO_CALL: u32 = 0;
 
-pub fn empty(home: u32, out: &mut [u8], room: usize) -> Archived {
+pub(crate) fn empty(home: u32, out: &mut [u8], room: usize) -> Archived {
     buffer::fill(out);
     if out.len() < room {
         return Archived::Refused(NO_CALL);
@@ -61,7 +67,13 @@ pub fn empty(home: u32, out: &mut [u8], room: usize) -> Archived {
     archive::empty(home, &mut out[0..room])
 }
 
-pub fn capture(archive: &[u8], length: usize, p: Pdu, out: &mut [u8], room: usize) -> Archived {
+pub(crate) fn capture(
+    archive: &[u8],
+    length: usize,
+    p: Pdu,
+    out: &mut [u8],
+    room: usize,
+) -> Archived {
     buffer::fill(out);
     let bytes = p.bytes;
     let bits = p.bits;
@@ -90,7 +102,7 @@ fn capture_first(
     archive::capture(&archive[0..length], &s[0..count], n, &mut out[0..room])
 }
 
-pub fn restore(
+pub(crate) fn restore(
     archive: &[u8],
     length: usize,
     network: u32,

@@ -8,7 +8,7 @@ pub struct Word {
 }
 
 // The decimal number at a place of a line: 0 where the line has ended.
-pub fn number_at(s: &[u8], at: usize) -> Word
+pub(crate) fn number_at(s: &[u8], at: usize) -> Word
     ensures { λ r. ⌜ at ≤ r .next ⌝ }
 {
     if s.len() <= at {
@@ -41,7 +41,7 @@ fn decimal(c: u8) -> u64
 }
 
 // A number as far as 32 bits go.
-pub fn narrow(n: u64) -> u32 {
+pub(crate) fn narrow(n: u64) -> u32 {
     if 4294967295 < n {
         return 4294967295;
     }
@@ -54,7 +54,7 @@ pub struct Bytes {
     pub bytes: [u8; 520],
 }
 
-pub fn bytes_at(s: &[u8], from: usize) -> Bytes {
+pub(crate) fn bytes_at(s: &[u8], from: usize) -> Bytes {
     let mut bytes = [0u8; 520];
     if s.len() < from {
         return Bytes { count: 0, bytes };
@@ -83,7 +83,7 @@ fn hexadecimal(c: u8) -> u8
     }
 }
 
-pub fn least(a: usize, b: usize) -> usize
+pub(crate) fn least(a: usize, b: usize) -> usize
     ensures { λ r. ⌜ (r ≤ a) × (r ≤ b) ⌝ }
 {
     if a < b { a } else { b }

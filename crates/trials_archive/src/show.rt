@@ -4,20 +4,20 @@ use crate::input;
 use archive::Archived;
 use archive::Restored;
 
-pub fn labelled(label: &[u8], value: u64) {
+pub(crate) fn labelled(label: &[u8], value: u64) {
     io::write_all(1, label);
     io::print_decimal(1, value);
 }
 
 // The first SSI under which nothing was captured, and the last answer.
-pub fn reached(ssi: u32, answer: Archived, out: &[u8]) {
+pub(crate) fn reached(ssi: u32, answer: Archived, out: &[u8]) {
     labelled(b"up to ", ssi as u64);
     io::write_all(1, b" ");
     archived(answer, out);
 }
 
 // Prints the bytes from one place up to another.
-pub fn span(s: &[u8], from: usize, to: usize) {
+pub(crate) fn span(s: &[u8], from: usize, to: usize) {
     let end = input::least(to, s.len());
     let mut i = from;
     while i < end {
@@ -31,7 +31,7 @@ fn byte(value: u8) {
 }
 
 // The length and the sum of the archive that was written, or the refusal number.
-pub fn archived(answer: Archived, out: &[u8]) {
+pub(crate) fn archived(answer: Archived, out: &[u8]) {
     match answer {
         Archived::Bytes(n) => {
             labelled(b"bytes ", n as u64);
@@ -43,7 +43,7 @@ pub fn archived(answer: Archived, out: &[u8]) {
 }
 
 // The length and the bytes of the PDU that was restored, or the refusal number.
-pub fn restored(answer: Restored, out: &[u8]) {
+pub(crate) fn restored(answer: Restored, out: &[u8]) {
     match answer {
         Restored::Bits(n) => {
             labelled(b"bits ", n.0 as u64);

@@ -58,7 +58,7 @@ fn is_user(line: &[u8], at: usize) -> bool {
 }
 
 // A call to an identity.
-pub fn to_identity(line: &[u8], held: Held) {
+pub(crate) fn to_identity(line: &[u8], held: Held) {
     let caller = user_at(line, 9);
     let service = input::number_at(line, caller.next);
     let called = user_at(line, service.next);
@@ -69,7 +69,7 @@ pub fn to_identity(line: &[u8], held: Held) {
 }
 
 // A call to an external number.
-pub fn to_number(line: &[u8], held: Held) {
+pub(crate) fn to_number(line: &[u8], held: Held) {
     let caller = user_at(line, 7);
     let service = input::number_at(line, caller.next);
     let length = input::number_at(line, service.next);

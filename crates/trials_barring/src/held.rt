@@ -10,13 +10,13 @@ pub struct Held {
     pub bytes: [u8; 4096],
 }
 
-pub fn no_archive() -> Held {
+pub(crate) fn no_archive() -> Held {
     let bytes = [0u8; 4096];
     Held { count: 0, bytes }
 }
 
 // The empty archive of a home network; refused, the archive before it stays.
-pub fn home(line: &[u8], held: Held) -> Held {
+pub(crate) fn home(line: &[u8], held: Held) -> Held {
     let network = input::number_at(line, 5);
     let mut bytes = [0u8; 4096];
     let answer = archive::empty(input::narrow(network.value), &mut bytes);
@@ -24,7 +24,7 @@ pub fn home(line: &[u8], held: Held) -> Held {
 }
 
 // The archive with the PDU of a line: its bit length in decimal, its bytes in hexadecimal.
-pub fn capture(line: &[u8], held: Held) -> Held {
+pub(crate) fn capture(line: &[u8], held: Held) -> Held {
     let length = input::number_at(line, 8);
     let given = input::bytes_at(line, length.next);
     let body = given.bytes;
@@ -52,7 +52,7 @@ fn after(answer: Archived, bytes: [u8; 4096], held: Held) -> Held {
 }
 
 // The archive with another value in one of its bytes; the value that stood there is printed.
-pub fn damage(line: &[u8], held: Held) -> Held {
+pub(crate) fn damage(line: &[u8], held: Held) -> Held {
     let at = input::number_at(line, 7);
     let value = input::number_at(line, at.next);
     let mut bytes = held.bytes;
@@ -67,7 +67,7 @@ pub fn damage(line: &[u8], held: Held) -> Held {
 }
 
 // The archive's first bytes, so many of them; their number before is printed.
-pub fn length(line: &[u8], held: Held) -> Held {
+pub(crate) fn length(line: &[u8], held: Held) -> Held {
     let count = input::number_at(line, 7);
     let bytes = held.bytes;
     show::labelled(b"was ", held.count as u64);

@@ -8,7 +8,7 @@ pub struct Word {
 }
 
 // The decimal number at a place of a line: 0 where the line has ended.
-pub fn number_at(s: &[u8], at: usize) -> Word {
+pub(crate) fn number_at(s: &[u8], at: usize) -> Word {
     let mut value: u64 = 0;
     let mut i = at;
     while i < s.len() {
@@ -36,7 +36,7 @@ fn decimal(c: u8) -> u64
 }
 
 // A number as far as 32 bits go.
-pub fn narrow(n: u64) -> u32 {
+pub(crate) fn narrow(n: u64) -> u32 {
     if 4294967295 < n {
         return 4294967295;
     }
@@ -44,7 +44,7 @@ pub fn narrow(n: u64) -> u32 {
 }
 
 // A number as far as 8 bits go.
-pub fn byte_of(n: u64) -> u8 {
+pub(crate) fn byte_of(n: u64) -> u8 {
     if 255 < n {
         return 255;
     }
@@ -57,7 +57,7 @@ pub struct Bytes {
     pub bytes: [u8; 520],
 }
 
-pub fn bytes_at(s: &[u8], from: usize) -> Bytes {
+pub(crate) fn bytes_at(s: &[u8], from: usize) -> Bytes {
     let mut bytes = [0u8; 520];
     if s.len() < from {
         return Bytes { count: 0, bytes };
@@ -72,7 +72,7 @@ pub fn bytes_at(s: &[u8], from: usize) -> Bytes {
 }
 
 // The digits of an external number, a hexadecimal digit each; 0 after the end of the line.
-pub fn digits_at(s: &[u8], from: usize) -> [u8; 24] {
+pub(crate) fn digits_at(s: &[u8], from: usize) -> [u8; 24] {
     let mut digits = [0u8; 24];
     if s.len() < from {
         return digits;
@@ -104,7 +104,7 @@ fn least(a: usize, b: usize) -> usize
 }
 
 // The first bytes, so many of them.
-pub fn first(s: &[u8], count: usize) -> &[u8] {
+pub(crate) fn first(s: &[u8], count: usize) -> &[u8] {
     let end = least(count, s.len());
     &s[0..end]
 }

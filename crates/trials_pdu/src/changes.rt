@@ -18,7 +18,7 @@ pub struct Change {
 }
 
 // The record with each change of a line, from a place of it on.
-pub fn changed_by(r: Record, line: &[u8], from: usize) -> Record {
+pub(crate) fn changed_by(r: Record, line: &[u8], from: usize) -> Record {
     let mut record = r;
     let mut at = from;
     while at < line.len() {
@@ -38,7 +38,7 @@ pub fn changed_by(r: Record, line: &[u8], from: usize) -> Record {
 }
 
 // The record with one value changed, in the element or list of that name.
-pub fn changed(r: Record, name: &[u8], to: Change) -> Record {
+pub(crate) fn changed(r: Record, name: &[u8], to: Change) -> Record {
     let users = r.affected;
     let provided = r.services;
     let held = r.lists;

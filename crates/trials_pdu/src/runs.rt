@@ -10,7 +10,7 @@ pub struct Run {
 
 const NONE: u32 = 4294967295;
 
-pub fn no_run() -> Run {
+pub(crate) fn no_run() -> Run {
     Run {
         first: 0,
         last: 0,
@@ -19,7 +19,7 @@ pub fn no_run() -> Run {
 }
 
 // The run that goes on with one more answer, or the next one, after this one is printed.
-pub fn and_then(run: Run, at: usize, answer: u32) -> Run {
+pub(crate) fn and_then(run: Run, at: usize, answer: u32) -> Run {
     if run.answer == answer {
         return Run {
             first: run.first,
@@ -35,7 +35,7 @@ pub fn and_then(run: Run, at: usize, answer: u32) -> Run {
     }
 }
 
-pub fn print(run: Run) {
+pub(crate) fn print(run: Run) {
     if run.answer == NONE {
         return;
     }

@@ -9,7 +9,7 @@ use grammar::record::Services;
 use grammar::site;
 use grammar::site::Digit;
 
-pub fn record(r: Record) {
+pub(crate) fn record(r: Record) {
     if r.kind == 11 {
         io::write_all(1, b"interrogate");
         let affected = r.affected;
@@ -55,7 +55,7 @@ fn number_part(lists: Lists) {
     numbers(b" excepted ", excepted);
 }
 
-pub fn labelled(label: &[u8], value: u32) {
+pub(crate) fn labelled(label: &[u8], value: u32) {
     io::write_all(1, label);
     io::print_decimal(1, value as u64);
 }

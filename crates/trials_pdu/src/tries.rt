@@ -14,7 +14,7 @@ pub struct Pdu {
     pub bytes: [u8; 520],
 }
 
-pub fn no_pdu() -> Pdu {
+pub(crate) fn no_pdu() -> Pdu {
     let bytes = [0u8; 520];
     Pdu {
         bits: BitCount(0),
@@ -35,7 +35,7 @@ fn pdu_of(line: &[u8]) -> Pdu {
     }
 }
 
-pub fn reading(p: Pdu) -> Reading {
+pub(crate) fn reading(p: Pdu) -> Reading {
     let bytes = p.bytes;
     let bits = p.bits;
     read_first(&bytes, p.count, bits)
@@ -49,7 +49,7 @@ fn read_first(s: &[u8], count: usize, n: BitCount) -> Reading {
     pdu::read(&s[0..count], n)
 }
 
-pub fn read(line: &[u8]) -> Pdu {
+pub(crate) fn read(line: &[u8]) -> Pdu {
     let p = pdu_of(line);
     let read = reading(p);
     let answer = read.answer;
@@ -86,7 +86,7 @@ fn first_bits(p: Pdu, n: usize) -> Pdu {
     }
 }
 
-pub fn cut(p: Pdu) {
+pub(crate) fn cut(p: Pdu) {
     let length = p.bits;
     let end = input::least(length.0, 4096);
     let mut run = runs::no_run();
@@ -110,7 +110,7 @@ fn with_element(p: Pdu, at: usize, width: usize, value: u32) -> Pdu {
     }
 }
 
-pub fn each(p: Pdu, line: &[u8]) {
+pub(crate) fn each(p: Pdu, line: &[u8]) {
     let at = input::number_at(line, 5);
     let width = input::number_at(line, at.next);
     every_value(p, at.value as usize, width.value as usize);
@@ -130,7 +130,7 @@ fn every_value(p: Pdu, at: usize, width: usize) {
     runs::print(run);
 }
 
-pub fn put(p: Pdu, line: &[u8]) {
+pub(crate) fn put(p: Pdu, line: &[u8]) {
     let width = input::number_at(line, 4);
     let value = input::number_at(line, width.next);
     every_place(p, width.value as usize, input::narrow(value.value));

@@ -66,7 +66,7 @@ fn is_copy(p: Pdu, n: BitCount, out: &[u8]) -> bool {
 }
 
 // The record of an accepted PDU, written again.
-pub fn again(p: Pdu, found: Record) {
+pub(crate) fn again(p: Pdu, found: Record) {
     let copied = copy_of(found, 512);
     let answer = copied.answer;
     let out = copied.out;
@@ -83,7 +83,7 @@ pub fn again(p: Pdu, found: Record) {
     }
 }
 
-pub fn write(p: Pdu, line: &[u8]) {
+pub(crate) fn write(p: Pdu, line: &[u8]) {
     let room = input::number_at(line, 6);
     let read = tries::reading(p);
     let found = read.found;
@@ -155,7 +155,7 @@ fn answer(r: Record) -> u32 {
     number(answer, &out)
 }
 
-pub fn sweep(p: Pdu, line: &[u8]) {
+pub(crate) fn sweep(p: Pdu, line: &[u8]) {
     if line.len() < 6 {
         return;
     }
