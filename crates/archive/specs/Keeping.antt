@@ -16,14 +16,10 @@ use Rattle.archive.specs.declared.contents.Entry.{Entry}
 use Rattle.archive.specs.declared.Archived.{Archived}
 use Rattle.archive.specs.declared.Archived.the-variants.{Bytes, Refused}
 
--- the paper's number of an answer, 0 for success, and its length in bytes, 0 for a refusal
+-- the paper's number of an answer, 0 for success
 abbrev pub archivedNumber : Archived → ℕ
 archivedNumber (Bytes n) = 0
 archivedNumber (Refused k) = k
-
-abbrev pub archivedBytes : Archived → ℕ
-archivedBytes (Bytes n) = n
-archivedBytes (Refused k) = 0
 
 -- these bytes first, and the buffer's own after them
 abbrev pub over : List ℕ → List ℕ → List ℕ

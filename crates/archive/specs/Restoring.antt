@@ -32,14 +32,10 @@ fetchIs b network ssi part =
 
 -- ---- restore
 
--- the paper's number of an answer, 0 for success, and its length in bits, 0 for a refusal
+-- the paper's number of an answer, 0 for success
 abbrev pub restoredNumber : Restored → ℕ
 restoredNumber (Bits n) = 0
 restoredNumber (Refused k) = k
-
-abbrev pub restoredBits : Restored → ℕ
-restoredBits (Bits n) = n .0
-restoredBits (Refused k) = 0
 
 -- the PDU held for a key
 abbrev pub lookup : ℕ → List Held → Option Held
