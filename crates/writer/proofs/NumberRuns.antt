@@ -6,14 +6,14 @@ use Prim.Native.Nat.{ℕ, zero, suc, _+_, _-_, _*_, _/_, _%_, _^_, _≤_, _<_, m
 use native.Mathlib.Nat.{zero-add, add-zero}
 use native.Mathlib.Numerals.{add-one}
 use native.Mathlib.Omega.{arith}
-use lib.ListN.{length, take, drop, getD, length-append, length-map, length-drop, take-append-drop, drop-of-length-le}
-use lib.Seq.{take-nil, take-at, take-all, take-add, take-suc, take-take, length-take-le}
+use lib.ListN.{length, take, drop, getD, length-append, length-map, length-drop, take-append-drop}
+use lib.Seq.{take-nil, take-at, take-add, take-suc, take-take, length-take-le}
 use lib.Dec.{leb}
 use borrow.Author.Tests.{leb-true, leb-false}
 use mir.Val.{Val}
 use denote.Laws.{Is}
 use denote.Struct.Declared.{row}
-use Rattle.bits.specs.Bits.{bits, bitsOf}
+use Rattle.bits.specs.Bits.{bitsOf}
 use Rattle.bits.proofs.Numbers.{length-bitsOf, bitsOf-add}
 use Rattle.codec.specs.Parts.{number, absent, element, seq, tested, shaped}
 use Rattle.codec.specs.Places.{nil, cons, places}
@@ -21,6 +21,7 @@ use Rattle.grammar.specs.SiteSheet.{digitRefusal}
 use Rattle.grammar.specs.Grammar.{external}
 use Rattle.grammar.specs.declared.record.Number.{Number}
 use Rattle.grammar.proofs.record.Number as number-type
+use Rattle.tally.proofs.Digits.{take-least}
 use Rattle.writer.specs.Writing.{digitBits, DigitsAfter}
 use Rattle.writer.proofs.Runs.{bitsOf-join}
 
@@ -31,7 +32,7 @@ unfolding digitBits
 digitBits-append [] b = refl
 digitBits-append (d ∷ a) b = ap (λ (l : List Bool). bitsOf 4 d ++ l) (digitBits-append a b) ∙ sym (append-assoc (bitsOf 4 d) (digitBits a) (digitBits b))
 
-pub length-digitBits : (l : List ℕ) → length (digitBits l) ≡ 4 * length l
+length-digitBits : (l : List ℕ) → length (digitBits l) ≡ 4 * length l
 unfolding digitBits
 length-digitBits [] = refl
 length-digitBits (d ∷ l) = omega (arith, length-append (bitsOf 4 d) (digitBits l), length-bitsOf 4 d, length-digitBits l)
@@ -82,37 +83,13 @@ fewer-digits t k start run few long whole w =
 pub digits-length : (x : Number) (vs : List Val) → Is (row number-type.the-type) x vs → length (x .digits) ≡ 24
 digits-length x vs t = sym (length-map (x .digits) (λ v. v)) ∙ t .1 .1 .1 .0 .1 .0 .1
 
-pub print-digits : (m n : ℕ) (l : List ℕ) → length l ≡ m → places (element 4 digitRefusal) absent m n .print l ≡ digitBits (take n l)
+print-digits : (m n : ℕ) (l : List ℕ) → length l ≡ m → places (element 4 digitRefusal) absent m n .print l ≡ digitBits (take n l)
 unfolding places cons nil element tested number absent digitBits
 print-digits zero n [] e = ap digitBits (sym (take-nil n))
 print-digits zero n (d ∷ l) e = absurd (omega arith)
 print-digits (suc m) n [] e = absurd (omega arith)
 print-digits (suc m) zero (d ∷ l) e = print-digits m zero l (omega arith)
 print-digits (suc m) (suc n) (d ∷ l) e = ap (λ (x : List Bool). bitsOf 4 d ++ x) (print-digits m n l (omega arith))
-
--- no more are taken or dropped than there are
-module _ (n : ℕ) (l : List ℕ) where
-  pub take-least : take (min n (length l)) l ≡ take n l
-  take-least = go (leb n (length l)) refl where
-    go : (b : Bool) → leb n (length l) ≡ b → take (min n (length l)) l ≡ take n l
-    go true e =
-        let le = leb-true n (length l) e in
-        let same : min n (length l) ≡ n = omega arith in
-        ap (λ (i : ℕ). take i l) same
-    go false e =
-        let gt = leb-false n (length l) e in
-        take-all (min n (length l)) l (omega arith) ∙ sym (take-all n l (omega arith))
-
-  pub drop-least : drop (min n (length l)) l ≡ drop n l
-  drop-least = go (leb n (length l)) refl where
-    go : (b : Bool) → leb n (length l) ≡ b → drop (min n (length l)) l ≡ drop n l
-    go true e =
-        let le = leb-true n (length l) e in
-        let same : min n (length l) ≡ n = omega arith in
-        ap (λ (i : ℕ). drop i l) same
-    go false e =
-        let gt = leb-false n (length l) e in
-        drop-of-length-le l {i = min n (length l)} (omega arith) ∙ sym (drop-of-length-le l {i = n} (omega arith))
 
 -- the first n of 24 digits, in two halves
 halves : (n early late : ℕ) (l : List ℕ) → length l ≡ 24 → early ≡ min n 12 → early + late ≡ min n 24 → take n l ≡ take early l ++ take late (drop 12 l)

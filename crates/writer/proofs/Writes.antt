@@ -12,10 +12,10 @@ use Rattle.codec.specs.Codec.{first}
 use Rattle.codec.specs.Parts.{isZero, first-none}
 use Rattle.grammar.specs.SiteSheet.{kindRefusal}
 use Rattle.grammar.specs.Grammar.{pdu}
+use Rattle.tally.proofs.Parts.{and-false, not-zero}
 use Rattle.writer.specs.Write.{recordRefusal, lengthOf, writeRefusal, written}
 use Rattle.grammar.specs.declared.record.Record.{Record}
 use Rattle.writer.specs.declared.Written.the-variants.{Bits, Refused}
-use Rattle.writer.proofs.Writing.{and-false, not-zero}
 
 module _ (r : Record) (room : ℕ) where
   pub other-kind : (kindRefusal (r .kind) ≡ 0 → ⊥) → writeRefusal r room ≡ 3
@@ -40,6 +40,10 @@ module _ (r : Record) (room : ℕ) where
       go false e h = absurd (omega arith)
 
 -- ---- the answer of a refusal number
+
+pub written-first : (bits m n : ℕ) → (m ≡ 0 → ⊥) → written bits (first m n) ≡ Refused m
+written-first bits zero n h = absurd (h refl)
+written-first bits (suc m) n h = refl
 
 pub written-some : (bits n : ℕ) → (n ≡ 0 → ⊥) → written bits n ≡ Refused n
 written-some bits zero h = absurd (h refl)

@@ -1,13 +1,11 @@
 // A record written as a PDU into a lent buffer. Everything is checked before the first bit is stored, so a refusal changes no byte.
 mod put;
-mod tally;
 
 use crate::put::put_record;
-use crate::tally::first_refusal;
-use crate::tally::tally_record;
 use bits::BitCount;
 use grammar::record::Record;
 use grammar::site::kind_refusal;
+use tally::tally_record;
 ghost use mathlib.Core.Path.{_≡_};
 ghost use mathlib.Core.List.{_++_};
 ghost use Prim.Native.Nat.{_≤_};
@@ -49,11 +47,15 @@ fn checked(r: Record, room: usize) -> Written
         return Written::Refused(3);
     }
     let length = BitCount(sum.bits);
-    let refusal = first_refusal(sum.refusal, room_refusal(room, length));
-    if refusal == 0 {
-        return Written::Bits(length);
+    let fault = sum.refusal;
+    let short = room_refusal(room, length);
+    if fault != 0 {
+        return Written::Refused(fault);
     }
-    Written::Refused(refusal)
+    if short != 0 {
+        return Written::Refused(short);
+    }
+    Written::Bits(length)
 }
 
 // 8 for a buffer that has not the bytes which hold a PDU of this length.

@@ -10,7 +10,7 @@ use Rattle.bits.specs.Frame.{bytesFor}
 use Rattle.codec.specs.Codec.{first}
 use Rattle.writer.specs.Write.{lengthOf, writeRefusal, written}
 use Rattle.writer.specs.declared.Written.the-variants.{Bits}
-use Rattle.writer.proofs.Writes.{other-kind, not-clean, then-fault, written-some}
+use Rattle.writer.proofs.Writes.{other-kind, not-clean, then-fault, written-first, written-some}
 use Rattle.writer.proofs.checked.Statement.{statement}
 use Rattle.writer.proofs.checked.Tie as tie
 
@@ -28,29 +28,41 @@ returns-2 c =
 size : (c : tie.After-tally-record) → c .tally-record .result .bits ≡ lengthOf (c .before .before .before .args .r)
 size c = c .tally-record .ensures .bits ∙ zero-add (lengthOf (c .before .before .before .args .r))
 
--- the refusal number that is computed
-given : (c : tie.After-first-refusal) →
-    let a = c .before .before .before .before .before .before .before .args in
-    c .first-refusal .result ≡ writeRefusal (a .r) (a .room)
+-- the first fault, then the room
+given : (c : tie.After-room-refusal) →
+    let t = c .before .before .before in
+    let a = t .before .before .before .args in
+    writeRefusal (a .r) (a .room) ≡ first (t .tally-record .result .refusal) (c .room-refusal .result)
 given c =
-    let d = c .before .before in
+    let d = c .before in
     let t = d .before .before in
     let k = t .before in
     let a = k .before .before .args in
-    c .first-refusal .ensures
-    ∙ ap₂ first (t .tally-record .ensures .refusal) (c .before .room-refusal .ensures ∙ ap (λ (n : ℕ). pick (leb (bytesFor n) (a .room)) 0 8) (size t))
-    ∙ sym (then-fault (a .r) (a .room) (sym (k .before .kind-refusal .ensures) ∙ k .if1 .left) (sym (t .tally-record .ensures .clean) ∙ not-false _ (d .if2 .left)))
+    then-fault (a .r) (a .room) (sym (k .before .kind-refusal .ensures) ∙ k .if1 .left) (sym (t .tally-record .ensures .clean) ∙ not-false _ (d .if2 .left))
+    ∙ sym (ap₂ first (t .tally-record .ensures .refusal) (c .room-refusal .ensures ∙ ap (λ (n : ℕ). pick (leb (bytesFor n) (a .room)) 0 8) (size t)))
 
 returns-3 : tie.Need-returns-3
 returns-3 c =
-    let t = c .before .before .before .before .before in
-    ap (λ (n : ℕ). Bits (record { 0 = n })) (size t)
-    ∙ sym (ap (written (lengthOf (t .before .before .before .args .r))) (sym (given (c .before)) ∙ c .if3 .taken))
+    let g = c .before in
+    let t = g .before .before .before in
+    let n : ℕ = lengthOf (t .before .before .before .args .r) in
+    sym (ap (written n) (given g) ∙ written-first n (t .tally-record .result .refusal) (g .room-refusal .result) (c .if3 .taken))
+
+-- where there is no fault
+faultless : (c : tie.Else3) → let a = c .before .before .before .before .before .before .before .args in writeRefusal (a .r) (a .room) ≡ c .before .room-refusal .result
+faultless c = given (c .before) ∙ ap (λ (n : ℕ). first n (c .before .room-refusal .result)) (c .if3 .left)
 
 returns-4 : tie.Need-returns-4
 returns-4 c =
-    let a = c .before .before .before .before .before .before .before .before .args in
-    sym (written-some (lengthOf (a .r)) (c .before .first-refusal .result) (c .if3 .left)) ∙ ap (written (lengthOf (a .r))) (given (c .before))
+    let g = c .before .before in
+    let n : ℕ = lengthOf (g .before .before .before .before .before .before .args .r) in
+    sym (ap (written n) (faultless (c .before)) ∙ written-some n (g .room-refusal .result) (c .if4 .taken))
+
+returns-5 : tie.Need-returns-5
+returns-5 c =
+    let t = c .before .before .before .before .before in
+    ap (λ (n : ℕ). Bits (record { 0 = n })) (size t)
+    ∙ sym (ap (written (lengthOf (t .before .before .before .args .r))) (faultless (c .before) ∙ c .if4 .left))
 
 pub checked-spec : {M : Type 1} → statement M
 checked-spec =
@@ -61,6 +73,6 @@ checked-spec =
     (λ c κs. search needs)
     returns-2
     (λ c κs. search needs)
-    (λ c κs. search needs)
     returns-3
-    returns-4)
+    returns-4
+    returns-5)

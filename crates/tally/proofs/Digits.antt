@@ -1,0 +1,143 @@
+-- What the digits of a number come to: none used is above 12, and none unused above 0. Assumes nothing.
+use mathlib.Core.Path.{_≡_, refl, sym, ap, ap₂, _∙_}
+use mathlib.Core.Bool.{Bool, true, false, _&&_}
+use mathlib.Core.List.{List, [], _∷_}
+use Prim.Native.Nat.{ℕ, zero, suc, _+_, _*_, _≤_, _<_, min}
+use native.Mathlib.Numerals.{add-one}
+use native.Mathlib.Omega.{arith}
+use lib.ListN.{length, take, drop, getD, length-append, drop-of-length-le}
+use lib.Seq.{slice, slice-cons, slice-empty, take-all, take-nil, drop-nil}
+use lib.Dec.{leb, ltb, eqb}
+use borrow.Author.Tests.{leb-true, leb-false, lt-leb, lt-ltb, eqb-false, eq-eqb, ne-eqb}
+use Rattle.bits.specs.Bits.{pick, bitsOf}
+use Rattle.bits.proofs.Numbers.{length-bitsOf}
+use Rattle.codec.specs.Codec.{first}
+use Rattle.codec.specs.Parts.{isZero, numberFault, number, absent, element, tested}
+use Rattle.codec.specs.Places.{nil, cons, places}
+use Rattle.grammar.specs.SiteSheet.{digitOf, digitRefusal}
+use Rattle.tally.specs.Tally.{Tallies, noneAbove}
+use Rattle.tally.specs.declared.Tally.{Tally}
+use Rattle.tally.proofs.Parts.{and-true, and-assoc}
+
+-- ---- one digit
+
+module _ (d : ℕ) where
+  third : (b : Bool) → d ≤ 12 → leb d 9 ≡ false → eqb d 10 ≡ false → eqb d 11 ≡ b → digitRefusal d ≡ 0
+  unfolding digitRefusal digitOf
+  third true h e f g = rw (e, f, g)
+  third false h e f g = rw (e, f, g, eq-eqb d 12 (omega (arith, leb-false d 9 e, eqb-false d 10 f, eqb-false d 11 g)))
+
+  second : (b : Bool) → d ≤ 12 → leb d 9 ≡ false → eqb d 10 ≡ b → digitRefusal d ≡ 0
+  unfolding digitRefusal digitOf
+  second true h e f = rw (e, f)
+  second false h e f = third (eqb d 11) h e f refl
+
+  legal : (b : Bool) → d ≤ 12 → leb d 9 ≡ b → digitRefusal d ≡ 0
+  unfolding digitRefusal digitOf
+  legal true h e = rw e
+  legal false h e = second (eqb d 10) h e refl
+
+  refused : 12 < d → digitRefusal d ≡ 3
+  unfolding digitRefusal digitOf
+  refused h = rw (lt-leb d 9 (omega arith), ne-eqb d 10 (omega arith), ne-eqb d 11 (omega arith), ne-eqb d 12 (omega arith))
+
+first-three : (b : Bool) → first (pick {A = ℕ} b 0 3) 3 ≡ 3
+first-three true = refl
+first-three false = refl
+
+digit-fault : (d : ℕ) → first (numberFault 4 d) (digitRefusal d) ≡ pick (leb d 12) 0 3
+digit-fault d = go (leb d 12) refl where
+  go : (b : Bool) → leb d 12 ≡ b → first (numberFault 4 d) (digitRefusal d) ≡ pick b 0 3
+  go true e = let h = leb-true d 12 e in rw (lt-ltb d 16 (omega arith)) (legal d (leb d 9) h refl)
+  go false e = ap (first (numberFault 4 d)) (refused d (leb-false d 12 e)) ∙ first-three (ltb d 16)
+
+zero-leb : (d : ℕ) → isZero d ≡ leb d 0
+zero-leb zero = refl
+zero-leb (suc d) = sym (lt-leb (suc d) 0 (omega arith))
+
+-- ---- all of them
+
+first-both : (a b : Bool) → first (pick {A = ℕ} a 0 3) (pick b 0 3) ≡ pick (a && b) 0 3
+first-both true b = refl
+first-both false b = refl
+
+digits-fault : (m n : ℕ) (l : List ℕ) → length l ≡ m → places (element 4 digitRefusal) absent m n .fault l ≡ pick (noneAbove 12 (take n l)) 0 3
+unfolding places cons nil element tested number absent noneAbove
+digits-fault zero n [] e = ap (λ (l : List ℕ). pick {A = ℕ} (noneAbove 12 l) 0 3) (sym (take-nil n))
+digits-fault zero n (d ∷ l) e = absurd (omega arith)
+digits-fault (suc m) n [] e = absurd (omega arith)
+digits-fault (suc m) zero (d ∷ l) e = digits-fault m zero l (omega arith)
+digits-fault (suc m) (suc n) (d ∷ l) e = ap₂ first (digit-fault d) (digits-fault m n l (omega arith)) ∙ first-both (leb d 12) (noneAbove 12 (take n l))
+
+digits-clean : (m n : ℕ) (l : List ℕ) → length l ≡ m → places (element 4 digitRefusal) absent m n .clean l ≡ noneAbove 0 (drop n l)
+unfolding places cons nil element tested number absent noneAbove
+digits-clean zero n [] e = ap (noneAbove 0) (sym (drop-nil n))
+digits-clean zero n (d ∷ l) e = absurd (omega arith)
+digits-clean (suc m) n [] e = absurd (omega arith)
+digits-clean (suc m) zero (d ∷ l) e = ap₂ (λ (a b : Bool). a && b) (zero-leb d) (digits-clean m zero l (omega arith))
+digits-clean (suc m) (suc n) (d ∷ l) e = digits-clean m n l (omega arith)
+
+digits-size : (m n : ℕ) (l : List ℕ) → length l ≡ m → length (places (element 4 digitRefusal) absent m n .print l) ≡ 4 * min n m
+unfolding places cons nil element tested number absent
+digits-size zero n [] e = omega arith
+digits-size zero n (d ∷ l) e = absurd (omega arith)
+digits-size (suc m) n [] e = absurd (omega arith)
+digits-size (suc m) zero (d ∷ l) e = omega (arith, digits-size m zero l (omega arith))
+digits-size (suc m) (suc n) (d ∷ l) e =
+    omega (arith, digits-size m n l (omega arith), length-append (bitsOf 4 d) (places (element 4 digitRefusal) absent m n .print l), length-bitsOf 4 d)
+
+-- ---- a loop that tests them
+
+pub none-more : (most i to : ℕ) (l : List ℕ) (b : Bool) → i < to → to ≤ length l
+    → (b && leb (getD l i 0) most) && noneAbove most (slice (i + 1) to l) ≡ b && noneAbove most (slice i to l)
+unfolding noneAbove
+none-more most i to l b h k =
+    let next : slice i to l ≡ getD l i 0 ∷ slice (i + 1) to l = slice-cons i to l 0 h k ∙ ap (λ (n : ℕ). getD l i 0 ∷ slice n to l) (sym (add-one i)) in
+    and-assoc b (leb (getD l i 0) most) (noneAbove most (slice (i + 1) to l)) ∙ ap (λ (x : List ℕ). b && noneAbove most x) (sym next)
+
+pub none-left : (most to : ℕ) (l : List ℕ) (b : Bool) → b && noneAbove most (slice to to l) ≡ b
+unfolding noneAbove
+none-left most to l b = ap (λ (x : List ℕ). b && noneAbove most x) (slice-empty to l) ∙ and-true b
+
+-- ---- what they come to
+
+-- no more are taken or dropped than there are
+module _ (n : ℕ) (l : List ℕ) where
+  pub take-least : take (min n (length l)) l ≡ take n l
+  take-least = go (leb n (length l)) refl where
+    go : (b : Bool) → leb n (length l) ≡ b → take (min n (length l)) l ≡ take n l
+    go true e =
+        let le = leb-true n (length l) e in
+        let same : min n (length l) ≡ n = omega arith in
+        ap (λ (i : ℕ). take i l) same
+    go false e =
+        let gt = leb-false n (length l) e in
+        take-all (min n (length l)) l (omega arith) ∙ sym (take-all n l (omega arith))
+
+  pub drop-least : drop (min n (length l)) l ≡ drop n l
+  drop-least = go (leb n (length l)) refl where
+    go : (b : Bool) → leb n (length l) ≡ b → drop (min n (length l)) l ≡ drop n l
+    go true e =
+        let le = leb-true n (length l) e in
+        let same : min n (length l) ≡ n = omega arith in
+        ap (λ (i : ℕ). drop i l) same
+    go false e =
+        let gt = leb-false n (length l) e in
+        drop-of-length-le l {i = min n (length l)} (omega arith) ∙ sym (drop-of-length-le l {i = n} (omega arith))
+
+pub digits-tallied : (n k : ℕ) (l : List ℕ) (start : Tally) (clean legal : Bool) → length l ≡ 24 → k ≡ min n 24
+    → legal ≡ noneAbove 12 (slice 0 k l) → clean ≡ noneAbove 0 (slice k 24 l)
+    → (r : Tally) → r .clean ≡ start .clean && clean → r .refusal ≡ first (start .refusal) (pick legal 0 3) → r .bits ≡ start .bits + 4 * k
+    → Tallies (places (element 4 digitRefusal) absent 24 n) l start r
+digits-tallied n k l start clean legal full few hl hc r rc rr rb =
+    let used : k ≡ min n (length l) = omega arith in
+    let early : take k l ≡ take n l = ap (λ (i : ℕ). take i l) used ∙ take-least n l in
+    let late : slice k 24 l ≡ drop n l = ap (drop k) (take-all 24 l (omega arith)) ∙ ap (λ (i : ℕ). drop i l) used ∙ drop-least n l in
+    let fault : pick legal 0 3 ≡ places (element 4 digitRefusal) absent 24 n .fault l =
+    ap (λ (b : Bool). pick b 0 3) (hl ∙ ap (noneAbove 12) early) ∙ sym (digits-fault 24 n l full) in
+    let zero : clean ≡ places (element 4 digitRefusal) absent 24 n .clean l = hc ∙ ap (noneAbove 0) late ∙ sym (digits-clean 24 n l full) in
+    record {
+      clean = rc ∙ ap (λ (b : Bool). start .clean && b) zero;
+      refusal = rr ∙ ap (first (start .refusal)) fault;
+      bits = omega (arith, rb, few, digits-size 24 n l full);
+    }
