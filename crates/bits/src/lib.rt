@@ -23,13 +23,6 @@ impl DigitCount {
 }
 
 impl BitCount {
-    // The whole digits in so many bits, as far as a digit count goes.
-    pub fn digits(self) -> DigitCount
-        ensures { λ r. ⌜ r .0 ≡ min (self .0 / 4) 255 ⌝ }
-    {
-        DigitCount(least(self.0 / 4, 255) as u8)
-    }
-
     // The number of bytes that hold so many bits.
     pub fn bytes(self) -> usize
         ensures { λ r. ⌜ r ≡ bytesFor (self .0) ⌝ }

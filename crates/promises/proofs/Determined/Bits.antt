@@ -7,9 +7,6 @@ use Rattle.bits.proofs.Bytes.{Bytes, bits-inj}
 pub bits-determined : Determined bits.DigitCount.bits.Kinds.ps bits.DigitCount.bits.Kinds.r bits.DigitCount.bits.Reads.Learnt
 bits-determined = by-equations (λ κs a x v p. (λ i. record { 0 = p i }, refl))
 
-pub digits-determined : Determined bits.BitCount.digits.Kinds.ps bits.BitCount.digits.Kinds.r bits.BitCount.digits.Reads.Learnt
-digits-determined = by-equations (λ κs a x v p. (λ i. record { 0 = p i }, refl))
-
 pub bytes-determined : Determined bits.BitCount.bytes.Kinds.ps bits.BitCount.bytes.Kinds.r bits.BitCount.bytes.Reads.Learnt
 bytes-determined = by-equations (λ κs a x v p. (p, refl))
 
