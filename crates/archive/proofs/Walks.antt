@@ -8,8 +8,7 @@ use native.Mathlib.Nat.{not-suc-le-zero}
 use lib.ListN.{length}
 use lib.Dec.{ltb, leb, eqb}
 use borrow.Author.Tests.{leb-true, ltb-true, eqb-true, lt-ltb, le-ltb, le-leb, eq-eqb, ne-eqb}
-use Rattle.bits.specs.Bits.{pick}
-use Rattle.bits.proofs.Bytes.{Bytes}
+use Rattle.bits.specs.Bits.{pick, Bytes}
 use Rattle.archive.specs.Model.{Held, keyOf, headerWidth, entryWidth, sizes, withinLimits}
 use Rattle.archive.specs.Filing.{bodyAgrees, keepsRules, wellFormed}
 use Rattle.archive.specs.Reading.{number2, number3, homeOf, countOf, sizeAt, heldAt, heldFrom, bodiesAt, heldIn, reading, isArchive}

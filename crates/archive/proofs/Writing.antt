@@ -7,7 +7,7 @@ use native.Mathlib.Omega.{arith}
 use lib.ListN.{length, getD, take, drop, length-append}
 use lib.Seq.{take-at, drop-at, getD-append-add}
 use borrow.Author.Tests.{eq-eqb}
-use Rattle.bits.proofs.Bytes.{Bytes}
+use Rattle.bits.specs.Bits.{Bytes}
 use Rattle.archive.specs.Model.{Held, Archive, headerWidth, entryWidth, headerBytes, entryBytes, contentsOf, bodiesOf, bytesOf, bodySize, sizes, lengthOf}
 use Rattle.archive.specs.Filing.{wellFormed}
 use Rattle.archive.specs.Reading.{number2, number3, countOf, sizeAt, heldAt, heldFrom, reading, isArchive}

@@ -10,10 +10,10 @@ use lib.Seq.{take-all, take-at, drop-at, length-take-le}
 use lib.Pow.{pow-pos}
 use lib.Dec.{eqb, leb}
 use borrow.Author.Tests.{eqb-true, eq-eqb, leb-true, le-leb}
-use Rattle.bits.specs.Bits.{value, bitsOf, bits}
-use Rattle.bits.specs.Frame.{bytesFor, bitsIn, framed, bytesOf, pack}
+use Rattle.bits.specs.Bits.{value, bitsOf, Bytes, bits}
+use Rattle.bits.specs.Frame.{bytesFor, bitsIn, framed, Framed, bytesOf, pack}
 use Rattle.bits.proofs.Numbers.{length-bitsOf, value-bitsOf, value-of-bits, bits-of-value, value-take-fits}
-use Rattle.bits.proofs.Bytes.{length-bits, Bytes, bits-inj}
+use Rattle.bits.proofs.Bytes.{length-bits, bits-inj}
 use Rattle.bits.proofs.Shares.{read-within}
 
 -- no bits are unused, where n is a whole number of bytes
@@ -35,11 +35,6 @@ last-unused s n e h =
     ∙ ap (λ (x : ℕ). x % 2 ^ m) (div-one (getD s (n / 8) 0))
 
 -- ---- the three parts of framed
-
-pub record Framed (s : List ℕ) (n : ℕ) : Type 0 where
-  pub short : n ≤ 4096
-  pub count : length s ≡ bytesFor n
-  pub unused : value (drop n (bits s)) ≡ 0
 
 parts : (a b c : Bool) → a && b && c ≡ true → (a ≡ true) × (b ≡ true) × (c ≡ true)
 parts true true c e = (refl, refl, e)

@@ -8,7 +8,7 @@ use native.Mathlib.Omega.{arith}
 use lib.ListN.{length, take, drop, length-append}
 use lib.Seq.{take-all, take-at}
 use lib.Dec.{eqb}
-use Rattle.bits.proofs.Bytes.{Bytes}
+use Rattle.bits.specs.Bits.{Bytes}
 use Rattle.archive.proofs.Tests.{and-true}
 use Rattle.barring.specs.Request.{digitsUsed}
 use Rattle.barring.specs.declared.request.Request.{Request}

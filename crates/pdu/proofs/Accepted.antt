@@ -7,7 +7,7 @@ use native.Mathlib.Omega.{arith}
 use lib.ListN.{getD}
 use lib.Dec.{ltb, eqb}
 use Rattle.bits.specs.Bits.{pick}
-use Rattle.bits.proofs.Frames.{Framed}
+use Rattle.bits.specs.Frame.{Framed}
 use Rattle.codec.specs.Codec.{Legal, first}
 use Rattle.codec.specs.Parts.{both, first-none, numberFault, narrow, number, isZero, is-zero, absent, seq, tested, element, shaped, mark, only}
 use Rattle.codec.specs.Places.{nil, cons, places}

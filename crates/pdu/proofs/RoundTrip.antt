@@ -10,10 +10,9 @@ use borrow.Author.Tests.{le-leb}
 use lib.ListN.{length, take, drop}
 use lib.Seq.{take-at}
 use lib.Dec.{leb}
-use Rattle.bits.specs.Bits.{pick}
-use Rattle.bits.specs.Frame.{bytesFor, bitsIn, framed, pack}
-use Rattle.bits.proofs.Bytes.{Bytes}
-use Rattle.bits.proofs.Frames.{Framed, framed-says, framed-is, framed-pack, length-bitsIn, length-pack, pack-bitsIn, bitsIn-pack}
+use Rattle.bits.specs.Bits.{pick, Bytes}
+use Rattle.bits.specs.Frame.{bytesFor, bitsIn, framed, Framed, pack}
+use Rattle.bits.proofs.Frames.{framed-says, framed-is, framed-pack, length-bitsIn, length-pack, pack-bitsIn, bitsIn-pack}
 use Rattle.bits.specs.declared.BitCount.{BitCount}
 use Rattle.codec.specs.Codec.{Outcome, ok, no, Legal, first}
 use Rattle.codec.specs.Parts.{both, both⁻¹, first-none, numberFault, number, seq, tested, element, shaped, mark, only, isZero}

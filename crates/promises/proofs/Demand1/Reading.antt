@@ -5,8 +5,8 @@ use mathlib.Core.List.{List, [], _∷_, append-nil}
 use Prim.Native.Nat.{ℕ}
 use native.Mathlib.Omega.{arith}
 use Rattle.bits.specs.Bits.{pick}
-use Rattle.bits.specs.Frame.{bitsIn, framed}
-use Rattle.bits.proofs.Frames.{Framed, framed-says, framed-is}
+use Rattle.bits.specs.Frame.{bitsIn, framed, Framed}
+use Rattle.bits.proofs.Frames.{framed-says, framed-is}
 use Rattle.codec.specs.Codec.{Outcome, ok, no, andThen, Right}
 use Rattle.codec.specs.Places.{isNil}
 use Rattle.codec.specs.Whole.{wholeParse}
