@@ -8,6 +8,7 @@ use lib.ListN.{length}
 use lib.Dec.{leb, eqb}
 use borrow.Author.Tests.{leb-true}
 use Rattle.bits.specs.Bits.{pick}
+use Rattle.bits.proofs.Tests.{differ, both}
 use Rattle.reader.specs.Read.{readIs}
 use Rattle.grammar.specs.declared.record.Identity.{Identity}
 use Rattle.grammar.specs.declared.record.Record.{Record}
@@ -23,7 +24,7 @@ use Rattle.archive.specs.Seeking.{EntryFits}
 use Rattle.archive.specs.declared.contents.Entry.{Entry}
 use Rattle.archive.specs.declared.filing.Filing.{Filing}
 use Rattle.archive.specs.declared.filing.Filing.the-variants.{Under, Nowhere}
-use Rattle.archive.proofs.Tests.{differ, and-true, named, is-named}
+use Rattle.archive.proofs.Tests.{named, is-named}
 
 -- ---- a body and its entry
 
@@ -87,7 +88,7 @@ unfolding bodyAgrees filingOf
 agrees-says home h e =
     let n = h .entry .bits .0 in
     let r = readIs (h .body) n .found in
-    let p = and-true (isAccepted (readIs (h .body) n .answer)) (agrees (filingOf home r n) (h .entry)) e in
+    let p = both (isAccepted (readIs (h .body) n .answer)) (agrees (filingOf home r n) (h .entry)) e in
     let q = agreed home r n (h .entry) (mayHold r) refl (p .1) in
     record {
       accepted = was-accepted (readIs (h .body) n .answer) (p .0);
@@ -110,9 +111,9 @@ agrees-is home h a =
 -- a PDU that may be held is of part 1 or 2
 pub part-is : (r : Record) → mayHold r ≡ true → (1 ≤ r .result) × (r .result ≤ 2)
 part-is r m =
-    let p = and-true (eqb (r .kind) 12) (leb 1 (r .result) && (leb (r .result) 2 && eqb (r .affected .code) 1)) m in
-    let q = and-true (leb 1 (r .result)) (leb (r .result) 2 && eqb (r .affected .code) 1) (p .1) in
-    let t = and-true (leb (r .result) 2) (eqb (r .affected .code) 1) (q .1) in
+    let p = both (eqb (r .kind) 12) (leb 1 (r .result) && (leb (r .result) 2 && eqb (r .affected .code) 1)) m in
+    let q = both (leb 1 (r .result)) (leb (r .result) 2 && eqb (r .affected .code) 1) (p .1) in
+    let t = both (leb (r .result) 2) (eqb (r .affected .code) 1) (q .1) in
     (leb-true 1 (r .result) (q .0), leb-true (r .result) 2 (t .0))
 
 pub record Fits (h : Held) : Type 0 where

@@ -9,6 +9,7 @@ use lib.Seq.{take-at}
 use lib.Dec.{leb, eqb}
 use borrow.Author.Tests.{leb-true}
 use Rattle.bits.specs.Bits.{pick}
+use Rattle.bits.proofs.Tests.{both}
 use Rattle.reader.specs.Read.{readIs}
 use Rattle.reader.specs.declared.Answer.{Answer}
 use Rattle.reader.specs.declared.Answer.the-variants as reader
@@ -18,7 +19,6 @@ use Rattle.archive.specs.Filing.{wellFormed}
 use Rattle.archive.specs.Reading.{reading, isArchive}
 use Rattle.archive.specs.Keeping.{heldFor, captured, ifAccepted, placed, captureIs, captureOut}
 use Rattle.archive.specs.declared.Archived.the-variants.{Bytes, Refused}
-use Rattle.archive.proofs.Tests.{and-true}
 use Rattle.archive.proofs.Bodies.{agrees-is, part-is}
 use Rattle.archive.proofs.Rules.{formed, is-formed}
 use Rattle.archive.proofs.Writing.{length-written, read-as-written, passes}
@@ -63,9 +63,9 @@ module _ (b s : List ℕ) (n room m : ℕ) (t : Taken b s n room m) where
   captured-formed =
       let home = reading b .home in
       let h = heldFor home s n in
-      let f = formed (reading b) (and-true (wellFormed (reading b)) (eqb (lengthOf (reading b)) (length b)) (t .archive) .0) in
+      let f = formed (reading b) (both (wellFormed (reading b)) (eqb (lengthOf (reading b)) (length b)) (t .archive) .0) in
       let a = agrees-is home h (offered-agrees home s n (t .accepted) (t .may)) in
-      let l = and-true (leb (length (captured b s n .held)) 512) (leb (lengthOf (captured b s n)) 65536) (t .limits) in
+      let l = both (leb (length (captured b s n .held)) 512) (leb (lengthOf (captured b s n)) 65536) (t .limits) in
       let part = part-is (readIs s n .found) (t .may) in
       is-formed (captured b s n)
       (record {

@@ -6,6 +6,7 @@ use Prim.Native.Nat.{ℕ, _<_, _≤_}
 use native.Mathlib.Omega.{arith}
 use lib.ListN.{length}
 use Rattle.bits.specs.Bits.{pick}
+use Rattle.bits.proofs.Tests.{and-false, both⁻¹}
 use Rattle.reader.specs.Read.{readIs}
 use Rattle.reader.specs.declared.Answer.{Answer}
 use Rattle.reader.specs.declared.Answer.the-variants as reader
@@ -19,7 +20,6 @@ use Rattle.archive.specs.declared.Archived.the-variants.{Bytes, Refused}
 use Rattle.archive.specs.declared.contents.Entry.{Entry}
 use Rattle.archive.specs.declared.filing.Filing.the-variants.{Under, Nowhere}
 use Rattle.archive.proofs.Bodies.{Agrees, was-accepted}
-use Rattle.archive.proofs.Tests.{and-false, and-both}
 use Rattle.archive.proofs.Walks.{home-is, sound}
 use lib.Dec.{leb}
 use borrow.Author.Tests.{le-leb, lt-leb}
@@ -86,7 +86,7 @@ module _ (a : Archive) (room : ℕ) where
 
   pub placed-whole : withinLimits (length (a .held)) (lengthOf a) ≡ true → lengthOf a ≤ room → Bytes (lengthOf a) ≡ placed a room
   unfolding placed
-  placed-whole e h = sym (ap (λ (p : Bool). pick p (Bytes (lengthOf a)) (Refused 8)) (and-both e (le-leb (lengthOf a) room h)))
+  placed-whole e h = sym (ap (λ (p : Bool). pick p (Bytes (lengthOf a)) (Refused 8)) (both⁻¹ e (le-leb (lengthOf a) room h)))
 
 -- what is left in the lent buffer goes by the answer
 pub capture-leaves : (b s : List ℕ) (n : ℕ) (out : List ℕ) {r : Archived} → captureIs b s n (length out) ≡ r → captureOut b s n out ≡ leaves r (bytesOf (captured b s n)) out

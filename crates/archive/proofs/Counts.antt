@@ -8,6 +8,7 @@ use lib.ListN.{length}
 use lib.Dec.{ltb, leb, eqb}
 use borrow.Author.Tests.{leb-true, leb-false, eqb-true, eqb-false, le-leb, lt-leb, le-ltb, lt-ltb}
 use Rattle.bits.specs.Bits.{pick}
+use Rattle.bits.proofs.Tests.{both}
 use Rattle.reader.specs.Read.{readIs}
 use Rattle.reader.specs.declared.Answer.the-variants as reader
 use Rattle.archive.specs.Model.{Held, keyOf, headerWidth, lengthOf}
@@ -18,7 +19,6 @@ use Rattle.archive.specs.Keeping.{put, heldFor, captured, placed, captur
 use Rattle.archive.specs.Restoring.{lookup}
 use Rattle.archive.specs.declared.Archived.{Archived}
 use Rattle.archive.specs.declared.Archived.the-variants.{Bytes, Refused}
-use Rattle.archive.proofs.Tests.{and-true}
 use Rattle.archive.proofs.Rules.{kept, formed}
 use Rattle.archive.proofs.Walks.{sound, length-heldFrom}
 use Rattle.archive.proofs.Capturing.{as-placed}
@@ -83,7 +83,7 @@ pub eight : (b s : List ℕ) (n room : ℕ) → isArchive b ≡ true → readIs 
 unfolding placed captured isArchive
 eight b s n room ok a m =
     let h = heldFor (reading b .home) s n in
-    let f = formed (reading b) (and-true (wellFormed (reading b)) (eqb (lengthOf (reading b)) (length b)) ok .0) in
+    let f = formed (reading b) (both (wellFormed (reading b)) (eqb (lengthOf (reading b)) (length b)) ok .0) in
     let size = lengthOf (captured b s n) in
     let c : leb (length (put h (reading b .held))) 512 ≡ not (fullFor b h) =
     ap (λ (k : ℕ). leb k 512) (length-put (reading b .home) 0 h (reading b .held) (f .rules)) ∙ one-too-many (length (reading b .held)) (isNone (lookup (keyOf h) (reading b .held))) (f .few)

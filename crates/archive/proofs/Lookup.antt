@@ -10,6 +10,7 @@ use lib.Dec.{ltb, leb, eqb}
 use borrow.Author.Tests.{ltb-true, ltb-false, leb-true, ne-eqb}
 use Rattle.bits.specs.Bits.{pick}
 use Rattle.bits.specs.Frame.{bytesFor}
+use Rattle.bits.proofs.Tests.{both}
 use Rattle.bits.specs.declared.BitCount.{BitCount}
 use Rattle.archive.specs.Model.{Held, keyFor, keyOf, entryWidth, bodySize, sizes}
 use Rattle.archive.specs.Filing.{keepsRules}
@@ -19,7 +20,6 @@ use Rattle.archive.specs.Seeking.{seek}
 use Rattle.archive.specs.declared.Fetched.{Fetched}
 use Rattle.archive.specs.declared.Fetched.the-variants.{Body, NotHeld, NoArchive}
 use Rattle.archive.specs.declared.checking.Place.{Place}
-use Rattle.archive.proofs.Tests.{and-true}
 use Rattle.archive.proofs.Rules.{Kept, kept}
 use Rattle.archive.proofs.Walks.{sound}
 use Rattle.archive.proofs.Placing.{placeIn}
@@ -112,7 +112,7 @@ pub record Ranged (x y part : ℕ) : Type 0 where
 pub ranged : (network ssi part : ℕ) → inRange network ssi part ≡ true → Ranged network ssi part
 unfolding inRange
 ranged network ssi part e =
-    let p = and-true (ltb network 16777216) (ltb ssi 16777216 && (leb 1 part && leb part 2)) e in
-    let q = and-true (ltb ssi 16777216) (leb 1 part && leb part 2) (p .1) in
-    let r = and-true (leb 1 part) (leb part 2) (q .1) in
+    let p = both (ltb network 16777216) (ltb ssi 16777216 && (leb 1 part && leb part 2)) e in
+    let q = both (ltb ssi 16777216) (leb 1 part && leb part 2) (p .1) in
+    let r = both (leb 1 part) (leb part 2) (q .1) in
     record { network = ltb-true _ _ (p .0); ssi = ltb-true _ _ (q .0); low = leb-true _ _ (r .0); high = leb-true _ _ (r .1) }

@@ -6,7 +6,7 @@ use mathlib.Core.List.{List, [], _∷_, _++_, append-assoc, append-nil}
 use Prim.Native.Nat.{ℕ, suc, _+_, _*_, _-_}
 use native.Mathlib.Omega.{arith}
 use lib.ListN.{length, take, drop, length-append}
-use Rattle.bits.proofs.Bytes as are
+use Rattle.bits.specs.Bits as are
 use Rattle.archive.specs.Model.{Held, keyOf, headerWidth, entryWidth, headerBytes, entryBytes, contentsOf, bodiesOf, bytesOf, bodySize, sizes, lengthOf}
 use Rattle.archive.specs.Reading.{number3, countOf, bodiesAt, heldIn, reading, isArchive}
 use Rattle.archive.specs.Keeping.{put, with}

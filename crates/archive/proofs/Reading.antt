@@ -6,7 +6,7 @@ use Prim.Native.Nat.{ℕ, zero, suc, _+_, _*_, _/_, _%_, _≤_, _<_}
 use native.Mathlib.Omega.{arith}
 use lib.ListN.{length, getD, take, drop, length-drop, take-append-drop}
 use lib.Seq.{drop-cons, drop-drop, take-add, take-all}
-use Rattle.bits.proofs.Bytes.{Bytes}
+use Rattle.bits.specs.Bits.{Bytes}
 use Rattle.archive.specs.Model.{headerWidth, entryWidth, bytes2, bytes3, headerBytes, entryBytes, contentsOf, bodiesOf, bytesOf, sizes}
 use Rattle.archive.specs.Reading.{number3, countOf, entryAt, sizeAt, heldFrom, bodiesAt, heldIn, reading, isArchive}
 use Rattle.archive.proofs.Walks.{sound, length-heldFrom}

@@ -6,9 +6,9 @@ use Prim.Native.Nat.{ℕ, _≤_, _<_}
 use lib.ListN.{length}
 use lib.Dec.{ltb, leb}
 use borrow.Author.Tests.{ltb-true, leb-true, lt-ltb, le-leb}
+use Rattle.bits.proofs.Tests.{both, both⁻¹}
 use Rattle.archive.specs.Model.{Held, Archive, keyOf, lengthOf, withinLimits}
 use Rattle.archive.specs.Filing.{agrees, bodyAgrees, keepsRules, wellFormed}
-use Rattle.archive.proofs.Tests.{and-true, and-both}
 use Rattle.archive.proofs.Bodies.{agrees-says, Fits, fits}
 
 pub data AllFit : List Held → Type 0 where
@@ -25,13 +25,13 @@ pub record Kept (home last : ℕ) (h : Held) (hs : List Held) : Type 0 where
 pub kept : (home last : ℕ) (h : Held) (hs : List Held) → keepsRules home last (h ∷ hs) ≡ true → Kept home last h hs
 unfolding keepsRules
 kept home last h hs e =
-    let p = and-true (ltb last (keyOf h)) (bodyAgrees home h && keepsRules home (keyOf h) hs) e in
-    let q = and-true (bodyAgrees home h) (keepsRules home (keyOf h) hs) (p .1) in
+    let p = both (ltb last (keyOf h)) (bodyAgrees home h && keepsRules home (keyOf h) hs) e in
+    let q = both (bodyAgrees home h) (keepsRules home (keyOf h) hs) (p .1) in
     record { rises = ltb-true _ _ (p .0); agrees = q .0; others = q .1 }
 
 pub is-kept : (home last : ℕ) (h : Held) (hs : List Held) → Kept home last h hs → keepsRules home last (h ∷ hs) ≡ true
 unfolding keepsRules
-is-kept home last h hs k = and-both (lt-ltb _ _ (k .rises)) (and-both (k .agrees) (k .others))
+is-kept home last h hs k = both⁻¹ (lt-ltb _ _ (k .rises)) (both⁻¹ (k .agrees) (k .others))
 
 pub all-fit : (home last : ℕ) (hs : List Held) → home < 16777216 → keepsRules home last hs ≡ true → AllFit hs
 all-fit home last [] h e = no-more
@@ -48,11 +48,11 @@ pub record Formed (a : Archive) : Type 0 where
 pub formed : (a : Archive) → wellFormed a ≡ true → Formed a
 unfolding wellFormed
 formed a e =
-    let p = and-true (ltb (a .home) 16777216) (withinLimits (length (a .held)) (lengthOf a) && keepsRules (a .home) 0 (a .held)) e in
-    let q = and-true (withinLimits (length (a .held)) (lengthOf a)) (keepsRules (a .home) 0 (a .held)) (p .1) in
-    let t = and-true (leb (length (a .held)) 512) (leb (lengthOf a) 65536) (q .0) in
+    let p = both (ltb (a .home) 16777216) (withinLimits (length (a .held)) (lengthOf a) && keepsRules (a .home) 0 (a .held)) e in
+    let q = both (withinLimits (length (a .held)) (lengthOf a)) (keepsRules (a .home) 0 (a .held)) (p .1) in
+    let t = both (leb (length (a .held)) 512) (leb (lengthOf a) 65536) (q .0) in
     record { home = ltb-true _ _ (p .0); few = leb-true _ _ (t .0); small = leb-true _ _ (t .1); rules = q .1 }
 
 pub is-formed : (a : Archive) → Formed a → wellFormed a ≡ true
 unfolding wellFormed
-is-formed a f = and-both (lt-ltb _ _ (f .home)) (and-both (and-both (le-leb _ _ (f .few)) (le-leb _ _ (f .small))) (f .rules))
+is-formed a f = both⁻¹ (lt-ltb _ _ (f .home)) (both⁻¹ (both⁻¹ (le-leb _ _ (f .few)) (le-leb _ _ (f .small))) (f .rules))

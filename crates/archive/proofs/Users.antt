@@ -5,12 +5,13 @@ use Prim.Native.Nat.{ℕ, _<_, _≤_}
 use native.Mathlib.Omega.{arith}
 use lib.Dec.{eqb}
 use borrow.Author.Tests.{eq-eqb, ne-eqb, lt-ltb, le-leb}
+use Rattle.bits.proofs.Tests.{differ, both⁻¹}
 use Rattle.archive.specs.Model.{keyFor}
 use Rattle.archive.specs.Restoring.{inRange}
 use Rattle.archive.specs.Seeking.{EntryFits}
 use Rattle.archive.specs.Filing.{names}
 use Rattle.archive.specs.declared.contents.Entry.{Entry}
-use Rattle.archive.proofs.Tests.{differ, and-both, named, is-named}
+use Rattle.archive.proofs.Tests.{named, is-named}
 use Rattle.archive.proofs.Lookup.{Ranged}
 
 abbrev keyOf : Entry → ℕ
@@ -47,4 +48,4 @@ names-itself e = is-named e (e .network) (e .ssi) (e .part) refl refl refl
 
 pub in-range : (network ssi part : ℕ) → network < 16777216 → ssi < 16777216 → 1 ≤ part → part ≤ 2 → inRange network ssi part ≡ true
 unfolding inRange
-in-range network ssi part n s l h = and-both (lt-ltb _ _ n) (and-both (lt-ltb _ _ s) (and-both (le-leb _ _ l) (le-leb _ _ h)))
+in-range network ssi part n s l h = both⁻¹ (lt-ltb _ _ n) (both⁻¹ (lt-ltb _ _ s) (both⁻¹ (le-leb _ _ l) (le-leb _ _ h)))

@@ -8,13 +8,12 @@ use native.Mathlib.Nat.{not-suc-le-zero}
 use lib.ListN.{length}
 use lib.Dec.{ltb, leb, eqb}
 use borrow.Author.Tests.{leb-true, ltb-true, eqb-true, lt-ltb, le-ltb, le-leb, eq-eqb, ne-eqb}
-use Rattle.bits.specs.Bits.{pick}
-use Rattle.bits.proofs.Bytes.{Bytes}
+use Rattle.bits.specs.Bits.{pick, Bytes}
+use Rattle.bits.proofs.Tests.{and-false, both}
 use Rattle.archive.specs.Model.{Held, keyOf, headerWidth, entryWidth, sizes, withinLimits}
 use Rattle.archive.specs.Filing.{bodyAgrees, keepsRules, wellFormed}
 use Rattle.archive.specs.Reading.{number2, number3, homeOf, countOf, sizeAt, heldAt, heldFrom, bodiesAt, heldIn, reading, isArchive}
 use Rattle.archive.specs.Seeking.{placeOf, seek}
-use Rattle.archive.proofs.Tests.{and-false, and-true}
 
 pub number3-small : (b : List ℕ) (at : ℕ) → Bytes b → number3 b at < 16777216
 number3-small b at y = omega (arith, y at, y (at + 1), y (at + 2))
@@ -158,10 +157,10 @@ module _ (b : List ℕ) where
 
   pub sound : isArchive b ≡ true → Sound
   sound p =
-      let q = and-true (kept total) (eqb total (length b)) (sym shape ∙ p) in
-      let r = and-true (ltb (number3 b 0) 16777216) (withinLimits (countOf b) total && keepsRules (number3 b 0) 0 (heldIn b)) (q .0) in
-      let s = and-true (withinLimits (countOf b) total) (keepsRules (number3 b 0) 0 (heldIn b)) (r .1) in
-      let t = and-true (leb (countOf b) 512) (leb total 65536) (s .0) in
+      let q = both (kept total) (eqb total (length b)) (sym shape ∙ p) in
+      let r = both (ltb (number3 b 0) 16777216) (withinLimits (countOf b) total && keepsRules (number3 b 0) 0 (heldIn b)) (q .0) in
+      let s = both (withinLimits (countOf b) total) (keepsRules (number3 b 0) 0 (heldIn b)) (r .1) in
+      let t = both (leb (countOf b) 512) (leb total 65536) (s .0) in
       let w : total ≡ length b = eqb-true total (length b) (q .1) in
       let l : total ≤ 65536 = leb-true total 65536 (t .1) in
       record { home = ltb-true _ _ (r .0); few = leb-true _ _ (t .0); small = omega arith; rules = s .1; whole = w }

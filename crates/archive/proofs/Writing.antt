@@ -7,12 +7,12 @@ use native.Mathlib.Omega.{arith}
 use lib.ListN.{length, getD, take, drop, length-append}
 use lib.Seq.{take-at, drop-at, getD-append-add}
 use borrow.Author.Tests.{eq-eqb}
-use Rattle.bits.proofs.Bytes.{Bytes}
+use Rattle.bits.specs.Bits.{Bytes}
+use Rattle.bits.proofs.Tests.{both}
 use Rattle.archive.specs.Model.{Held, Archive, headerWidth, entryWidth, headerBytes, entryBytes, contentsOf, bodiesOf, bytesOf, bodySize, sizes, lengthOf}
 use Rattle.archive.specs.Filing.{wellFormed}
 use Rattle.archive.specs.Reading.{number2, number3, countOf, sizeAt, heldAt, heldFrom, reading, isArchive}
 use Rattle.archive.specs.declared.contents.Entry.{Entry}
-use Rattle.archive.proofs.Tests.{and-true}
 use Rattle.archive.proofs.Bodies.{Fits}
 use Rattle.archive.proofs.Rules.{AllFit, and-fit, all-fit, formed}
 use Rattle.archive.proofs.Reading.{plus, written-as-read}
@@ -114,4 +114,4 @@ passes a w = rw (read-as-written a w, w) (eq-eqb _ _ (sym (length-written a w)))
 
 pub passed : (b : List ℕ) → Bytes b → isArchive b ≡ true → (wellFormed (reading b) ≡ true) × (bytesOf (reading b) ≡ b)
 unfolding isArchive
-passed b y ok = (and-true (wellFormed (reading b)) _ ok .0, written-as-read b y ok)
+passed b y ok = (both (wellFormed (reading b)) _ ok .0, written-as-read b y ok)

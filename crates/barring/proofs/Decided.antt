@@ -8,8 +8,8 @@ use lib.ListN.{length, take, drop}
 use lib.Dec.{leb, ltb}
 use Rattle.bits.specs.Bits.{pick}
 use Rattle.bits.specs.Frame.{bytesFor}
+use Rattle.bits.proofs.Tests.{both}
 use Rattle.bits.specs.declared.BitCount.{BitCount}
-use Rattle.codec.specs.Parts.{both}
 use Rattle.reader.specs.Read.{readIs}
 use Rattle.archive.specs.Reading.{homeOf, reading, isArchive}
 use Rattle.archive.specs.Restoring.{inRange, fetchIs}

@@ -1,29 +1,19 @@
 -- A loop that tests the elements of a list in order: what is left to test decides what the whole list gives. Assumes nothing.
-use mathlib.Core.Path.{_≡_, ap}
+use mathlib.Core.Path.{_≡_}
 use mathlib.Core.Bool.{Bool, true, false}
-use mathlib.Core.List.{List, [], _∷_}
-use Prim.Native.Nat.{ℕ, zero, suc, _+_, _≤_, _<_, min}
+use mathlib.Core.List.{List, []}
+use Prim.Native.Nat.{ℕ, _+_, _≤_, _<_, min}
 use native.Mathlib.Numerals.{add-one}
-use native.Mathlib.Nat.{zero-min, min-zero, suc-min-suc}
 use native.Mathlib.Omega.{arith}
 use lib.ListN.{length, getD, take, drop, length-take, drop-of-length-le}
 use lib.Dec.{eqb}
 use lib.Seq.{slice, slice-cons, take-all}
+use Rattle.bits.proofs.Lists.{take-min, drop-min}
 use Rattle.barring.specs.Search.{some, every}
 use Rattle.barring.specs.Matching.{same}
 
--- a count beyond the places there are takes them all, and leaves none
+-- a count beyond the places of an array uses them all
 module _ {A : Type 0} where
-  take-min : (n : ℕ) (l : List A) → take (min n (length l)) l ≡ take n l
-  take-min zero l = rw zero-min
-  take-min (suc n) [] = rw min-zero
-  take-min (suc n) (a ∷ l) = rw suc-min-suc (ap (λ (t : List A). a ∷ t) (take-min n l))
-
-  drop-min : (n : ℕ) (l : List A) → drop (min n (length l)) l ≡ drop n l
-  drop-min zero l = rw zero-min
-  drop-min (suc n) [] = rw min-zero
-  drop-min (suc n) (a ∷ l) = rw suc-min-suc (drop-min n l)
-
   pub take-used : (l : List A) (n : ℕ) {m u : ℕ} → length l ≡ m → u ≡ min n m → take u l ≡ take n l
   take-used l n h e = rw (e, ← h) (take-min n l)
 

@@ -6,7 +6,7 @@ use Prim.Native.Nat.{ℕ, suc, _+_, _*_, _≤_, _<_}
 use native.Mathlib.Omega.{arith}
 use lib.ListN.{length, getD, take, drop, set, length-append, length-take, length-drop, take-append-drop}
 use lib.Seq.{split-at, set-split, take-at, drop-at, length-take-le, take-append-le, drop-append-le}
-use Rattle.bits.specs.Bits.{value, bitsOf, bits, splice}
+use Rattle.bits.specs.Bits.{value, bitsOf, Bytes, bits, splice}
 use Rattle.bits.proofs.Numbers.{length-bitsOf, value-of-bits}
 
 pub length-bits : (s : List ℕ) → length (bits s) ≡ 8 * length s
@@ -56,9 +56,6 @@ take-before l at w end h k =
     ∙ take-append-le w (drop at (take end l)) (drop end l) (omega (arith, length-drop at (take end l))))
 
 -- ---- bytes with equal bits are equal
-
-abbrev pub Bytes : List ℕ → Type 0
-Bytes s = (i : ℕ) → getD s i 0 < 256
 
 byte-eq : (a b : ℕ) → a < 256 → b < 256 → bitsOf 8 a ≡ bitsOf 8 b → a ≡ b
 byte-eq a b ha hb e = sym (value-of-bits 8 a ha) ∙ ap value e ∙ value-of-bits 8 b hb

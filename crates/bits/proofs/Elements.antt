@@ -9,7 +9,7 @@ use lib.ListN.{length, take, drop, length-take}
 use lib.Dec.{leb}
 use Rattle.bits.specs.Bits.{pick, bits, value, bitsOf, splice}
 use Rattle.bits.specs.Frame.{bitsIn}
-use Rattle.bits.specs.Element.{elementAt, takeAt, roomFor, putUpTo}
+use Rattle.bits.specs.Element.{elementAt, takeAt, hasRoom, putAt}
 use Rattle.bits.specs.declared.Taken.the-variants.{Element, Short}
 use Rattle.bits.proofs.Bytes.{length-bits, take-before}
 
@@ -52,22 +52,18 @@ take-there s n at w l h k m =
 
 -- ---- put
 
-module _ (most : ℕ) (s : List ℕ) (at w : ℕ) where
-  pub room : w ≤ most → at + w ≤ 8 * length s → roomFor most s at w ≡ true
-  room h k = rw (le-leb w most h, le-leb (at + w) (8 * length s) k)
+module _ (s : List ℕ) (at w : ℕ) where
+  pub room : w ≤ 57 → at + w ≤ 8 * length s → hasRoom s at w ≡ true
+  room h k = rw (le-leb w 57 h, le-leb (at + w) (8 * length s) k)
 
-  pub no-room-wide : most < w → roomFor most s at w ≡ false
-  no-room-wide h = rw (lt-leb w most h)
+  pub no-room-wide : 57 < w → hasRoom s at w ≡ false
+  no-room-wide h = rw (lt-leb w 57 h)
 
-  pub no-room : w ≤ most → 8 * length s < at + w → roomFor most s at w ≡ false
-  no-room h k = rw (le-leb w most h, lt-leb (at + w) (8 * length s) k)
+  pub no-room : w ≤ 57 → 8 * length s < at + w → hasRoom s at w ≡ false
+  no-room h k = rw (le-leb w 57 h, lt-leb (at + w) (8 * length s) k)
 
-  pub put-there : (v : ℕ) → roomFor most s at w ≡ true → putUpTo most s at w v ≡ splice (bits s) at (bitsOf w v)
+  pub put-there : (v : ℕ) → hasRoom s at w ≡ true → putAt s at w v ≡ splice (bits s) at (bitsOf w v)
   put-there v e = rw e
 
-  pub put-nothing : (v : ℕ) → roomFor most s at w ≡ false → putUpTo most s at w v ≡ bits s
+  pub put-nothing : (v : ℕ) → hasRoom s at w ≡ false → putAt s at w v ≡ bits s
   put-nothing v e = rw e
-
-  -- an element that is narrow enough for both has the same room under a greater most
-  pub same-room : (more : ℕ) → w ≤ most → most ≤ more → roomFor more s at w ≡ roomFor most s at w
-  same-room more h k = rw (le-leb w most h, le-leb w more (omega arith))

@@ -1,7 +1,7 @@
 -- What framed says, and that a PDU's bits and its bytes decide each other. Assumes nothing.
 use mathlib.Core.Path.{_≡_, refl, sym, ap, ap₂, _∙_}
 use mathlib.Core.List.{List, [], _∷_, _++_}
-use mathlib.Core.Bool.{Bool, true, false, _&&_}
+use mathlib.Core.Bool.{Bool, true, _&&_}
 use Prim.Native.Nat.{ℕ, zero, suc, _+_, _-_, _*_, _/_, _%_, _^_, _≤_, _<_}
 use native.Mathlib.Nat.{div-one}
 use native.Mathlib.Omega.{arith}
@@ -10,10 +10,11 @@ use lib.Seq.{take-all, take-at, drop-at, length-take-le}
 use lib.Pow.{pow-pos}
 use lib.Dec.{eqb, leb}
 use borrow.Author.Tests.{eqb-true, eq-eqb, leb-true, le-leb}
-use Rattle.bits.specs.Bits.{value, bitsOf, bits}
-use Rattle.bits.specs.Frame.{bytesFor, bitsIn, framed, bytesOf, pack}
+use Rattle.bits.specs.Bits.{value, bitsOf, Bytes, bits}
+use Rattle.bits.specs.Frame.{bytesFor, bitsIn, framed, Framed, bytesOf, pack}
+use Rattle.bits.proofs.Tests.{both}
 use Rattle.bits.proofs.Numbers.{length-bitsOf, value-bitsOf, value-of-bits, bits-of-value, value-take-fits}
-use Rattle.bits.proofs.Bytes.{length-bits, Bytes, bits-inj}
+use Rattle.bits.proofs.Bytes.{length-bits, bits-inj}
 use Rattle.bits.proofs.Shares.{read-within}
 
 -- no bits are unused, where n is a whole number of bytes
@@ -36,21 +37,12 @@ last-unused s n e h =
 
 -- ---- the three parts of framed
 
-pub record Framed (s : List ℕ) (n : ℕ) : Type 0 where
-  pub short : n ≤ 4096
-  pub count : length s ≡ bytesFor n
-  pub unused : value (drop n (bits s)) ≡ 0
-
-parts : (a b c : Bool) → a && b && c ≡ true → (a ≡ true) × (b ≡ true) × (c ≡ true)
-parts true true c e = (refl, refl, e)
-parts true false c e = absurd (let z : _≡_ {A = ℕ} 0 1 = cc in omega arith)
-parts false b c e = absurd (let z : _≡_ {A = ℕ} 0 1 = cc in omega arith)
-
 pub framed-says : (s : List ℕ) (n : ℕ) → framed s n ≡ true → Framed s n
 unfolding framed
 framed-says s n e =
-    let p = parts (leb n 4096) (eqb (length s) (bytesFor n)) (eqb (value (drop n (bits s))) 0) e in
-    record { short = leb-true _ _ (p .0); count = eqb-true _ _ (p .1); unused = eqb-true _ _ (p .2) }
+    let p = both (leb n 4096 && eqb (length s) (bytesFor n)) (eqb (value (drop n (bits s))) 0) e in
+    let q = both (leb n 4096) (eqb (length s) (bytesFor n)) (p .0) in
+    record { short = leb-true _ _ (q .0); count = eqb-true _ _ (q .1); unused = eqb-true _ _ (p .1) }
 
 pub length-bitsIn : (s : List ℕ) (n : ℕ) → Framed s n → length (bitsIn n s) ≡ n
 length-bitsIn s n f = length-take-le n (bits s) (omega (arith, length-bits s, f .count))

@@ -5,7 +5,7 @@ use mathlib.Core.Bool.{Bool, true, false}
 use Prim.Native.Nat.{ℕ, zero, suc, _+_, _-_, _*_, _/_, _%_, _^_, _≤_, _<_}
 use native.Mathlib.Nat.{add-zero}
 use native.Mathlib.Omega.{arith}
-use lib.ListN.{length, take, drop, replicate, length-drop, take-append-drop, length-append, length-replicate, replicate-append-replicate}
+use lib.ListN.{length, take, drop, replicate, length-drop, drop-of-length-le, take-append-drop, length-append, length-replicate, replicate-append-replicate}
 use lib.Seq.{take-add, drop-drop, length-take-le, take-all, take-append-le, drop-append-le, take-nil, drop-nil}
 use lib.Pow.{high, low, field, shr-mod}
 use lib.Dec.{leb}
@@ -59,11 +59,6 @@ zeros-there w zero (suc at) [] = refl
 zeros-there w (suc k) (suc at) [] = zeros-there w k at [] ∙ ap (λ (x : List Bool). take w (x ++ replicate w false)) (drop-nil at)
 zeros-there w k (suc at) (b ∷ l) = zeros-there w k at l
 
-drop-past : (n : ℕ) (l : List Bool) → length l ≤ n → drop n l ≡ []
-drop-past n [] h = drop-nil n
-drop-past zero (b ∷ l) h = absurd (omega arith)
-drop-past (suc n) (b ∷ l) h = drop-past n l (omega arith)
-
 -- ---- the window
 
 bits-zeros : (k : ℕ) → bits (replicate k 0) ≡ replicate (8 * k) false
@@ -76,7 +71,7 @@ bits-zeros (suc k) =
 
 pub none-there : (s : List ℕ) (at w : ℕ) → 8 * length s ≤ at → value (take w (drop at (bits s))) ≡ 0
 unfolding value
-none-there s at w h = ap (λ (l : List Bool). value (take w l)) (drop-past at (bits s) (omega (arith, length-bits s))) ∙ ap value (take-nil w)
+none-there s at w h = ap (λ (l : List Bool). value (take w l)) (drop-of-length-le (bits s) {i = at} (omega (arith, length-bits s))) ∙ ap value (take-nil w)
 
 module _ (s : List ℕ) (at : ℕ) where
   -- zero bytes after the end change nothing
@@ -90,7 +85,7 @@ module _ (s : List ℕ) (at : ℕ) where
   pub window-after : 8 * length s ≤ at → windowAt s at ≡ 0
   unfolding windowAt
   window-after h =
-      ap (λ (l : List Bool). value (take 57 (l ++ replicate 57 false))) (drop-past at (bits s) (omega (arith, length-bits s)))
+      ap (λ (l : List Bool). value (take 57 (l ++ replicate 57 false))) (drop-of-length-le (bits s) {i = at} (omega (arith, length-bits s)))
       ∙ value-zeros 57
 
   -- any w bits of the window

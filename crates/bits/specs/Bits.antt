@@ -1,8 +1,8 @@
 -- What the bits of bytes are, most significant first, and what number a run of bits is.
-use Prim.Native.Nat.{ℕ, zero, suc, _+_, _*_, _/_, _%_, _^_}
+use Prim.Native.Nat.{ℕ, zero, suc, _+_, _*_, _/_, _%_, _^_, _<_}
 use mathlib.Core.List.{List, [], _∷_, _++_}
 use mathlib.Core.Bool.{Bool, true, false}
-use lib.ListN.{length, take, drop}
+use lib.ListN.{length, getD, take, drop}
 use lib.Dec.{eqb}
 
 -- one of two, by a test
@@ -23,6 +23,10 @@ value (b ∷ l) = bit b * 2 ^ length l + value l
 unfoldable pub bitsOf : ℕ → ℕ → List Bool
 bitsOf zero v = []
 bitsOf (suc w) v = eqb (v / 2 ^ w % 2) 1 ∷ bitsOf w v
+
+-- numbers that are bytes: each is below 256
+abbrev pub Bytes : List ℕ → Type 0
+Bytes s = (i : ℕ) → getD s i 0 < 256
 
 -- the bits of bytes: the eight bits of each, in order
 unfoldable pub bits : List ℕ → List Bool

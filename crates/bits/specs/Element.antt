@@ -21,17 +21,10 @@ takeAt s n at w = pick (leb 1 w && leb w 32) (elementAt (bitsIn n s) at w) Short
 unfoldable pub windowAt : List ℕ → ℕ → ℕ
 windowAt s at = value (take 57 (drop at (bits s) ++ replicate 57 false))
 
--- up to `most` bits, and they end within the bytes
-abbrev pub roomFor : ℕ → List ℕ → ℕ → ℕ → Bool
-roomFor most s at w = leb w most && leb (at + w) (8 * length s)
+-- room for up to 57 bits, all within the bytes
+abbrev pub hasRoom : List ℕ → ℕ → ℕ → Bool
+hasRoom s at w = leb w 57 && leb (at + w) (8 * length s)
 
 -- the bits of s with the w low bits of v at a place, if there is room
-abbrev pub putUpTo : ℕ → List ℕ → ℕ → ℕ → ℕ → List Bool
-putUpTo most s at w v = pick (roomFor most s at w) (splice (bits s) at (bitsOf w v)) (bits s)
-
--- an element has up to 32 bits
-abbrev pub hasRoom : List ℕ → ℕ → ℕ → Bool
-hasRoom = roomFor 32
-
 abbrev pub putAt : List ℕ → ℕ → ℕ → ℕ → List Bool
-putAt = putUpTo 32
+putAt s at w v = pick (hasRoom s at w) (splice (bits s) at (bitsOf w v)) (bits s)

@@ -1,5 +1,6 @@
 -- A PDU is a bit length and the bytes that hold it; refusal 1 is for what is not framed so.
-use Prim.Native.Nat.{ℕ, zero, suc, _+_, _-_, _*_, _/_}
+use mathlib.Core.Path.{_≡_}
+use Prim.Native.Nat.{ℕ, zero, suc, _+_, _-_, _*_, _/_, _≤_}
 use mathlib.Core.List.{List, [], _∷_, _++_}
 use mathlib.Core.Bool.{Bool, _&&_}
 use lib.ListN.{length, take, drop}
@@ -17,6 +18,12 @@ bitsIn n s = take n (bits s)
 -- at most 4,096 bits, exactly the bytes that hold them, and zero in the unused bits
 unfoldable pub framed : List ℕ → ℕ → Bool
 framed s n = leb n 4096 && eqb (length s) (bytesFor n) && eqb (value (drop n (bits s))) 0
+
+-- the same three as statements
+pub record Framed (s : List ℕ) (n : ℕ) : Type 0 where
+  pub short : n ≤ 4096
+  pub count : length s ≡ bytesFor n
+  pub unused : value (drop n (bits s)) ≡ 0
 
 -- k bytes of a run of bits
 unfoldable pub bytesOf : ℕ → List Bool → List ℕ

@@ -6,7 +6,7 @@ ghost use mathlib.Core.List.{_++_};
 ghost use lib.ListN.{length, take, drop, getD, replicate};
 ghost use Rattle.bits.specs.Bits.{bits, bitsOf, value, splice};
 ghost use Rattle.bits.specs.Frame.{bytesFor, framed};
-ghost use Rattle.bits.specs.Element.{takeAt, windowAt, roomFor, putUpTo, hasRoom, putAt};
+ghost use Rattle.bits.specs.Element.{takeAt, windowAt, hasRoom, putAt};
 
 // A length in bits: a PDU's.
 pub struct BitCount(pub usize);
@@ -23,13 +23,6 @@ impl DigitCount {
 }
 
 impl BitCount {
-    // The whole digits in so many bits, as far as a digit count goes.
-    pub fn digits(self) -> DigitCount
-        ensures { λ r. ⌜ r .0 ≡ min (self .0 / 4) 255 ⌝ }
-    {
-        DigitCount(least(self.0 / 4, 255) as u8)
-    }
-
     // The number of bytes that hold so many bits.
     pub fn bytes(self) -> usize
         ensures { λ r. ⌜ r ≡ bytesFor (self .0) ⌝ }
@@ -147,19 +140,10 @@ pub fn bit_at(s: &[u8], at: usize) -> usize
     ((s[at / 8] >> (7 - at % 8)) % 2) as usize
 }
 
-// Puts the `width` low bits of an element, up to 32, at `at`, and says whether there was room; without it no bit changes.
-pub fn put(buf: &mut [u8], at: usize, width: usize, element: u32) -> bool
+// Puts the `width` low bits of an element at `at`, and says whether there was room; without it no bit changes.
+// There is room for up to 57 bits: eight bytes hold so many from any place in their first on.
+pub fn put(buf: &mut [u8], at: usize, width: usize, element: u64) -> bool
     ensures { λ r. ⌜ (r ≡ hasRoom (now (buf .entry)) at width) × (bits (now (buf .exit)) ≡ putAt (now (buf .entry)) at width element) ⌝ }
-{
-    if 32 < width {
-        return false;
-    }
-    put_wide(buf, at, width, element as u64)
-}
-
-// The same for up to 57 bits: eight bytes hold so many from any place in their first on.
-pub fn put_wide(buf: &mut [u8], at: usize, width: usize, element: u64) -> bool
-    ensures { λ r. ⌜ (r ≡ roomFor 57 (now (buf .entry)) at width) × (bits (now (buf .exit)) ≡ putUpTo 57 (now (buf .entry)) at width element) ⌝ }
 {
     if 57 < width {
         return false;

@@ -8,8 +8,8 @@ use native.Mathlib.Omega.{arith}
 use lib.ListN.{length, take, drop, length-append}
 use lib.Seq.{take-all, take-at}
 use lib.Dec.{eqb}
-use Rattle.bits.proofs.Bytes.{Bytes}
-use Rattle.archive.proofs.Tests.{and-true}
+use Rattle.bits.specs.Bits.{Bytes}
+use Rattle.bits.proofs.Tests.{both}
 use Rattle.barring.specs.Request.{digitsUsed}
 use Rattle.barring.specs.declared.request.Request.{Request}
 use Rattle.boc.specs.RecordWords.{word, narrowed}
@@ -68,7 +68,7 @@ pub request-forth : (w : List ℕ) → length w ≡ 34 → areRequest w ≡ true
     → requestWords (requestFrom w) ≡ w
 unfolding requestWords requestFrom areRequest areDestination areGroup destinationFrom groupFrom
 request-forth w h are u b =
-    let a = and-true (areDestination w) (areGroup w) are in
+    let a = both (areDestination w) (areGroup w) are in
     let one : (at : ℕ) → at < 34 → word w at ∷ [] ≡ take 1 (drop at w) = λ at k. spelt-word w at (omega arith) in
     let destination =
     destination-forth (word w 3) (word w 4) (word w 5) (word w 6) u (eqb (word w 3) 1) refl (a .0)

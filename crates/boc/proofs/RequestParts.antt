@@ -8,7 +8,7 @@ use borrow.Author.Tests.{eqb-true}
 use lib.ListN.{length}
 use lib.Dec.{eqb}
 use Rattle.bits.specs.Bits.{pick}
-use Rattle.archive.proofs.Tests.{and-true}
+use Rattle.bits.proofs.Tests.{both}
 use Rattle.barring.specs.Request.{digitsUsed}
 use Rattle.barring.specs.declared.request.Destination.{Destination}
 use Rattle.barring.specs.declared.request.Destination.the-variants.{Identity, Number}
@@ -68,7 +68,7 @@ module _ (w : List ℕ) (g : Group) (e : (k : ℕ) → word w (31 + k) ≡ word 
 -- ---- from words and to them again
 
 zeros : (a b : ℕ) → eqb a 0 && eqb b 0 ≡ true → (a ≡ 0) × (b ≡ 0)
-zeros a b e = let z = and-true (eqb a 0) (eqb b 0) e in (eqb-true a 0 (z .0), eqb-true b 0 (z .1))
+zeros a b e = let z = both (eqb a 0) (eqb b 0) e in (eqb-true a 0 (z .0), eqb-true b 0 (z .1))
 
 module _ (kind network ssi used : ℕ) (h : used < 256) where
   abbrev pub choose : Bool → Destination
@@ -82,7 +82,7 @@ module _ (kind network ssi used : ℕ) (h : used < 256) where
       let none : used ≡ 0 = eqb-true used 0 (sym (or-false (eqb used 0)) ∙ rw one at e) in
       λ i. sym one i ∷ network ∷ ssi ∷ sym none i ∷ []
   destination-forth false k e =
-      let two = and-true (eqb kind 2) (eqb network 0 && eqb ssi 0) e in
+      let two = both (eqb kind 2) (eqb network 0 && eqb ssi 0) e in
       let z = zeros network ssi (two .1) in
       let byte : narrow used ≡ used = omega arith in
       λ i. sym (eqb-true kind 2 (two .0)) i ∷ sym (z .0) i ∷ sym (z .1) i ∷ byte i ∷ []
@@ -95,6 +95,6 @@ group-forth given network ssi = go (eqb given 1) refl
         → groupWords (pick p (Of (record { network = network; ssi = ssi })) NoGroup) ≡ given ∷ network ∷ ssi ∷ []
     go true k e = let one : given ≡ 1 = eqb-true given 1 k in λ i. sym one i ∷ network ∷ ssi ∷ []
     go false k e =
-        let none = and-true (eqb given 0) (eqb network 0 && eqb ssi 0) e in
+        let none = both (eqb given 0) (eqb network 0 && eqb ssi 0) e in
         let z = zeros network ssi (none .1) in
         λ i. sym (eqb-true given 0 (none .0)) i ∷ sym (z .0) i ∷ sym (z .1) i ∷ []

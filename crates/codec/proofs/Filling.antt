@@ -1,15 +1,15 @@
 -- A loop that fills the places of an array, and what it has read so far. Assumes nothing.
 use mathlib.Core.Path.{_≡_, refl, sym, ap, ap₂, _∙_}
-use mathlib.Core.Bool.{Bool}
+use mathlib.Core.Bool.{Bool, true}
 use mathlib.Core.List.{List, [], _∷_, _++_, append-assoc}
 use Prim.Native.Nat.{ℕ, zero, suc, _+_, _-_, _≤_, _<_}
 use native.Mathlib.Nat.{sub-zero}
 use native.Mathlib.Numerals.{add-one}
 use native.Mathlib.Omega.{arith}
-use lib.ListN.{length, take, drop, getD, set, replicate, length-replicate, length-set, take-append-drop}
+use lib.ListN.{length, take, drop, getD, set, replicate, length-append, length-replicate, length-set, take-append-drop}
 use lib.Seq.{drop-drop, take-suc-set, drop-set-lt}
 use Rattle.codec.specs.Codec.{Codec}
-use Rattle.codec.specs.Places.{places}
+use Rattle.codec.specs.Places.{cons, places}
 use Rattle.codec.specs.Reading.{Answer, got, refused, andNext, readAt}
 use Rattle.codec.proofs.Reading.{readAt-nil, readAt-cons}
 
@@ -116,3 +116,10 @@ module _ {A : Type 0} (c z : Codec A) (none : A) (s : List Bool) (m n from : ℕ
         r .so-far ∙ ap (behind (take i arr)) (ap (λ (q : ℕ). readAt (places c z (m - i) q) s at) last ∙ places-rest c z s none hz (m - i) at)
         ∙ ap {B = Answer (List A)} (λ (t : List A). got (take i arr ++ t) at) (sym (r .unused))
         ∙ ap {B = Answer (List A)} (λ (t : List A). got t at) (take-append-drop i arr)
+
+-- the first entry is written first
+pub first-print : {A : Type 0} (c z : Codec A) (m n : ℕ) (l : List A) (d : A) → (places c z (suc m) (suc n)) .clean l ≡ true
+    → length (c .print (getD l 0 d)) ≤ length ((places c z (suc m) (suc n)) .print l)
+unfolding places cons
+first-print c z m n [] d e = absurd (let z : _≡_ {A = ℕ} 0 1 = cc in omega arith)
+first-print c z m n (a ∷ l) d e = omega (arith, length-append (c .print a) ((places c z m n) .print l))

@@ -1,7 +1,6 @@
 pub mod Whole
 pub mod Reading
 pub mod Filling
-pub mod Entries
 pub mod Windows
 pub mod Kept
 pub mod Stopping

@@ -20,7 +20,7 @@ use Rattle.codec.specs.Codec.{Outcome, ok, no, andThen, Right, Codec, Le
 use Rattle.codec.specs.Parts.{first-none, numberFault, narrow, number, absent, seq, unless, tested, element, shaped, mark, only}
 use Rattle.codec.specs.Places.{isNil, nil, cons}
 use Rattle.codec.specs.Whole.{wholeParse}
-use Rattle.codec.specs.Reading.{Answer, got, refused, andNext, barring, answer, readAt, from, reachedOf, valueOr, elementOf, numberIs, testedIs}
+use Rattle.codec.specs.Reading.{Answer, got, refused, andNext, unlessAt, answer, readAt, from, reachedOf, valueOr, elementOf, numberIs, testedIs}
 use Rattle.codec.specs.declared.Reached.{Reached}
 use Rattle.codec.specs.declared.Reached.the-variants.{At, Refused}
 use Rattle.codec.specs.declared.NumberRead.{NumberRead}
@@ -34,9 +34,9 @@ pub next-got : {A : Type 0} (o : Answer A) → andNext o (λ a at. got a at) ≡
 next-got (got a at) = refl
 next-got (refused n p) = refl
 
-pub barring-some : {A : Type 0} (k at : ℕ) (o : Answer A) → (k ≡ 0 → ⊥) → barring k at o ≡ refused k at
-barring-some zero at o h = absurd (h refl)
-barring-some (suc k) at o h = refl
+pub unlessAt-some : {A : Type 0} (k at : ℕ) (o : Answer A) → (k ≡ 0 → ⊥) → unlessAt k at o ≡ refused k at
+unlessAt-some zero at o h = absurd (h refl)
+unlessAt-some (suc k) at o h = refl
 
 -- what is left after a part is what stands at the next place
 rest-at : {A : Type 0} (c : Codec A) (s : List Bool) (at : ℕ) (o : Outcome A) → Right (c .clean) (c .fault) (c .print) at (drop at s) o
@@ -100,13 +100,13 @@ unfolding readAt absent
 readAt-absent s at = refl
 
 pub readAt-tested : {A : Type 0} (c : Codec A) (refuse into : A → ℕ) (s : List Bool) (at : ℕ)
-    → readAt (tested c refuse into) s at ≡ andNext (readAt c s at) (λ a at′. barring (refuse a) (at + into a) (got a at′))
+    → readAt (tested c refuse into) s at ≡ andNext (readAt c s at) (λ a at′. unlessAt (refuse a) (at + into a) (got a at′))
 unfolding readAt tested
 readAt-tested {A} c refuse into s at =
     then-at c (λ a at′ s′. unless (refuse a) (at + into a) (ok a at′ s′)) s at
     ∙ ap (andNext {B = A} (answer (c .parse at (drop at s)))) (λ i a at′. unless-at (refuse a) (at + into a) a at′ (drop at′ s) i)
   where
-    unless-at : (n p : ℕ) (a : A) (at′ : ℕ) (r : List Bool) → answer (unless n p (ok a at′ r)) ≡ barring n p (got a at′)
+    unless-at : (n p : ℕ) (a : A) (at′ : ℕ) (r : List Bool) → answer (unless n p (ok a at′ r)) ≡ unlessAt n p (got a at′)
     unless-at zero p a at′ r = refl
     unless-at (suc n) p a at′ r = refl
 
@@ -211,12 +211,12 @@ number-read o e = placed-answer 0 o ∙ ap (λ (r : NumberRead). placed (r .reac
 
 -- a part that is then tested: v was read from p on, and reading then stands at q
 pub tested-from : {A : Type 0} (c : Codec A) (refuse into : A → ℕ) (s : List Bool) (p q : Reached) (v : A) → from p (readAt c s) ≡ placed q v
-    → from p (λ at. from q (λ next. barring (refuse v) (at + into v) (got v next))) ≡ from p (readAt (tested c refuse into) s)
+    → from p (λ at. from q (λ next. unlessAt (refuse v) (at + into v) (got v next))) ≡ from p (readAt (tested c refuse into) s)
 unfolding from
 tested-from c refuse into s (At d) q v e =
     sym (readAt-tested c refuse into s (d .at)
-    ∙ ap (λ o. andNext o (λ a at′. barring (refuse a) (d .at + into a) (got a at′))) e
-    ∙ next-placed q v (λ a at′. barring (refuse a) (d .at + into a) (got a at′)))
+    ∙ ap (λ o. andNext o (λ a at′. unlessAt (refuse a) (d .at + into a) (got a at′))) e
+    ∙ next-placed q v (λ a at′. unlessAt (refuse a) (d .at + into a) (got a at′)))
 tested-from c refuse into s (Refused n p) q v e = refl
 
 -- a number that is then tested is an element
@@ -226,7 +226,7 @@ pub tested-element : (w : ℕ) (refuse : ℕ → ℕ) (s : List Bool) (p : Reach
 unfolding testedIs element
 tested-element w refuse s p {read} {k} e f =
     ap numberIs
-    (ap (λ (n : ℕ). from p (λ at. from (read .reached) (λ next. barring n at (got (read .value) next)))) f
+    (ap (λ (n : ℕ). from p (λ at. from (read .reached) (λ next. unlessAt n at (got (read .value) next)))) f
     ∙ from-same p _ _ (λ at. simp add-zero)
     ∙ tested-from (number w) refuse (λ v. 0) s p (read .reached) (read .value) (number-read _ e))
 

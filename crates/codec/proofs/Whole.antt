@@ -1,6 +1,5 @@
--- Exactly the writings of legal values are accepted, each as the one value that it is the writing of. Assumes nothing.
+-- What is written of a legal value is read as that value, and whatever is read is the writing of a legal value. Assumes nothing.
 use mathlib.Core.Path.{_≡_, ap, _∙_}
-use mathlib.Core.Logic.{_↔_}
 use mathlib.Core.Bool.{Bool}
 use mathlib.Core.List.{List, [], _∷_, append-nil}
 use Prim.Native.Nat.{ℕ}
@@ -36,14 +35,3 @@ module _ {A : Type 0} (c : Codec A) where
   -- whatever is read is legal, and it was written so
   pub whole-sound : (s : List Bool) (a : A) (n : ℕ) (r : List Bool) → wholeParse c s ≡ ok a n r → Legal c a × (s ≡ c .print a)
   whole-sound s a n r e = whole-first s (c .parse 0 s) (c .sound 0 s) a n r e
-
-  -- so: exactly the writings of legal values are accepted
-  pub accepted-iff : (s : List Bool) (a : A) → (wholeParse c s ≡ ok a (length s) []) ↔ (Legal c a × (s ≡ c .print a))
-  accepted-iff s a = (whole-sound s a (length s) [], λ h. rw (h .1) (whole-reads a (h .0)))
-
-  -- and two legal values that are written alike are the same
-  pub print-unique : (a b : A) → Legal c a → Legal c b → c .print a ≡ c .print b → a ≡ b
-  print-unique a b ha hb e =
-      let p : wholeParse c (c .print b) ≡ ok a (length (c .print b)) [] = rw e at (whole-reads a ha) in
-      let q = whole-reads b hb in
-      cc

@@ -39,7 +39,11 @@ unused : shortNumber .clean (1, 1 ∷ 7 ∷ 0 ∷ []) ≡ false
 unfolding computed
 unused = refl
 
--- a refused digit comes before the end of the PDU inside the next one; a refused length before any digit
+-- a refused length comes before any digit, and a refused digit before the end of the PDU inside the next one
+bad-length : wholeParse shortNumber (bitsOf 2 0 ++ bitsOf 4 13) ≡ no 3 0
+unfolding computed
+bad-length = refl
+
 bad-digit : wholeParse shortNumber (bitsOf 2 2 ++ (bitsOf 4 13 ++ bitsOf 2 0)) ≡ no 3 2
 unfolding computed
 bad-digit = refl

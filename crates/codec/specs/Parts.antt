@@ -10,16 +10,9 @@ use lib.Seq.{take-at, drop-at, length-take-le}
 use lib.Dec.{ltb, eqb}
 use borrow.Author.Tests.{eqb-true, ltb-true, ltb-false, lt-ltb, le-ltb}
 use Rattle.bits.specs.Bits.{pick, value, bitsOf}
+use Rattle.bits.proofs.Tests.{both, both⁻¹}
 use Rattle.bits.proofs.Numbers.{length-bitsOf, value-lt, value-of-bits, bits-of-value}
 use Rattle.codec.specs.Codec.{Outcome, ok, no, andThen, first, Right, Codec}
-
-pub both : (a b : Bool) → a && b ≡ true → (a ≡ true) × (b ≡ true)
-both true b e = (refl, e)
-both false b e = absurd (let z : _≡_ {A = ℕ} 0 1 = cc in omega arith)
-
-pub both⁻¹ : (a b : Bool) → a ≡ true → b ≡ true → a && b ≡ true
-both⁻¹ true b p q = q
-both⁻¹ false b p q = p
 
 pub first-none : (m n : ℕ) → first m n ≡ 0 → (m ≡ 0) × (n ≡ 0)
 first-none zero n e = (refl, e)
@@ -122,7 +115,7 @@ module _ {A B : Type 0} (c : Codec A) (d : A → Codec B) where
       → (o : Outcome B) → Right (d a .clean) (d a .fault) (d a .print) at′ s′ o
       → Right seqClean seqFault seqPrint at s (andThen o (λ b at″ s″. ok (a, b) at″ s″))
   seq-second at s a at′ s′ h (ok b at″ s″) k = (
-    both⁻¹ _ _ (h .0) (k .0),
+    both⁻¹ (h .0) (k .0),
     first-none⁻¹ _ _ (h .1) (k .1),
     h .2 ∙ ap (λ (t : List Bool). c .print a ++ t) (k .2) ∙ sym (append-assoc (c .print a) (d a .print b) s″),
     omega (arith, h .3, k .3, length-append (c .print a) (d a .print b)),

@@ -22,9 +22,9 @@ andNext (got a at) k = k a at
 andNext (refused n at) k = refused n at
 
 -- refused with n at a place, unless n is 0
-abbrev pub barring : {A : Type 0} → ℕ → ℕ → Answer A → Answer A
-barring zero at o = o
-barring (suc n) at o = refused (suc n) at
+abbrev pub unlessAt : {A : Type 0} → ℕ → ℕ → Answer A → Answer A
+unlessAt zero at o = o
+unlessAt (suc n) at o = refused (suc n) at
 
 abbrev pub answer : {A : Type 0} → Outcome A → Answer A
 answer (ok a at r) = got a at
@@ -61,4 +61,4 @@ numberIs o = record { reached = reachedOf o; value = valueOr 0 o }
 
 -- a number that was read from a place on, under a refusal number
 unfoldable pub testedIs : Reached → NumberRead → ℕ → NumberRead
-testedIs start read k = numberIs (from start (λ at. from (read .reached) (λ next. barring k at (got (read .value) next))))
+testedIs start read k = numberIs (from start (λ at. from (read .reached) (λ next. unlessAt k at (got (read .value) next))))

@@ -8,7 +8,7 @@ use lib.Bits.{bitAnd, bitOr, and-block, and-mask, and-shr, or-shr, and-mod, or-m
 use lib.Dec.{eqb, lit<}
 use borrow.Author.Tests.{eqb-true, ne-eqb}
 use lib.Pow.{pow-pos, split, shr-shr, mod-mod-pow}
-use Rattle.codec.specs.Parts.{both}
+use Rattle.bits.proofs.Tests.{both}
 use Rattle.grammar.specs.SiteSheet.{digitOf, digitRefusal, allDigits}
 use Rattle.grammar.proofs.Table.{at}
 

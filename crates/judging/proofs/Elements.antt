@@ -14,8 +14,8 @@ use Rattle.bits.specs.Element.{windowAt}
 use Rattle.bits.proofs.Elements.{element-there, element-short}
 use Rattle.codec.specs.Codec.{Codec}
 use Rattle.codec.specs.Parts.{number, element, seq}
-use Rattle.codec.specs.Reading.{Answer, got, refused, andNext, barring, readAt}
-use Rattle.codec.proofs.Reading.{barring-some, taken, readAt-number, readAt-tested, readAt-seq}
+use Rattle.codec.specs.Reading.{Answer, got, refused, andNext, unlessAt, readAt}
+use Rattle.codec.proofs.Reading.{unlessAt-some, taken, readAt-number, readAt-tested, readAt-seq}
 use Rattle.judging.specs.Walk.{walked, walk, Inside}
 use Rattle.judging.specs.declared.walking.Walked.the-variants.{At, Off}
 use Rattle.judging.proofs.Walks.{walked-made}
@@ -29,12 +29,12 @@ module _ (w : ℕ) (l : List Bool) (at : ℕ) (some : 1 ≤ w) where
   number-short h = readAt-number w l at some ∙ ap (taken at) (element-short l at w h)
 
   module _ (refuse : ℕ → ℕ) where
-    tested-at : readAt (element w refuse) l at ≡ andNext (readAt (number w) l at) (λ v p. barring (refuse v) at (got v p))
+    tested-at : readAt (element w refuse) l at ≡ andNext (readAt (number w) l at) (λ v p. unlessAt (refuse v) at (got v p))
     unfolding element
     tested-at = readAt-tested (number w) refuse (λ v. 0) l at ∙ simp add-zero
 
     pub element-at : at + w ≤ length l
-        → readAt (element w refuse) l at ≡ barring (refuse (value (take w (drop at l)))) at (got (value (take w (drop at l))) (at + w))
+        → readAt (element w refuse) l at ≡ unlessAt (refuse (value (take w (drop at l)))) at (got (value (take w (drop at l))) (at + w))
     element-at h = tested-at ∙ rw (number-there h)
 
     element-cut : length l < at + w → readAt (element w refuse) l at ≡ refused 2 at
@@ -44,7 +44,7 @@ module _ (w : ℕ) (l : List Bool) (at : ℕ) (some : 1 ≤ w) where
     unfolding walk
     walk-element h = ap walked (element-at h) ∙ go (refuse (value (take w (drop at l))))
       where
-        go : (k : ℕ) → walked (barring k at (got (value (take w (drop at l))) (at + w))) ≡ pick (eqb k 0) (At (at + w)) Off
+        go : (k : ℕ) → walked (unlessAt k at (got (value (take w (drop at l))) (at + w))) ≡ pick (eqb k 0) (At (at + w)) Off
         go zero = refl
         go (suc k) = rw (ne-eqb (suc k) 0 (λ e. omega arith))
 
@@ -65,14 +65,14 @@ module _ {s : List ℕ} {n at : ℕ} (i : Inside s n at) (w : ℕ) (some : 1 ≤
 
   module _ (h : at + w ≤ n) where
     code-at : readAt (element w refuse) (bitsIn n s) at
-        ≡ barring (refuse (windowAt s at / 2 ^ (57 - w))) at (got (windowAt s at / 2 ^ (57 - w)) (at + w))
+        ≡ unlessAt (refuse (windowAt s at / 2 ^ (57 - w))) at (got (windowAt s at / 2 ^ (57 - w)) (at + w))
     code-at =
         let size = length-pdu s n (i .bytes) in
         element-at w (bitsIn n s) at some refuse (omega arith)
-        ∙ ap {B = Answer ℕ} (λ (v : ℕ). barring (refuse v) at (got v (at + w))) (window-first s n (i .bytes) at w fits h)
+        ∙ ap {B = Answer ℕ} (λ (v : ℕ). unlessAt (refuse v) at (got v (at + w))) (window-first s n (i .bytes) at w fits h)
 
     pub coded-refused : (refuse (windowAt s at / 2 ^ (57 - w)) ≡ 0 → ⊥) → walk (seq (element w refuse) d) (bitsIn n s) at ≡ Off
-    coded-refused k = let v : ℕ = windowAt s at / 2 ^ (57 - w) in after ∙ rw (code-at, barring-some (refuse v) at (got v (at + w)) k)
+    coded-refused k = let v : ℕ = windowAt s at / 2 ^ (57 - w) in after ∙ rw (code-at, unlessAt-some (refuse v) at (got v (at + w)) k)
 
     pub coded-passed : refuse (windowAt s at / 2 ^ (57 - w)) ≡ 0
         → walk (seq (element w refuse) d) (bitsIn n s) at ≡ walk (d (windowAt s at / 2 ^ (57 - w))) (bitsIn n s) (at + w)

@@ -11,7 +11,8 @@ use Rattle.bits.specs.Bits.{pick, value, bitsOf}
 use Rattle.bits.specs.Frame.{bitsIn, framed}
 use Rattle.bits.specs.Element.{windowAt}
 use Rattle.bits.proofs.Frames.{framed-says}
-use Rattle.codec.specs.Parts.{both, number, element, seq, tested, shaped, mark, only}
+use Rattle.bits.proofs.Tests.{both}
+use Rattle.codec.specs.Parts.{number, element, seq, tested, shaped, mark, only}
 use Rattle.codec.specs.Reading.{Answer, got, refused, andNext, readAt}
 use Rattle.codec.proofs.Reading.{andNext-assoc}
 use Rattle.grammar.specs.SiteSheet.{ssType, rangeType, rowOf, rangeRefusal, kindRefusal}

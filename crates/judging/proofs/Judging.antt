@@ -11,7 +11,7 @@ use Rattle.bits.specs.Bits.{pick, value, bitsOf}
 use Rattle.bits.specs.Frame.{bitsIn}
 use Rattle.bits.specs.Element.{windowAt}
 use Rattle.codec.specs.Parts.{number, absent, element, seq, tested}
-use Rattle.codec.specs.Reading.{Answer, got, refused, andNext, barring, readAt}
+use Rattle.codec.specs.Reading.{Answer, got, refused, andNext, unlessAt, readAt}
 use Rattle.codec.proofs.Reading.{andNext-assoc, readAt-absent, readAt-seq}
 use Rattle.grammar.specs.SiteSheet.{resultRefusal}
 use Rattle.grammar.specs.Grammar.{services, partOf, Rest, interrogateAck}
@@ -86,10 +86,10 @@ module _ {s : List ℕ} {n at : ℕ} (i : Inside s n at) where
       (walk-short interrogateAck (bitsIn n s) at (omega (arith, size, i .place)) 5 (λ a g. omega arith) (omega (arith, size)))
 
   module _ {v : ℕ} (is : v ≡ windowAt s at / 2 ^ 54) (h : at + 5 ≤ n) where
-    result-at : readAt (element 3 resultRefusal) (bitsIn n s) at ≡ barring (resultRefusal v) at (got v (at + 3))
+    result-at : readAt (element 3 resultRefusal) (bitsIn n s) at ≡ unlessAt (resultRefusal v) at (got v (at + 3))
     result-at =
         element-at 3 (bitsIn n s) at (omega arith) resultRefusal (omega (arith, size))
-        ∙ ap {B = Answer ℕ} (λ (x : ℕ). barring (resultRefusal x) at (got x (at + 3))) (window-first s n (i .bytes) at 3 (omega arith) (omega arith)
+        ∙ ap {B = Answer ℕ} (λ (x : ℕ). unlessAt (resultRefusal x) at (got x (at + 3))) (window-first s n (i .bytes) at 3 (omega arith) (omega arith)
         ∙ sym is)
 
     -- a result of 1 or 2, and the part that it says

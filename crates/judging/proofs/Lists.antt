@@ -11,7 +11,7 @@ use Rattle.bits.specs.Frame.{bitsIn}
 use Rattle.bits.specs.Element.{windowAt}
 use Rattle.codec.specs.Parts.{element, seq, tested}
 use Rattle.codec.specs.Places.{places}
-use Rattle.codec.specs.Reading.{Answer, got, refused, andNext, barring, readAt}
+use Rattle.codec.specs.Reading.{Answer, got, refused, andNext, unlessAt, readAt}
 use Rattle.codec.proofs.Reading.{readAt-tested}
 use Rattle.grammar.specs.SiteSheet.{rangeType, rowOfType, rowOf, entriesOf, refusalIn, rangeRefusal}
 use Rattle.grammar.specs.Grammar.{identity, noIdentity, rangeEnds, secondEnd, identities, external, noExternal, externals, services, identityPart, numberPart}
@@ -51,7 +51,7 @@ not-single code h = rw (ne-eqb code 0 (λ e. omega arith), lt-leb code 8 h) (go 
 
 -- a test that never refuses changes nothing
 untested : (o : Answer (List Identity)) (refuse into : List Identity → ℕ) → ((a : List Identity) → refuse a ≡ 0)
-    → walked (andNext o (λ a p. barring (refuse a) (into a) (got a p))) ≡ walked o
+    → walked (andNext o (λ a p. unlessAt (refuse a) (into a) (got a p))) ≡ walked o
 untested (got a p) refuse into h = rw (h a)
 untested (refused n p) refuse into h = refl
 

@@ -12,8 +12,8 @@ use Rattle.bits.specs.Frame.{bitsIn}
 use Rattle.bits.specs.Element.{windowAt}
 use Rattle.codec.specs.Codec.{Codec}
 use Rattle.codec.specs.Places.{places}
-use Rattle.codec.specs.Reading.{got, andNext, barring, readAt}
-use Rattle.codec.proofs.Reading.{andNext-assoc, barring-some, readAt-cons, readAt-tested}
+use Rattle.codec.specs.Reading.{got, andNext, unlessAt, readAt}
+use Rattle.codec.proofs.Reading.{andNext-assoc, unlessAt-some, readAt-cons, readAt-tested}
 use Rattle.codec.proofs.Filling.{places-rest}
 use Rattle.grammar.specs.Grammar.{identity, noIdentity, zeroIdentity, endsRefusal, rangeEnds, secondEnd}
 use Rattle.grammar.specs.declared.record.Identity.{Identity}
@@ -65,7 +65,7 @@ module _ (l : List Bool) (at : ℕ) where
   pair-at = places-first identity noIdentity l 7 1 at ∙ simp (last-at, andNext-assoc)
 
   range-at : readAt range l at ≡ andNext (readAt identity l at) (λ a p. andNext (readAt identity l p) (λ b q.
-      barring (endsRefusal a b) (at + length (identity .print a)) (got (a ∷ b ∷ replicate 6 zeroIdentity) q)))
+      unlessAt (endsRefusal a b) (at + length (identity .print a)) (got (a ∷ b ∷ replicate 6 zeroIdentity) q)))
   unfolding range rangeEnds
   range-at = readAt-tested (places identity noIdentity 8 2) (rangeEnds 9) secondEnd l at ∙ simp (pair-at, andNext-assoc)
 
@@ -87,7 +87,7 @@ module _ (l : List Bool) (at : ℕ) where
       unfolding walk
       range-differs h =
           ap walked range-at
-          ∙ rw (first, second, barring-some (endsRefusal a b) (at + length (identity .print a)) (got (a ∷ b ∷ replicate 6 zeroIdentity) q) h)
+          ∙ rw (first, second, unlessAt-some (endsRefusal a b) (at + length (identity .print a)) (got (a ∷ b ∷ replicate 6 zeroIdentity) q) h)
 
 -- ---- the second end, after the first
 

@@ -1,6 +1,6 @@
 -- Elements in a row: their numbers are those of one number, and they pass if each does. Assumes nothing.
 use mathlib.Core.Path.{_≡_, refl, sym, ap, ap₂, _∙_, subst}
-use mathlib.Core.Bool.{Bool, true, false, _&&_}
+use mathlib.Core.Bool.{Bool, true, false, _&&_, and-true}
 use mathlib.Core.List.{List}
 use Prim.Native.Nat.{ℕ, zero, suc, _+_, _*_, _/_, _%_, _^_, _≤_, _<_}
 use native.Mathlib.Nat.{add-zero, mul-one, zero-div, zero-mod, mul-suc, mul-zero, mul-assoc, add-suc, mul-add-div-right, mul-add-mod-self-right, mod-eq-of-lt}
@@ -25,10 +25,6 @@ swap : (a b c : Bool) → a && (b && c) ≡ b && (a && c)
 swap true b c = refl
 swap false true c = refl
 swap false false c = refl
-
-and-true : (a : Bool) → a && true ≡ a
-and-true true = refl
-and-true false = refl
 
 module _ (refuse : ℕ → ℕ) (w : ℕ) where
   rest-lt : (k v : ℕ) → v < 2 ^ (w * suc k) → v / 2 ^ w < 2 ^ (w * k)

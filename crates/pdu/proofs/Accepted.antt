@@ -7,9 +7,10 @@ use native.Mathlib.Omega.{arith}
 use lib.ListN.{getD}
 use lib.Dec.{ltb, eqb}
 use Rattle.bits.specs.Bits.{pick}
-use Rattle.bits.proofs.Frames.{Framed}
+use Rattle.bits.specs.Frame.{Framed}
+use Rattle.bits.proofs.Tests.{both}
 use Rattle.codec.specs.Codec.{Legal, first}
-use Rattle.codec.specs.Parts.{both, first-none, numberFault, narrow, number, isZero, is-zero, absent, seq, tested, element, shaped, mark, only}
+use Rattle.codec.specs.Parts.{first-none, numberFault, narrow, number, isZero, is-zero, absent, seq, tested, element, shaped, mark, only}
 use Rattle.codec.specs.Places.{nil, cons, places}
 use Rattle.grammar.specs.SiteSheet.{ssType, entriesOf, rangeRefusal, kindRefusal}
 use Rattle.grammar.specs.Grammar.{extension, identity, noIdentity, zeroIdentity, rangeEnds, identities, restOf, fromRecord, pdu}

@@ -5,8 +5,9 @@ use mathlib.Core.List.{[], _∷_}
 use Prim.Native.Nat.{ℕ, _^_}
 use lib.Dec.{ltb}
 use Rattle.bits.specs.Bits.{pick}
+use Rattle.bits.proofs.Tests.{both}
 use Rattle.codec.specs.Codec.{Codec, first}
-use Rattle.codec.specs.Parts.{both, isZero, is-zero, number, absent, element, seq, tested, shaped, mark}
+use Rattle.codec.specs.Parts.{isZero, is-zero, number, absent, element, seq, tested, shaped, mark}
 use Rattle.codec.specs.Places.{nil, cons}
 use Rattle.codec.proofs.Kept.{Kept}
 use Rattle.grammar.specs.SiteSheet.{ssType, kindRefusal}

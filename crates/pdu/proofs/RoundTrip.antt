@@ -10,13 +10,13 @@ use borrow.Author.Tests.{le-leb}
 use lib.ListN.{length, take, drop}
 use lib.Seq.{take-at}
 use lib.Dec.{leb}
-use Rattle.bits.specs.Bits.{pick}
-use Rattle.bits.specs.Frame.{bytesFor, bitsIn, framed, pack}
-use Rattle.bits.proofs.Bytes.{Bytes}
-use Rattle.bits.proofs.Frames.{Framed, framed-says, framed-is, framed-pack, length-bitsIn, length-pack, pack-bitsIn, bitsIn-pack}
+use Rattle.bits.specs.Bits.{pick, Bytes}
+use Rattle.bits.specs.Frame.{bytesFor, bitsIn, framed, Framed, pack}
+use Rattle.bits.proofs.Frames.{framed-says, framed-is, framed-pack, length-bitsIn, length-pack, pack-bitsIn, bitsIn-pack}
+use Rattle.bits.proofs.Tests.{both, both⁻¹}
 use Rattle.bits.specs.declared.BitCount.{BitCount}
 use Rattle.codec.specs.Codec.{Outcome, ok, no, Legal, first}
-use Rattle.codec.specs.Parts.{both, both⁻¹, first-none, numberFault, number, seq, tested, element, shaped, mark, only, isZero}
+use Rattle.codec.specs.Parts.{first-none, numberFault, number, seq, tested, element, shaped, mark, only, isZero}
 use Rattle.codec.specs.Whole.{wholeParse}
 use Rattle.codec.proofs.Whole.{whole-reads, whole-sound}
 use Rattle.grammar.specs.SiteSheet.{ssType, kindRefusal}
@@ -116,7 +116,7 @@ legal-iff r = (
   λ e. let k = picked (isZero (kindRefusal (r .kind)) && pdu .clean r) (pdu .fault r) e in
       record { clean = both (isZero (kindRefusal (r .kind))) (pdu .clean r) (k .0) .1; faultless = k .1 },
   λ h. let q : isZero (kindRefusal (r .kind)) ≡ true = ap isZero (kind-read r (h .faultless)) in
-      let t : isZero (kindRefusal (r .kind)) && pdu .clean r ≡ true = both⁻¹ _ _ q (h .clean) in
+      let t : isZero (kindRefusal (r .kind)) && pdu .clean r ≡ true = both⁻¹ q (h .clean) in
       rw t (h .faultless),
 )
 

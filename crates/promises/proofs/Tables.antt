@@ -4,7 +4,7 @@ use mathlib.Core.Bool.{Bool, true, false, _||_}
 use mathlib.Core.List.{List, [], _∷_, _++_}
 use Prim.Native.Nat.{ℕ}
 use lib.Dec.{eqb}
-use Rattle.archive.proofs.Tests.{differ}
+use Rattle.bits.proofs.Tests.{differ}
 use Rattle.promises.specs.Answers.{isOneOf, OneOf, Exactly}
 
 -- its answer is in the table and in the list, and whatever is in the table is its answer

@@ -4,7 +4,8 @@ use mathlib.Core.Logic.{_↔_}
 use mathlib.Core.Bool.{true, false}
 use mathlib.Core.List.{List}
 use Prim.Native.Nat.{ℕ}
-use Rattle.bits.proofs.Bytes.{Bytes}
+use Rattle.bits.specs.Bits.{Bytes}
+use Rattle.bits.proofs.Tests.{differ, false-unless}
 use Rattle.reader.specs.Read.{readIs}
 use Rattle.reader.specs.declared.Answer.the-variants.{Accepted}
 use Rattle.archive.specs.Model.{Archive, bytesOf}
@@ -12,7 +13,6 @@ use Rattle.judging.specs.Judge.{mayHold}
 use Rattle.archive.specs.Filing.{entryFor, bodyAgrees, wellFormed}
 use Rattle.archive.specs.Reading.{reading, isArchive}
 use Rattle.archive.specs.declared.contents.Entry.{Entry}
-use Rattle.archive.proofs.Tests.{differ, false-unless}
 use Rattle.archive.proofs.Bodies.{agrees-says, agrees-is}
 use Rattle.archive.proofs.Capturing.{offered-agrees}
 use Rattle.archive.proofs.Writing as writing

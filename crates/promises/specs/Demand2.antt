@@ -5,8 +5,8 @@ use mathlib.Core.Logic.{_↔_}
 use mathlib.Core.List.{List, _++_}
 use Prim.Native.Nat.{ℕ, _≤_}
 use lib.ListN.{length, take, drop}
+use Rattle.bits.specs.Bits.{Bytes}
 use Rattle.bits.specs.Frame.{bytesFor}
-use Rattle.bits.proofs.Bytes.{Bytes}
 use Rattle.codec.specs.Codec.{Legal}
 use Rattle.grammar.specs.Grammar.{pdu}
 use Rattle.grammar.specs.declared.record.Record.{Record}

@@ -8,7 +8,7 @@ use lib.ListN.{length, getD, replicate}
 use Rattle.bits.specs.Bits.{pick}
 use Rattle.bits.specs.Element.{windowAt}
 use Rattle.codec.specs.Codec.{Codec}
-use Rattle.codec.specs.Reading.{Answer, got, andNext, barring, readAt, from, reachedOf, valueOr}
+use Rattle.codec.specs.Reading.{Answer, got, andNext, unlessAt, readAt, from, reachedOf, valueOr}
 use Rattle.codec.specs.declared.Reached.{Reached}
 use Rattle.codec.specs.declared.Reached.the-variants.{At, Refused}
 use Rattle.grammar.specs.Grammar.{zeroIdentity, rangeEnds, secondEnd, Rest, toRecord}
@@ -47,7 +47,7 @@ EndsFit (Refused n p) r l = Unit {0}
 -- entries that were read from a place on, under the rule of a range's ends
 unfoldable pub endsIs : Reached → EntriesRead → ℕ → EntriesRead
 endsIs start read code =
-    entriesIs (from start (λ at. from (read .reached) (λ next. barring (rangeEnds code (read .value)) (at + secondEnd (read .value)) (got (read .value) next))))
+    entriesIs (from start (λ at. from (read .reached) (λ next. unlessAt (rangeEnds code (read .value)) (at + secondEnd (read .value)) (got (read .value) next))))
 
 unfoldable pub identitiesIs : Answer Identities → IdentitiesRead
 identitiesIs o = record { reached = reachedOf o; value = valueOr zeroIdentities o }

@@ -1,23 +1,23 @@
 -- What the digits of a number come to: none used is above 12, and none unused above 0. Assumes nothing.
 use mathlib.Core.Path.{_≡_, refl, sym, ap, ap₂, _∙_}
-use mathlib.Core.Bool.{Bool, true, false, _&&_}
+use mathlib.Core.Bool.{Bool, true, false, _&&_, and-true, and-assoc}
 use mathlib.Core.List.{List, [], _∷_}
 use Prim.Native.Nat.{ℕ, zero, suc, _+_, _*_, _≤_, _<_, min}
 use native.Mathlib.Numerals.{add-one}
 use native.Mathlib.Omega.{arith}
-use lib.ListN.{length, take, drop, getD, length-append, drop-of-length-le}
+use lib.ListN.{length, take, drop, getD, length-append}
 use lib.Seq.{slice, slice-cons, slice-empty, take-all, take-nil, drop-nil}
 use lib.Dec.{leb, ltb, eqb}
 use borrow.Author.Tests.{leb-true, leb-false, lt-leb, lt-ltb, eqb-false, eq-eqb, ne-eqb}
 use Rattle.bits.specs.Bits.{pick, bitsOf}
 use Rattle.bits.proofs.Numbers.{length-bitsOf}
+use Rattle.bits.proofs.Lists.{take-min, drop-min}
 use Rattle.codec.specs.Codec.{first}
 use Rattle.codec.specs.Parts.{isZero, numberFault, number, absent, element, tested}
 use Rattle.codec.specs.Places.{nil, cons, places}
 use Rattle.grammar.specs.SiteSheet.{digitOf, digitRefusal}
 use Rattle.tally.specs.Tally.{Tallies, noneAbove}
 use Rattle.tally.specs.declared.Tally.{Tally}
-use Rattle.tally.proofs.Parts.{and-true, and-assoc}
 
 -- ---- one digit
 
@@ -101,38 +101,14 @@ none-left most to l b = ap (λ (x : List ℕ). b && noneAbove most x) (slice-emp
 
 -- ---- what they come to
 
--- no more are taken or dropped than there are
-module _ (n : ℕ) (l : List ℕ) where
-  pub take-least : take (min n (length l)) l ≡ take n l
-  take-least = go (leb n (length l)) refl where
-    go : (b : Bool) → leb n (length l) ≡ b → take (min n (length l)) l ≡ take n l
-    go true e =
-        let le = leb-true n (length l) e in
-        let same : min n (length l) ≡ n = omega arith in
-        ap (λ (i : ℕ). take i l) same
-    go false e =
-        let gt = leb-false n (length l) e in
-        take-all (min n (length l)) l (omega arith) ∙ sym (take-all n l (omega arith))
-
-  pub drop-least : drop (min n (length l)) l ≡ drop n l
-  drop-least = go (leb n (length l)) refl where
-    go : (b : Bool) → leb n (length l) ≡ b → drop (min n (length l)) l ≡ drop n l
-    go true e =
-        let le = leb-true n (length l) e in
-        let same : min n (length l) ≡ n = omega arith in
-        ap (λ (i : ℕ). drop i l) same
-    go false e =
-        let gt = leb-false n (length l) e in
-        drop-of-length-le l {i = min n (length l)} (omega arith) ∙ sym (drop-of-length-le l {i = n} (omega arith))
-
 pub digits-tallied : (n k : ℕ) (l : List ℕ) (start : Tally) (clean legal : Bool) → length l ≡ 24 → k ≡ min n 24
     → legal ≡ noneAbove 12 (slice 0 k l) → clean ≡ noneAbove 0 (slice k 24 l)
     → (r : Tally) → r .clean ≡ start .clean && clean → r .refusal ≡ first (start .refusal) (pick legal 0 3) → r .bits ≡ start .bits + 4 * k
     → Tallies (places (element 4 digitRefusal) absent 24 n) l start r
 digits-tallied n k l start clean legal full few hl hc r rc rr rb =
     let used : k ≡ min n (length l) = omega arith in
-    let early : take k l ≡ take n l = ap (λ (i : ℕ). take i l) used ∙ take-least n l in
-    let late : slice k 24 l ≡ drop n l = ap (drop k) (take-all 24 l (omega arith)) ∙ ap (λ (i : ℕ). drop i l) used ∙ drop-least n l in
+    let early : take k l ≡ take n l = ap (λ (i : ℕ). take i l) used ∙ take-min n l in
+    let late : slice k 24 l ≡ drop n l = ap (drop k) (take-all 24 l (omega arith)) ∙ ap (λ (i : ℕ). drop i l) used ∙ drop-min n l in
     let fault : pick legal 0 3 ≡ places (element 4 digitRefusal) absent 24 n .fault l =
     ap (λ (b : Bool). pick b 0 3) (hl ∙ ap (noneAbove 12) early) ∙ sym (digits-fault 24 n l full) in
     let zero : clean ≡ places (element 4 digitRefusal) absent 24 n .clean l = hc ∙ ap (noneAbove 0) late ∙ sym (digits-clean 24 n l full) in

@@ -1,6 +1,6 @@
 -- What the parts of a record come to, one law for each way to build a codec. Assumes nothing.
 use mathlib.Core.Path.{_≡_, refl, sym, ap, _∙_}
-use mathlib.Core.Bool.{Bool, true, false, _&&_}
+use mathlib.Core.Bool.{Bool, true, false, _&&_, and-true, and-false, and-assoc}
 use Prim.Native.Nat.{ℕ, zero, suc, _+_, _≤_}
 use native.Mathlib.Nat.{add-zero}
 use native.Mathlib.Omega.{arith}
@@ -11,18 +11,6 @@ use Rattle.codec.specs.Parts.{numberFault, isZero, number, absent, element, seq
 use Rattle.tally.specs.Tally.{Tallies}
 use Rattle.tally.specs.declared.Tally.{Tally}
 use Rattle.grammar.proofs.Sizes.{Within}
-
-pub and-true : (b : Bool) → b && true ≡ b
-and-true true = refl
-and-true false = refl
-
-pub and-false : (b : Bool) → b && false ≡ false
-and-false true = refl
-and-false false = refl
-
-pub and-assoc : (a b c : Bool) → (a && b) && c ≡ a && (b && c)
-and-assoc true b c = refl
-and-assoc false b c = refl
 
 pub first-zero : (n : ℕ) → first n 0 ≡ n
 first-zero zero = refl

@@ -1,6 +1,6 @@
 -- A loop over the places of an array, and what they come to so far. Assumes nothing.
 use mathlib.Core.Path.{_≡_, refl, sym, ap, _∙_, subst}
-use mathlib.Core.Bool.{Bool, true, false}
+use mathlib.Core.Bool.{Bool, true, false, and-true}
 use mathlib.Core.List.{List, [], _∷_}
 use Prim.Native.Nat.{ℕ, zero, suc, _+_, _-_, _*_, _≤_, _<_}
 use native.Mathlib.Nat.{add-zero, sub-zero, add-mul}
@@ -17,7 +17,7 @@ use Rattle.codec.specs.Places.{nil, cons, places}
 use Rattle.tally.specs.Tally.{Tallies}
 use Rattle.tally.specs.declared.Tally.{Tally}
 use Rattle.grammar.proofs.Sizes.{Within}
-use Rattle.tally.proofs.Parts.{and-true, first-zero, then, within}
+use Rattle.tally.proofs.Parts.{first-zero, then, within}
 
 module _ {A : Type 0} (c z : Codec A) where
   -- of the places from i on, the next is used or not, and the others are those from i + 1 on

@@ -7,10 +7,10 @@ use native.Mathlib.Nat.{zero-add}
 use native.Mathlib.Omega.{arith}
 use lib.ListN.{length, drop, length-append}
 use lib.Seq.{getD-drop}
-use Rattle.bits.specs.Bits.{bits, splice}
+use Rattle.bits.specs.Bits.{Bytes, bits, splice}
 use Rattle.bits.specs.Frame.{bytesFor, pack}
 use Rattle.bits.proofs.Numbers.{length-bitsOf}
-use Rattle.bits.proofs.Bytes.{Bytes, bits-append, bits-drop, bits-inj}
+use Rattle.bits.proofs.Bytes.{bits-append, bits-drop, bits-inj}
 use Rattle.bits.proofs.Frames.{padding, bits-pack, bytes-pack}
 use Rattle.bits.proofs.Splices.{splice-splice}
 

@@ -15,13 +15,13 @@ use denote.Laws.{Is}
 use denote.Struct.Declared.{row}
 use Rattle.bits.specs.Bits.{bitsOf}
 use Rattle.bits.proofs.Numbers.{length-bitsOf, bitsOf-add}
+use Rattle.bits.proofs.Lists.{take-min}
 use Rattle.codec.specs.Parts.{number, absent, element, seq, tested, shaped}
 use Rattle.codec.specs.Places.{nil, cons, places}
 use Rattle.grammar.specs.SiteSheet.{digitRefusal}
 use Rattle.grammar.specs.Grammar.{external}
 use Rattle.grammar.specs.declared.record.Number.{Number}
 use Rattle.grammar.proofs.record.Number as number-type
-use Rattle.tally.proofs.Digits.{take-least}
 use Rattle.writer.specs.Writing.{digitBits, DigitsAfter}
 use Rattle.writer.proofs.Runs.{bitsOf-join}
 
@@ -104,7 +104,7 @@ halves n early late l e he hl = go (leb n 12) refl where
       let gt = leb-false n 12 h in
       let twelve : early ≡ 12 = omega arith in
       let whole : min n (length l) ≡ 12 + late = omega arith in
-      sym (take-least n l)
+      sym (take-min n l)
       ∙ ap (λ (i : ℕ). take i l) whole
       ∙ take-add 12 late l
       ∙ ap (λ (i : ℕ). take i l ++ take late (drop 12 l)) (sym twelve)

@@ -1,6 +1,6 @@
 -- Writing by cases: which refusal is given, and when there is none. Assumes nothing.
 use mathlib.Core.Path.{_≡_, refl}
-use mathlib.Core.Bool.{Bool, true, false}
+use mathlib.Core.Bool.{Bool, true, false, and-false}
 use Prim.Native.Nat.{ℕ, zero, suc, _≤_}
 use native.Mathlib.Omega.{arith}
 use borrow.Author.Tests.{leb-true}
@@ -12,7 +12,7 @@ use Rattle.codec.specs.Codec.{first}
 use Rattle.codec.specs.Parts.{isZero, first-none}
 use Rattle.grammar.specs.SiteSheet.{kindRefusal}
 use Rattle.grammar.specs.Grammar.{pdu}
-use Rattle.tally.proofs.Parts.{and-false, not-zero}
+use Rattle.tally.proofs.Parts.{not-zero}
 use Rattle.writer.specs.Write.{recordRefusal, lengthOf, writeRefusal, written}
 use Rattle.grammar.specs.declared.record.Record.{Record}
 use Rattle.writer.specs.declared.Written.the-variants.{Bits, Refused}

@@ -22,7 +22,7 @@ fn put_run(out: &mut [u8], at: usize, width: usize, run: u64) -> usize
     requires { ⌜ (width ≤ 57) × Room (number width) run (now out) at ⌝ }
     ensures { λ r. ⌜ Puts (number width) run (now (out .entry)) (now (out .exit)) at r ⌝ }
 {
-    bits::put_wide(out, at, width, run);
+    bits::put(out, at, width, run);
     at + width
 }
 

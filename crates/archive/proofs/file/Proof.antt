@@ -7,7 +7,7 @@ use borrow.Author.Needs.{needs}
 use borrow.Author.Tests.{not-true, not-false}
 use denote.Ref.{now}
 use lib.ListN.{length}
-use Rattle.bits.proofs.Bytes as are
+use Rattle.bits.specs.Bits as are
 use Rattle.archive.specs.Model.{Held, bytesOf, lengthOf, withinLimits}
 use Rattle.archive.specs.Reading.{heldIn, reading}
 use Rattle.archive.specs.Keeping.{over, put, with}

@@ -1,7 +1,7 @@
 -- A refusal that came before is passed on; then the test's own. Assumes nothing.
 use borrow.Author.Needs.{needs}
 use Rattle.codec.specs.Reading.{from, numberIs, testedIs}
-use Rattle.codec.proofs.Reading.{barring-some}
+use Rattle.codec.proofs.Reading.{unlessAt-some}
 use Rattle.codec.proofs.tested.Statement.{statement}
 use Rattle.codec.proofs.tested.Tie as tie
 
@@ -20,7 +20,7 @@ returns-3 c = rw (c .before .before .before .before .start .given .1, c .if1 .ta
 returns-4 : tie.Need-returns-4
 unfolding from numberIs testedIs
 returns-4 c =
-    rw (c .before .before .before .before .start .given .1, c .before .enum-told2 .given .1, barring-some _ _ _ (c .if1 .left))
+    rw (c .before .before .before .before .start .given .1, c .before .enum-told2 .given .1, unlessAt-some _ _ _ (c .if1 .left))
 
 pub tested-spec : {M : Type 1} → statement M
 tested-spec =

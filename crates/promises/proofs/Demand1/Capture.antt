@@ -8,6 +8,7 @@ use lib.ListN.{length}
 use lib.Dec.{ltb, eqb}
 use borrow.Author.Tests.{eqb-true, eq-eqb, ltb-true, ltb-false, lt-ltb, le-ltb}
 use Rattle.bits.specs.Bits.{pick}
+use Rattle.bits.proofs.Tests.{differ, false-unless, both, both⁻¹}
 use Rattle.reader.specs.Read.{refusalOf, readIs}
 use Rattle.reader.specs.declared.Answer.{Answer}
 use Rattle.reader.specs.declared.Answer.the-variants as reader
@@ -17,7 +18,6 @@ use Rattle.archive.specs.Reading.{reading, isArchive}
 use Rattle.archive.specs.Keeping.{archivedNumber, heldFor, captured, captureIs}
 use Rattle.archive.specs.Restoring.{lookup}
 use Rattle.archive.specs.declared.Archived.the-variants.{Bytes, Refused}
-use Rattle.archive.proofs.Tests.{differ, false-unless, and-true, and-both}
 use Rattle.archive.proofs.Putting.{isNone}
 use Rattle.archive.proofs.Capturing.{no-archive, capture-leaves}
 use Rattle.archive.proofs.Captured.{taken, captured-formed}
@@ -56,11 +56,11 @@ module _ (b s : List ℕ) (n room : ℕ) where
 
   is-full : isFull ≡ true → Full b s n
   is-full e =
-      let k = and-true (isNone (lookup (keyOf (heldFor (reading b .home) s n)) (reading b .held))) (eqb (length (reading b .held)) 512) e in
+      let k = both (isNone (lookup (keyOf (heldFor (reading b .home) s n)) (reading b .held))) (eqb (length (reading b .held)) 512) e in
       record { new = is-none _ (k .0); count = eqb-true _ _ (k .1) }
 
   full-is : Full b s n → isFull ≡ true
-  full-is f = and-both (ap isNone (f .new)) (eq-eqb _ _ (f .count))
+  full-is f = both⁻¹ (ap isNone (f .new)) (eq-eqb _ _ (f .count))
 
   placed : Offered b s n → captureIs b s n room ≡ pick (isFull || (ltb 65536 size || ltb room size)) (Refused 8) (Bytes size)
   placed o = eight b s n room (o .archive) (o .accepted) (o .may)

@@ -8,12 +8,11 @@ use native.Mathlib.Omega.{arith}
 use lib.ListN.{take, drop}
 use lib.Dec.{eqb}
 use Rattle.bits.specs.Bits.{pick}
-use Rattle.codec.specs.Parts.{both}
+use Rattle.bits.proofs.Tests.{differ, false-unless, both}
 use Rattle.grammar.specs.declared.record.Record.{Record}
 use Rattle.reader.specs.Read.{readIs}
 use Rattle.archive.specs.Model.{Held}
 use Rattle.archive.specs.Reading.{reading, isArchive}
-use Rattle.archive.proofs.Tests.{differ, false-unless}
 use Rattle.barring.specs.Search.{every}
 use Rattle.barring.specs.Request.{isUser, isService, isDestination, isGroup, isDigit, isUnused, digitsUsed, requestRefusal}
 use Rattle.barring.specs.Rule.{ruling, ruled, isExcepted, isRestricted, isOutside, bothEmpty}

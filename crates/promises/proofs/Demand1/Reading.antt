@@ -5,8 +5,9 @@ use mathlib.Core.List.{List, [], _∷_, append-nil}
 use Prim.Native.Nat.{ℕ}
 use native.Mathlib.Omega.{arith}
 use Rattle.bits.specs.Bits.{pick}
-use Rattle.bits.specs.Frame.{bitsIn, framed}
-use Rattle.bits.proofs.Frames.{Framed, framed-says, framed-is}
+use Rattle.bits.specs.Frame.{bitsIn, framed, Framed}
+use Rattle.bits.proofs.Frames.{framed-says, framed-is}
+use Rattle.bits.proofs.Tests.{differ, false-unless}
 use Rattle.codec.specs.Codec.{Outcome, ok, no, andThen, Right}
 use Rattle.codec.specs.Places.{isNil}
 use Rattle.codec.specs.Whole.{wholeParse}
@@ -19,7 +20,6 @@ use Rattle.grammar.specs.declared.record.Record.{Record}
 use Rattle.reader.specs.Read.{refusalOf, answered, refusing, readIs}
 use Rattle.reader.specs.declared.Answer.the-variants.{Accepted, Refused}
 use Rattle.reader.specs.declared.Reading.{Reading}
-use Rattle.archive.proofs.Tests.{differ, false-unless}
 use Rattle.promises.specs.Answers.{OneOf}
 use Rattle.promises.specs.Demand1.Reading.{number, Given, accepted, unframed, stopped, left-over, numbers, Promise}
 use Rattle.promises.proofs.Tables.{exactly}

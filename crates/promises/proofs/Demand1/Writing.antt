@@ -9,6 +9,7 @@ use lib.Dec.{leb}
 use borrow.Author.Tests.{leb-true, leb-false, lt-leb}
 use Rattle.bits.specs.Bits.{pick}
 use Rattle.bits.specs.Frame.{bytesFor, pack}
+use Rattle.bits.proofs.Tests.{differ, false-unless, and-false}
 use Rattle.codec.specs.Codec.{first}
 use Rattle.codec.specs.Parts.{isZero, is-zero}
 use Rattle.grammar.specs.SiteSheet.{kindRefusal}
@@ -18,7 +19,6 @@ use Rattle.writer.specs.Write.{recordRefusal, lengthOf, writeRefusal, written, 
 use Rattle.writer.specs.declared.Written.the-variants.{Bits, Refused}
 use Rattle.pdu.proofs.RoundTrip.{legal-iff, written-legal}
 use Rattle.pdu.proofs.Refusals.{ThreeOrFour, three, four, refused-with}
-use Rattle.archive.proofs.Tests.{differ, false-unless, and-false}
 use Rattle.promises.specs.Answers.{OneOf}
 use Rattle.writer.specs.Write.{writtenNumber}
 use Rattle.promises.specs.Demand1.Writing.{number, Given, success, unread, unclean, faulty, no-room, Promise}

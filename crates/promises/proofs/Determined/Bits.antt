@@ -2,13 +2,11 @@
 use mathlib.Core.Path.{refl, sym, _∙_}
 use Rattle.promises.specs.Determined.{Determined, by-equations}
 use Rattle.bits.proofs as bits
-use Rattle.bits.proofs.Bytes.{Bytes, bits-inj}
+use Rattle.bits.specs.Bits.{Bytes}
+use Rattle.bits.proofs.Bytes.{bits-inj}
 
 pub bits-determined : Determined bits.DigitCount.bits.Kinds.ps bits.DigitCount.bits.Kinds.r bits.DigitCount.bits.Reads.Learnt
 bits-determined = by-equations (λ κs a x v p. (λ i. record { 0 = p i }, refl))
-
-pub digits-determined : Determined bits.BitCount.digits.Kinds.ps bits.BitCount.digits.Kinds.r bits.BitCount.digits.Reads.Learnt
-digits-determined = by-equations (λ κs a x v p. (λ i. record { 0 = p i }, refl))
 
 pub bytes-determined : Determined bits.BitCount.bytes.Kinds.ps bits.BitCount.bytes.Kinds.r bits.BitCount.bytes.Reads.Learnt
 bytes-determined = by-equations (λ κs a x v p. (p, refl))
@@ -28,13 +26,8 @@ bit-at-determined = by-equations (λ κs a x v p. (p, refl))
 pub least-determined : Determined bits.least.Kinds.ps bits.least.Kinds.r bits.least.Reads.Learnt
 least-determined = by-equations (λ κs a x v p. (p, refl))
 
--- `put` and `put_wide` speak of bits; a buffer has bytes below 256, and such bytes with the same bits are the same
+-- `put` speaks of bits; a buffer has bytes below 256, and such bytes with the same bits are the same
 pub put-determined : Determined bits.put.Kinds.ps bits.put.Kinds.r (λ κs a x s. bits.put.Reads.Learnt κs a x s × Bytes (s .0 .now))
 put-determined = record {
-  same = λ κs a x y v w p q. (p .0 .0 ∙ sym (q .0 .0), λ i. (bits-inj (v .0) (w .0) (p .1) (q .1) (p .0 .1 ∙ sym (q .0 .1)) i, v .1));
-}
-
-pub put-wide-determined : Determined bits.put_wide.Kinds.ps bits.put_wide.Kinds.r (λ κs a x s. bits.put_wide.Reads.Learnt κs a x s × Bytes (s .0 .now))
-put-wide-determined = record {
   same = λ κs a x y v w p q. (p .0 .0 ∙ sym (q .0 .0), λ i. (bits-inj (v .0) (w .0) (p .1) (q .1) (p .0 .1 ∙ sym (q .0 .1)) i, v .1));
 }

@@ -4,8 +4,7 @@ use mathlib.Core.Bool.{Bool}
 use mathlib.Core.List.{List, [], _∷_, _++_}
 use Prim.Native.Nat.{ℕ, suc}
 use Rattle.bits.specs.Bits.{bits}
-use Rattle.bits.specs.Frame.{bitsIn, framed}
-use Rattle.bits.proofs.Frames.{Framed}
+use Rattle.bits.specs.Frame.{bitsIn, framed, Framed}
 use Rattle.codec.specs.Codec.{Legal}
 use Rattle.codec.specs.Stops.{Stops}
 use Rattle.grammar.specs.Grammar.{pdu, grammar}

@@ -12,7 +12,7 @@ use Rattle.codec.specs.Reading.{readAt, from, elementOf}
 use Rattle.codec.specs.declared.Reached.{Reached}
 use Rattle.codec.specs.declared.Reached.the-variants.{At, Refused}
 use Rattle.codec.proofs.Reading.{placed, from-same, go-on, number-read, readAt-legal, tested-element, tested-from}
-use Rattle.codec.proofs.Entries.{first-print}
+use Rattle.codec.proofs.Filling.{first-print}
 use Rattle.grammar.specs.SiteSheet.{rangeType, rowOf, entriesOf}
 use Rattle.grammar.specs.Grammar.{identity, noIdentity, zeroIdentity, rangeEnds, secondEnd}
 use Rattle.reader.specs.Reader.{EndsFit, entriesIs, endsIs, identitiesIs}

@@ -1,6 +1,6 @@
 -- Digit by digit. Assumes nothing.
 use mathlib.Core.Path.{_≡_, refl, _∙_, ap, sym}
-use mathlib.Core.Bool.{Bool, _&&_}
+use mathlib.Core.Bool.{Bool, _&&_, and-true, and-false}
 use mathlib.Core.Logic.{⊎-elim}
 use Prim.Native.Nat.{ℕ, _+_, _-_, _≤_}
 use native.Mathlib.Omega.{arith}
@@ -10,7 +10,6 @@ use lib.Seq.{slice}
 use lib.Dec.{leb}
 use denote.Ref.{now}
 use Rattle.tally.specs.Tally.{noneAbove}
-use Rattle.tally.proofs.Parts.{and-true, and-false}
 use Rattle.tally.proofs.Digits.{none-more, none-left}
 use Rattle.tally.proofs.none_above.Statement.{statement}
 use Rattle.tally.proofs.none_above.Tie as tie

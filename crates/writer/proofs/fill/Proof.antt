@@ -37,9 +37,9 @@ returns c =
     let end : p .put-record .result ≡ n = p .put-record .ensures .next ∙ zero-add n in
     let width : 8 * b .bytes .result - p .put-record .result ≡ 8 * bytesFor n - n =
     ap₂ (λ (x y : ℕ). 8 * x - y) (b .bytes .ensures ∙ ap bytesFor end) end in
-    let there = room 32 mid (p .put-record .result) (8 * b .bytes .result - p .put-record .result) (omega arith) (omega (arith, p .put-record .kept .0)) in
+    let there = room mid (p .put-record .result) (8 * b .bytes .result - p .put-record .result) (omega arith) (omega (arith, p .put-record .kept .0)) in
     filled old (q .put .last .0) (pdu .print (s .args .r)) (λ i. p .before .before .slice-known .given i .fits) (λ i. c .slice-known3 .given i .fits) (s .pre)
-    (q .put .ensures .1 ∙ put-there 32 mid (p .put-record .result) (8 * b .bytes .result - p .put-record .result) 0 there
+    (q .put .ensures .1 ∙ put-there mid (p .put-record .result) (8 * b .bytes .result - p .put-record .result) 0 there
     ∙ ap₂ (λ (at w : ℕ). splice (bits mid) at (bitsOf w 0)) end width
     ∙ ap (λ l. splice l n (bitsOf (8 * bytesFor n - n) 0)) (p .put-record .ensures .there))
 

@@ -11,11 +11,11 @@ use denote.Ref.{now}
 use lib.ListN.{length, take, drop}
 use lib.Dec.{leb}
 use Rattle.bits.specs.Frame.{bytesFor}
+use Rattle.bits.proofs.Tests.{both}
 use Rattle.archive.specs.Model.{Held, keyFor, keyOf, bodySize, withinLimits}
 use Rattle.archive.specs.Filing.{bodyAgrees}
 use Rattle.archive.specs.Reading.{number3, heldAt, isArchive}
 use Rattle.archive.specs.declared.contents.Entry.{Entry}
-use Rattle.archive.proofs.Tests.{and-true}
 use Rattle.archive.proofs.Walks.{home-is, too-short, over-limits, begins, restOk, rest-low, rest-short, rest-bad, rest-next, rest-none}
 use Rattle.archive.proofs.checking.check.Statement.{statement}
 use Rattle.archive.proofs.checking.check.Tie as tie
@@ -50,7 +50,7 @@ loop-holds c =
     let h : count .before .home .result ≡ number3 b 0 = count .before .home .ensures ∙ home-is b (omega arith) in (
       omega arith,
       omega arith,
-      leb-true _ _ (and-true (leb (count .count .result) 512) (leb (length b) 65536) e .1),
+      leb-true _ _ (both (leb (count .count .result) 512) (leb (length b) 65536) e .1),
       rw (h, count .count .ensures .0) (begins b (λ i. known .shared-slice-known .given i .fits) (rw (count .count .ensures .0) at e)),
     )
 

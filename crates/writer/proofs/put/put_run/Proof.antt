@@ -17,9 +17,9 @@ returns c =
     let b = p .before .before .before in
     let a = b .args in
     let l = length-bitsOf (a .width) (a .run) in
-    let e = room 57 (now (a .out)) (a .at) (a .width) (b .pre .0) (omega (arith, b .pre .1 .fits)) in
+    let e = room (now (a .out)) (a .at) (a .width) (b .pre .0) (omega (arith, b .pre .1 .fits)) in
     record {
-      there = p .put-wide .ensures .1 ∙ put-there 57 (now (a .out)) (a .at) (a .width) (a .run) e;
+      there = p .put .ensures .1 ∙ put-there (now (a .out)) (a .at) (a .width) (a .run) e;
       next = ap (λ (n : ℕ). a .at + n) (sym l);
     }
 
