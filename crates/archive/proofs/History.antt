@@ -43,7 +43,7 @@ was-empty home room m = go (ltb home 16777216) refl (leb headerWidth room)
     go false h q e = absurd (let z : _≡_ {A = ℕ} 0 1 = cc in omega arith)
 
 -- what `empty` writes is an archive that holds nothing
-pub empty-holds : (home : ℕ) (out : List ℕ) (m : ℕ) → emptyIs home (length out) ≡ Bytes m
+empty-holds : (home : ℕ) (out : List ℕ) (m : ℕ) → emptyIs home (length out) ≡ Bytes m
     → (isArchive (take m (emptyOut home out)) ≡ true) × (reading (take m (emptyOut home out)) ≡ emptyOf home)
 unfolding emptyOut
 empty-holds home out m e =

@@ -16,6 +16,5 @@ pub mod Users
 pub mod Theorems
 pub mod Counts
 pub mod History
-pub mod Fetching
 pub mod Decimal
 pub mod Lines

@@ -16,7 +16,7 @@ use Rattle.archive.specs.Reading.{number2, number3, homeOf, countOf, siz
 use Rattle.archive.specs.Seeking.{placeOf, seek}
 use Rattle.archive.proofs.Tests.{and-false, and-true}
 
-pub number3-small : (b : List ℕ) (at : ℕ) → Bytes b → number3 b at < 16777216
+number3-small : (b : List ℕ) (at : ℕ) → Bytes b → number3 b at < 16777216
 number3-small b at y = omega (arith, y at, y (at + 1), y (at + 2))
 
 pub home-is : (b : List ℕ) → headerWidth ≤ length b → homeOf b ≡ number3 b 0
@@ -33,7 +33,7 @@ home-small b y = go (leb headerWidth (length b))
 
 -- ---- one entry more
 
-pub heldFrom-next : (b : List ℕ) (n at off : ℕ) → 0 < n
+heldFrom-next : (b : List ℕ) (n at off : ℕ) → 0 < n
     → heldFrom b n at off ≡ heldAt b at off ∷ heldFrom b (n - 1) (at + entryWidth) (off + sizeAt b at)
 unfolding heldFrom
 heldFrom-next b zero at off h = absurd (not-suc-le-zero h)

@@ -32,7 +32,7 @@ module _ (s : List ℕ) (n : ℕ) (e : readIs s n .answer ≡ Accepted) where
 
 -- ---- an identity's numbers have 24 bits
 
-pub record Small (e : Identity) : Type 0 where
+record Small (e : Identity) : Type 0 where
   pub ssi : e .ssi < 2 ^ 24
   pub extension : e .extension < 2 ^ 24
 

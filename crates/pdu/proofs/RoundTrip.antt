@@ -68,7 +68,7 @@ accepted-legal s n r e =
     let e′ : answered (wholeParse pdu (bitsIn n s)) ≡ accepting r = rw (framed-first s n r e) at e in
     read-as (bitsIn n s) r (wholeParse pdu (bitsIn n s)) refl e′ .0
 
-pub accepted-writing : (s : List ℕ) (n : ℕ) (r : Record) → Bytes s → readIs s n ≡ accepting r → WritingOf s n r
+accepted-writing : (s : List ℕ) (n : ℕ) (r : Record) → Bytes s → readIs s n ≡ accepting r → WritingOf s n r
 unfolding readIs
 accepted-writing s n r b e =
     let f = framed-first s n r e in
@@ -77,7 +77,7 @@ accepted-writing s n r b e =
     let k = read-as (bitsIn n s) r (wholeParse pdu (bitsIn n s)) refl e′ in
     record { legal = k .0; size = sym (length-bitsIn s n fr) ∙ ap length (k .1); bytes = sym (pack-bitsIn s n b fr) ∙ ap pack (k .1) }
 
-pub writing-accepted : (s : List ℕ) (n : ℕ) (r : Record) → WritingOf s n r → readIs s n ≡ accepting r
+writing-accepted : (s : List ℕ) (n : ℕ) (r : Record) → WritingOf s n r → readIs s n ≡ accepting r
 unfolding readIs
 writing-accepted s n r w =
     let fr : Framed (pack (pdu .print r)) (lengthOf r) = framed-pack (pdu .print r) (omega (arith, pdu-size r)) in
