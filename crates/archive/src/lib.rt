@@ -1,6 +1,6 @@
 // The archive of INTERROGATE ACKs: an empty one, capture into it, restore from it (document 01, "The archive").
-pub mod checking;
-pub mod contents;
+mod checking;
+mod contents;
 mod copying;
 mod filing;
 pub mod listing;

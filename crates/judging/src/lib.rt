@@ -9,7 +9,7 @@ ghost use Rattle.grammar.specs.Grammar.{interrogateAck};
 ghost use Rattle.judging.specs.Walk.{Inside};
 ghost use Rattle.judging.specs.Judge as judging;
 
-pub mod walking;
+mod walking;
 
 // A PDU that an archive may hold: its affected user and its interrogation result. Any other PDU, legal or not, is none.
 pub enum Judged {
