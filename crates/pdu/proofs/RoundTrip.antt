@@ -29,10 +29,7 @@ use Rattle.writer.specs.Write.{recordRefusal, lengthOf, writeRefusal, written, 
 use Rattle.reader.specs.declared.Answer.the-variants.{Accepted, Refused}
 use Rattle.reader.specs.declared.Reading.{Reading}
 use Rattle.writer.specs.declared.Written.the-variants.{Bits}
-
--- a PDU that is accepted with a record
-abbrev pub accepting : Record → Reading
-accepting r = record { answer = Accepted; found = r }
+use Rattle.pdu.specs.Accepting.{accepting, WritingOf}
 
 -- ---- what is accepted
 
@@ -52,12 +49,6 @@ framed-first s n r e = go (framed s n) e
     go : (t : Bool) → pick t (answered (wholeParse pdu (bitsIn n s))) (refusing 1) ≡ accepting r → t ≡ true
     go true e = refl
     go false e = refusing-not 1 r e
-
--- a record that a PDU of n bits in the bytes s is the writing of
-pub record WritingOf (s : List ℕ) (n : ℕ) (r : Record) : Type 0 where
-  pub legal : Legal pdu r
-  pub size : n ≡ lengthOf r
-  pub bytes : s ≡ pack (pdu .print r)
 
 pub accepted-framed : (s : List ℕ) (n : ℕ) (r : Record) → readIs s n ≡ accepting r → Framed s n
 accepted-framed s n r e = framed-says s n (framed-first s n r e)
