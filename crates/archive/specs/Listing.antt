@@ -4,8 +4,8 @@ use Prim.Native.Nat.{ℕ, zero, suc, _+_, _/_, _%_}
 use lib.ListN.{length}
 use lib.Dec.{ltb, leb}
 use Rattle.bits.specs.Bits.{pick}
-use Rattle.archive.specs.Model.{Held, Archive, entryWidth}
-use Rattle.archive.specs.Reading.{entryAt, reading, isArchive}
+use Rattle.archive.specs.Model.{Held, Archive}
+use Rattle.archive.specs.Reading.{reading, isArchive}
 use Rattle.archive.specs.Keeping.{over}
 use Rattle.archive.specs.declared.contents.Entry.{Entry}
 use Rattle.archive.specs.declared.listing.Listed.{Listed}
@@ -69,11 +69,6 @@ line e = item (e .network) space ++ (item (e .ssi) part-word ++ (item (e .part) 
 unfoldable pub lines : List Held → List ℕ
 lines [] = []
 lines (h ∷ hs) = line (h .entry) ++ lines hs
-
--- the lines of n entries whose contents begin at a place of an archive's bytes
-unfoldable pub linesFrom : List ℕ → ℕ → ℕ → List ℕ
-linesFrom b zero at = []
-linesFrom b (suc n) at = line (entryAt b at) ++ linesFrom b n (at + entryWidth)
 
 unfoldable pub listing : Archive → List ℕ
 listing a = firstLine (a .home) (length (a .held)) ++ lines (a .held)
