@@ -15,7 +15,7 @@ use Rattle.archive.specs.Reading.{reading, isArchive}
 use Rattle.archive.specs.declared.Archived.{Archived}
 use Rattle.archive.specs.declared.Archived.the-variants.{Bytes, Refused}
 
--- the paper's number of an answer, 0 for success
+-- document 01's number of an answer, 0 for success
 abbrev pub archivedNumber : Archived → ℕ
 archivedNumber (Bytes n) = 0
 archivedNumber (Refused k) = k
