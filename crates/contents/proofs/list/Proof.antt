@@ -14,8 +14,7 @@ returns c =
     let listed = c .before .before .before .before .before in
     let entry = listed .before .before .before .before in
     let a = entry .args in
-    let e = sym (listed .list .ensures .0) ∙ c .before .listed .given .1 in
-    (
+    let e = sym (listed .list .ensures .0) ∙ c .before .listed .given .1 in (
       omega (arith, listed-fits (now (a .archive)) (length (now (a .text))) (c .before .listed .given .0 .0) e, listed .list .kept .1 .0),
       sym (ap sizeOf e) ∙ all-listed (now (a .archive)) (length (now (a .text))) (entry .pre),
     )
