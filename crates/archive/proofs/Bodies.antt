@@ -19,8 +19,8 @@ use Rattle.archive.specs.Model.{Held, bodySize}
 use Rattle.grammar.specs.Grammar.{networkOf}
 use Rattle.judging.specs.Judge.{isAccepted, mayHold, userOf, judgedIs}
 use Rattle.judging.specs.declared.Judged.the-variants.{Part, Other}
-use Rattle.archive.specs.Filing.{entryFor, filingOf, filingFor, agrees, bodyAgrees}
-use Rattle.archive.specs.Seeking.{EntryFits}
+use Rattle.archive.specs.Filing.{entryFor, filingOf, agrees, bodyAgrees}
+use Rattle.archive.specs.Seeking.{EntryFits, filingFor}
 use Rattle.archive.specs.declared.contents.Entry.{Entry}
 use Rattle.archive.specs.declared.filing.Filing.{Filing}
 use Rattle.archive.specs.declared.filing.Filing.the-variants.{Under, Nowhere}

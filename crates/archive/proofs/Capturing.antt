@@ -12,15 +12,17 @@ use Rattle.reader.specs.declared.Answer.{Answer}
 use Rattle.reader.specs.declared.Answer.the-variants as reader
 use Rattle.archive.specs.Model.{bytesOf, Archive, lengthOf, withinLimits}
 use Rattle.judging.specs.Judge.{isAccepted, mayHold}
-use Rattle.archive.specs.Filing.{entryFor, filingOf, filingFor}
+use Rattle.archive.specs.Filing.{entryFor, filingOf}
 use Rattle.archive.specs.Reading.{homeOf, reading, isArchive}
-use Rattle.archive.specs.Keeping.{leaves, heldFor, captured, ifAccepted, unfitNumber, placed, captureIs, captureOut}
+use Rattle.archive.specs.Keeping.{leaves, heldFor, captured, ifAccepted, placed, captureIs, captureOut}
+use Rattle.archive.specs.Seeking.{filingFor, unfitNumber}
 use Rattle.archive.specs.declared.Archived.{Archived}
 use Rattle.archive.specs.declared.Archived.the-variants.{Bytes, Refused}
 use Rattle.archive.specs.declared.contents.Entry.{Entry}
 use Rattle.archive.specs.declared.filing.Filing.the-variants.{Under, Nowhere}
 use Rattle.archive.proofs.Bodies.{Agrees, was-accepted}
-use Rattle.archive.proofs.Walks.{home-is, sound}
+use Rattle.archive.proofs.Walks.{home-is}
+use Rattle.archive.proofs.Checks.{sound}
 use lib.Dec.{leb}
 use borrow.Author.Tests.{le-leb, lt-leb}
 

@@ -2,7 +2,7 @@
 use mathlib.Core.Path.{_≡_, refl, sym, ap, _∙_}
 use mathlib.Core.Bool.{Bool, true, false, not, _&&_, _||_}
 use mathlib.Core.List.{List, [], _∷_}
-use Prim.Native.Nat.{ℕ, suc, _≤_, _<_}
+use Prim.Native.Nat.{ℕ, suc, _≤_}
 use native.Mathlib.Omega.{arith}
 use lib.ListN.{length}
 use lib.Dec.{ltb, leb, eqb}
@@ -11,37 +11,27 @@ use Rattle.bits.specs.Bits.{pick}
 use Rattle.bits.proofs.Tests.{both}
 use Rattle.reader.specs.Read.{readIs}
 use Rattle.reader.specs.declared.Answer.the-variants as reader
-use Rattle.archive.specs.Model.{Held, keyOf, headerWidth, lengthOf}
+use Rattle.archive.specs.Model.{Held, keyOf, Rising, no-key, next-key, headerWidth, lengthOf}
 use Rattle.judging.specs.Judge.{mayHold}
 use Rattle.archive.specs.Filing.{keepsRules, wellFormed}
-use Rattle.archive.specs.Reading.{countOf, bodiesAt, heldIn, reading, isArchive}
+use Rattle.archive.specs.Reading.{countOf, bodiesAt, heldIn, reading, isArchive, Counted}
 use Rattle.archive.specs.Keeping.{put, heldFor, captured, placed, captureIs}
 use Rattle.archive.specs.Restoring.{lookup}
 use Rattle.archive.specs.declared.Archived.{Archived}
 use Rattle.archive.specs.declared.Archived.the-variants.{Bytes, Refused}
 use Rattle.archive.proofs.Rules.{kept, formed}
-use Rattle.archive.proofs.Walks.{sound, length-heldFrom}
+use Rattle.archive.proofs.Walks.{length-heldFrom}
+use Rattle.archive.proofs.Checks.{sound}
 use Rattle.archive.proofs.Capturing.{as-placed}
 use Rattle.archive.proofs.Putting.{isNone, length-put}
 
 -- ---- the entry count is the number of keys held
-
--- keys that rise strictly from above one on
-pub data Rising : ℕ → List Held → Type 0 where
-  no-key : {last : ℕ} → Rising last []
-  next-key : {last : ℕ} {h : Held} {hs : List Held} → last < keyOf h → Rising (keyOf h) hs → Rising last (h ∷ hs)
 
 rising : (home last : ℕ) (hs : List Held) → keepsRules home last hs ≡ true → Rising last hs
 rising home last [] k = no-key
 rising home last (h ∷ hs) k =
     let u = kept home last h hs k in
     next-key (u .rises) (rising home (keyOf h) hs (u .others))
-
--- an archive's count is the number of PDUs held, each of another key, and its length is header, contents and bodies
-pub record Counted (b : List ℕ) : Type 0 where
-  pub count : countOf b ≡ length (reading b .held)
-  pub once : Rising 0 (reading b .held)
-  pub size : length b ≡ lengthOf (reading b)
 
 pub counted : (b : List ℕ) → isArchive b ≡ true → Counted b
 unfolding reading

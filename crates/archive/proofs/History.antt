@@ -18,9 +18,10 @@ use Rattle.archive.specs.Filing.{names, keepsRules, wellFormed}
 use Rattle.archive.specs.Reading.{reading, isArchive}
 use Rattle.archive.specs.Keeping.{over, leaves, emptyOf, emptyIs, emptyOut, heldFor, captured, captureOut}
 use Rattle.archive.specs.Restoring.{inRange, lookup, delivered, bodyOf, restoreIs, restores, restoreOut}
-use Rattle.archive.specs.History.{Offer, keptOf, answerTo, after, afterAll, entryOf, latest, lastAccepted, givenOf, pduOf}
+use Rattle.archive.specs.History.{Offer, keptOf, answerTo, after, afterAll, entryOf, latest, lastAccepted}
 use Rattle.archive.specs.declared.Archived.{Archived}
 use Rattle.archive.specs.declared.Archived.the-variants.{Bytes, Refused}
+use Rattle.archive.specs.declared.Restored.{Restored}
 use Rattle.archive.specs.declared.Restored.the-variants as restored
 use Rattle.archive.proofs.Rules.{is-formed}
 use Rattle.archive.proofs.Writing.{length-written, read-as-written, passes}
@@ -43,7 +44,7 @@ was-empty home room m = go (ltb home 16777216) refl (leb headerWidth room)
     go false h q e = absurd (let z : _≡_ {A = ℕ} 0 1 = cc in omega arith)
 
 -- what `empty` writes is an archive that holds nothing
-pub empty-holds : (home : ℕ) (out : List ℕ) (m : ℕ) → emptyIs home (length out) ≡ Bytes m
+empty-holds : (home : ℕ) (out : List ℕ) (m : ℕ) → emptyIs home (length out) ≡ Bytes m
     → (isArchive (take m (emptyOut home out)) ≡ true) × (reading (take m (emptyOut home out)) ≡ emptyOf home)
 unfolding emptyOut
 empty-holds home out m e =
@@ -92,11 +93,22 @@ module _ (network ssi part : ℕ) (r : inRange network ssi part ≡ true) where
       let s = step b o last ok m in
       steps (after b o) os (latest (answerTo b o) (names (entryOf b o) network ssi part) o last) (s .0) (s .1)
 
-  gives : (l : Option Held) (last : Option Offer) (room : ℕ) → Matches l last → (delivered l room ≡ givenOf last room) × (bodyOf l ≡ pduOf last)
-  gives none none room m = (refl, refl)
-  gives (some h) (some o) room m = (ap (λ (n : BitCount). pick (leb (bytesFor (n .0)) room) (restored.Bits n) (restored.Refused 8)) (m .1), m .0)
-  gives none (some o) room m = absurd m
-  gives (some h) none room m = absurd m
+-- ---- what restoring gives
+
+-- of the last PDU accepted: its bits, or 11 if there was none
+abbrev pub givenOf : Option Offer → ℕ → Restored
+givenOf none room = restored.Refused 11
+givenOf (some o) room = pick (leb (bytesFor (o .bits)) room) (restored.Bits (record { 0 = o .bits })) (restored.Refused 8)
+
+abbrev pub pduOf : Option Offer → List ℕ
+pduOf none = []
+pduOf (some o) = o .pdu
+
+gives : (l : Option Held) (last : Option Offer) (room : ℕ) → Matches l last → (delivered l room ≡ givenOf last room) × (bodyOf l ≡ pduOf last)
+gives none none room m = (refl, refl)
+gives (some h) (some o) room m = (ap (λ (n : BitCount). pick (leb (bytesFor (n .0)) room) (restored.Bits n) (restored.Refused 8)) (m .1), m .0)
+gives none (some o) room m = absurd m
+gives (some h) none room m = absurd m
 
 -- ---- the history
 
@@ -141,7 +153,7 @@ module _ (home : ℕ) (lent : List ℕ) (m : ℕ) (e : emptyIs home (length lent
       × (restoreOut (afterAll start os) network ssi part out ≡ restores (givenOf last (length out)) (pduOf last) out)
   history =
       let k = kept home lent m e os network ssi part r in
-      let g = gives network ssi part r (heldIn network ssi part r (afterAll start os)) last (length out) (k .held) in
+      let g = gives (heldIn network ssi part r (afterAll start os)) last (length out) (k .held) in
       let x = as-delivered (afterAll start os) network ssi part (length out) r (k .archive) ∙ g .0 in
       (x, restore-leaves (afterAll start os) network ssi part out x ∙ ap (λ (w : List ℕ). restores (givenOf last (length out)) w out) (g .1))
 

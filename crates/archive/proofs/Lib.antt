@@ -2,6 +2,7 @@ pub mod Tests
 pub mod Bodies
 pub mod Rules
 pub mod Walks
+pub mod Checks
 pub mod Laying
 pub mod Reading
 pub mod Writing
@@ -16,6 +17,6 @@ pub mod Users
 pub mod Theorems
 pub mod Counts
 pub mod History
-pub mod Fetching
 pub mod Decimal
 pub mod Lines
+pub mod Sizes

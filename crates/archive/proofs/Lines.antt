@@ -13,8 +13,8 @@ use borrow.Author.Tests.{leb-true}
 use Rattle.bits.specs.Bits.{pick}
 use Rattle.archive.specs.Model.{headerWidth, entryWidth}
 use Rattle.archive.specs.Reading.{homeOf, countOf, entryAt, sizeAt, heldFrom, bodiesAt, reading, isArchive}
-use Rattle.archive.specs.Seeking.{Laid}
-use Rattle.archive.specs.Listing.{decimal, item, firstLine, line, lines, linesFrom, listing, listIs}
+use Rattle.archive.specs.Seeking.{Laid, linesFrom}
+use Rattle.archive.specs.Listing.{decimal, item, firstLine, line, lines, listing, listIs}
 use Rattle.archive.specs.declared.contents.Entry.{Entry}
 use Rattle.archive.specs.declared.listing.Listed.the-variants.{Bytes, Refused}
 use Rattle.archive.proofs.Walks.{home-is, length-heldFrom}

@@ -1,6 +1,6 @@
--- Capture and restore in document 01's words: what is restored after a capture, and what a refusal leaves. Assumes nothing.
-use mathlib.Core.Path.{_≡_, refl, sym, ap, _∙_}
-use mathlib.Core.Bool.{Bool, true, false}
+-- Capture and restore in document 01's words: what is held and restored after a capture. Assumes nothing.
+use mathlib.Core.Path.{_≡_, sym, ap, _∙_}
+use mathlib.Core.Bool.{Bool, true}
 use mathlib.Core.List.{List}
 use mathlib.Core.Option.{Option, some}
 use Prim.Native.Nat.{ℕ, _≤_}
@@ -13,24 +13,20 @@ use Rattle.archive.specs.Model.{Held, Archive, keyFor, lengthOf}
 use Rattle.archive.specs.Filing.{entryFor, names}
 use Rattle.archive.specs.Reading.{reading, isArchive}
 use Rattle.archive.specs.Keeping.{over, heldFor, captured, captureIs, captureOut}
-use Rattle.archive.specs.Restoring.{inRange, lookup, delivered, bodyOf, restoreIs, restores, restoreOut}
-use Rattle.archive.specs.declared.Archived.the-variants.{Bytes, Refused}
+use Rattle.archive.specs.Restoring.{inRange, lookup, delivered, bodyOf, restoreIs, restoreOut}
+use Rattle.archive.specs.declared.Archived.the-variants.{Bytes}
 use Rattle.archive.specs.declared.Restored.the-variants as restored
 use Rattle.archive.specs.declared.contents.Entry.{Entry}
 use Rattle.archive.proofs.Bodies.{fits, part-is, Fits}
 use Rattle.archive.proofs.Captured.{Taken, taken, captured-formed, captured-archive, captured-reads, written}
 use Rattle.archive.proofs.Writing.{length-written}
 use Rattle.archive.proofs.Lookup.{ranged}
-use Rattle.archive.proofs.Restoring.{out-of-range, as-delivered, restore-leaves}
-use Rattle.archive.proofs.Capturing.{home-fits, offered-agrees, capture-leaves}
+use Rattle.archive.proofs.Restoring.{as-delivered, restore-leaves}
+use Rattle.archive.proofs.Capturing.{home-fits, offered-agrees}
 use Rattle.archive.proofs.Putting.{lookup-put}
 use Rattle.archive.proofs.Users.{key-names, names-itself, in-range}
 
--- a refused capture leaves the lent buffer, and so the caller with the old archive
-pub refused-leaves : (b s : List ℕ) (n : ℕ) (out : List ℕ) {k : ℕ} → captureIs b s n (length out) ≡ Refused k → captureOut b s n out ≡ out
-refused-leaves b s n out e = capture-leaves b s n out e
-
--- ---- after an accepted capture
+-- after an accepted capture
 
 module _ (b s : List ℕ) (n m : ℕ) (lent : List ℕ) (e : captureIs b s n (length lent) ≡ Bytes m) where
   -- the user and part of the captured PDU, and the archive that was written
@@ -53,10 +49,10 @@ module _ (b s : List ℕ) (n m : ℕ) (lent : List ℕ) (e : captureIs b s n (le
   pub new-length : (m ≡ length new) × (m ≡ lengthOf (captured b s n))
   new-length = (t .size ∙ sym (ap length (written b s n m lent e) ∙ length-written (captured b s n) (captured-formed b s n (length lent) m t)), t .size)
 
-  pub entry-fits : Fits (heldFor (reading b .home) s n)
+  entry-fits : Fits (heldFor (reading b .home) s n)
   entry-fits = fits (reading b .home) (heldFor (reading b .home) s n) (home-fits b (t .archive)) (offered-agrees (reading b .home) s n (t .accepted) (t .may))
 
-  pub entry-ranged : inRange (entry .network) (entry .ssi) (entry .part) ≡ true
+  entry-ranged : inRange (entry .network) (entry .ssi) (entry .part) ≡ true
   entry-ranged =
       let f = entry-fits .entry in
       let p = part-is (readIs s n .found) (t .may) in
@@ -88,21 +84,3 @@ module _ (b s : List ℕ) (n m : ℕ) (lent : List ℕ) (e : captureIs b s n (le
       ∙ ap (λ (p : Bool). pick p (restored.Bits (record { 0 = n })) (restored.Refused 8)) (le-leb (bytesFor n) (length out) h)
       in
       (x, restore-leaves new (entry .network) (entry .ssi) (entry .part) out x ∙ ap (λ (z : Option Held). over (bodyOf z) out) l)
-
-  -- and for every other user and part what it gave before
-  pub restore-other : (network ssi part : ℕ) → names entry network ssi part ≡ false → (out : List ℕ)
-      → (restoreIs new network ssi part (length out) ≡ restoreIs b network ssi part (length out))
-      × (restoreOut new network ssi part out ≡ restoreOut b network ssi part out)
-  restore-other network ssi part o out = go (inRange network ssi part) refl
-    where
-      go : (p : Bool) → inRange network ssi part ≡ p
-          → (restoreIs new network ssi part (length out) ≡ restoreIs b network ssi part (length out))
-          × (restoreOut new network ssi part out ≡ restoreOut b network ssi part out)
-      go false r =
-          let x = out-of-range new network ssi part (length out) r in
-          let y = out-of-range b network ssi part (length out) r in
-          (x ∙ sym y, restore-leaves new network ssi part out x ∙ sym (restore-leaves b network ssi part out y))
-      go true r =
-          let l : lookup (keyFor network ssi part) (reading new .held) ≡ lookup (keyFor network ssi part) (reading b .held) = held-after network ssi part r ∙ ap (λ (q : Bool). pick q (some (heldFor (reading b .home) s n)) (lookup (keyFor network ssi part) (reading b .held))) o in
-          let x = as-delivered new network ssi part (length out) r new-archive ∙ ap (λ (z : Option Held). delivered z (length out)) l ∙ sym (as-delivered b network ssi part (length out) r (t .archive)) in
-          (x, restore-leaves new network ssi part out x ∙ ap (λ (z : Option Held). restores (restoreIs b network ssi part (length out)) (bodyOf z) out) l ∙ sym (restore-leaves b network ssi part out refl))

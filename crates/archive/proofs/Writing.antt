@@ -44,7 +44,7 @@ held-back b h at off p q p′ q′ f e l e′ l′ =
     in
     λ i. record { entry = record { network = n i; ssi = s i; part = g 6 i; bits = record { 0 = t i } }; body = d i }
 
-pub length-entry : (e : Entry) → length (entryBytes e) ≡ entryWidth
+length-entry : (e : Entry) → length (entryBytes e) ≡ entryWidth
 unfolding entryBytes
 length-entry e = refl
 

@@ -21,10 +21,6 @@ entryFor home r n = record { network = networkOf home (userOf r); ssi = userOf r
 unfoldable pub filingOf : ℕ → Record → ℕ → Filing
 filingOf home r n = pick (mayHold r) (Under (entryFor home r n)) Nowhere
 
--- the entry of a PDU of n bits; nowhere also for one that is not legal
-unfoldable pub filingFor : ℕ → List ℕ → ℕ → Filing
-filingFor home s n = pick (isAccepted (readIs s n .answer)) (filingOf home (readIs s n .found) n) Nowhere
-
 -- ---- an archive that keeps the rules
 
 -- the entry is of that network, SSI and part

@@ -1,20 +1,15 @@
 -- A history of offered PDUs: each is captured into a buffer that is lent for it; after a refusal one goes on with the old archive.
 use mathlib.Core.Bool.{Bool, true, false}
 use mathlib.Core.List.{List, [], _∷_}
-use mathlib.Core.Option.{Option, none, some}
+use mathlib.Core.Option.{Option, some}
 use Prim.Native.Nat.{ℕ}
 use lib.ListN.{length, take}
-use lib.Dec.{leb}
-use Rattle.bits.specs.Bits.{pick}
-use Rattle.bits.specs.Frame.{bytesFor}
 use Rattle.reader.specs.Read.{readIs}
 use Rattle.archive.specs.Filing.{entryFor, names}
 use Rattle.archive.specs.Reading.{reading}
 use Rattle.archive.specs.Keeping.{captureIs, captureOut}
 use Rattle.archive.specs.declared.Archived.{Archived}
 use Rattle.archive.specs.declared.Archived.the-variants.{Bytes, Refused}
-use Rattle.archive.specs.declared.Restored.{Restored}
-use Rattle.archive.specs.declared.Restored.the-variants as restored
 use Rattle.archive.specs.declared.contents.Entry.{Entry}
 
 -- an offered PDU, its bit length, and the buffer lent for its capture
@@ -54,12 +49,3 @@ unfoldable pub lastAccepted : ℕ → ℕ → ℕ → List ℕ → Option Offer 
 lastAccepted network ssi part b last [] = last
 lastAccepted network ssi part b last (o ∷ os) =
     lastAccepted network ssi part (after b o) (latest (answerTo b o) (names (entryOf b o) network ssi part) o last) os
-
--- restoring gives its bits, or 11 if there was none
-abbrev pub givenOf : Option Offer → ℕ → Restored
-givenOf none room = restored.Refused 11
-givenOf (some o) room = pick (leb (bytesFor (o .bits)) room) (restored.Bits (record { 0 = o .bits })) (restored.Refused 8)
-
-abbrev pub pduOf : Option Offer → List ℕ
-pduOf none = []
-pduOf (some o) = o .pdu

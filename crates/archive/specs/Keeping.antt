@@ -12,11 +12,10 @@ use Rattle.archive.specs.Model.{Held, Archive, keyOf, headerWidth, bytes
 use Rattle.judging.specs.Judge.{mayHold}
 use Rattle.archive.specs.Filing.{entryFor}
 use Rattle.archive.specs.Reading.{reading, isArchive}
-use Rattle.archive.specs.declared.contents.Entry.{Entry}
 use Rattle.archive.specs.declared.Archived.{Archived}
 use Rattle.archive.specs.declared.Archived.the-variants.{Bytes, Refused}
 
--- the paper's number of an answer, 0 for success
+-- document 01's number of an answer, 0 for success
 abbrev pub archivedNumber : Archived → ℕ
 archivedNumber (Bytes n) = 0
 archivedNumber (Refused k) = k
@@ -51,10 +50,6 @@ put h (x ∷ xs) = pick (ltb (keyOf x) (keyOf h)) (x ∷ put h xs) (pick (eqb (k
 abbrev pub with : Archive → Held → Archive
 with a h = record { home = a .home; held = put h (a .held) }
 
--- the archive of some bytes with a body under an entry
-abbrev pub filedIn : List ℕ → Entry → List ℕ → Archive
-filedIn b e body = with (reading b) (record { entry = e; body = body })
-
 -- what a PDU of n bits is held as
 abbrev pub heldFor : ℕ → List ℕ → ℕ → Held
 heldFor home s n = record { entry = entryFor home (readIs s n .found) n; body = s }
@@ -67,11 +62,6 @@ captured b s n = with (reading b) (heldFor (reading b .home) s n)
 abbrev pub ifAccepted : Answer → Archived → Archived
 ifAccepted reader.Accepted r = r
 ifAccepted (reader.Refused k) r = Refused k
-
--- the number with which a PDU is not filed: its own refusal, or 6
-abbrev pub unfitNumber : Answer → ℕ
-unfitNumber reader.Accepted = 6
-unfitNumber (reader.Refused k) = k
 
 -- 8 for one entry too many, or a result over the limit or the lent buffer
 unfoldable pub placed : Archive → ℕ → Archived

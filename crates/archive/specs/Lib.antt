@@ -3,7 +3,7 @@ pub mod Filing
 pub mod Reading
 pub mod Keeping
 pub mod Restoring
-pub mod Seeking
 pub mod History
 pub mod Listing
+pub mod Seeking
 pub mod Examples

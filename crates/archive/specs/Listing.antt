@@ -4,8 +4,8 @@ use Prim.Native.Nat.{ℕ, zero, suc, _+_, _/_, _%_}
 use lib.ListN.{length}
 use lib.Dec.{ltb, leb}
 use Rattle.bits.specs.Bits.{pick}
-use Rattle.archive.specs.Model.{Held, Archive, entryWidth}
-use Rattle.archive.specs.Reading.{entryAt, reading, isArchive}
+use Rattle.archive.specs.Model.{Held, Archive}
+use Rattle.archive.specs.Reading.{reading, isArchive}
 use Rattle.archive.specs.Keeping.{over}
 use Rattle.archive.specs.declared.contents.Entry.{Entry}
 use Rattle.archive.specs.declared.listing.Listed.{Listed}
@@ -29,28 +29,28 @@ decimal n = digits 20 n
 -- ---- words
 
 -- `home `
-abbrev pub home-word : List ℕ
-home-word = 104 ∷ 111 ∷ 109 ∷ 101 ∷ 32 ∷ []
+abbrev pub homeWord : List ℕ
+homeWord = 104 ∷ 111 ∷ 109 ∷ 101 ∷ 32 ∷ []
 
 -- ` entries `
-abbrev pub entries-word : List ℕ
-entries-word = 32 ∷ 101 ∷ 110 ∷ 116 ∷ 114 ∷ 105 ∷ 101 ∷ 115 ∷ 32 ∷ []
+abbrev pub entriesWord : List ℕ
+entriesWord = 32 ∷ 101 ∷ 110 ∷ 116 ∷ 114 ∷ 105 ∷ 101 ∷ 115 ∷ 32 ∷ []
 
 -- a space
 abbrev pub space : List ℕ
 space = 32 ∷ []
 
 -- ` part `
-abbrev pub part-word : List ℕ
-part-word = 32 ∷ 112 ∷ 97 ∷ 114 ∷ 116 ∷ 32 ∷ []
+abbrev pub partWord : List ℕ
+partWord = 32 ∷ 112 ∷ 97 ∷ 114 ∷ 116 ∷ 32 ∷ []
 
 -- ` bits `
-abbrev pub bits-word : List ℕ
-bits-word = 32 ∷ 98 ∷ 105 ∷ 116 ∷ 115 ∷ 32 ∷ []
+abbrev pub bitsWord : List ℕ
+bitsWord = 32 ∷ 98 ∷ 105 ∷ 116 ∷ 115 ∷ 32 ∷ []
 
 -- LF
-abbrev pub line-end : List ℕ
-line-end = 10 ∷ []
+abbrev pub lineEnd : List ℕ
+lineEnd = 10 ∷ []
 
 -- ---- lines
 
@@ -60,27 +60,22 @@ item n word = decimal n ++ word
 
 -- `home H entries N`
 unfoldable pub firstLine : ℕ → ℕ → List ℕ
-firstLine home count = home-word ++ (item home entries-word ++ item count line-end)
+firstLine home count = homeWord ++ (item home entriesWord ++ item count lineEnd)
 
 -- `NETWORK SSI part P bits B`
 unfoldable pub line : Entry → List ℕ
-line e = item (e .network) space ++ (item (e .ssi) part-word ++ (item (e .part) bits-word ++ item (e .bits .0) line-end))
+line e = item (e .network) space ++ (item (e .ssi) partWord ++ (item (e .part) bitsWord ++ item (e .bits .0) lineEnd))
 
 unfoldable pub lines : List Held → List ℕ
 lines [] = []
 lines (h ∷ hs) = line (h .entry) ++ lines hs
-
--- the lines of n entries whose contents begin at a place of an archive's bytes
-unfoldable pub linesFrom : List ℕ → ℕ → ℕ → List ℕ
-linesFrom b zero at = []
-linesFrom b (suc n) at = line (entryAt b at) ++ linesFrom b n (at + entryWidth)
 
 unfoldable pub listing : Archive → List ℕ
 listing a = firstLine (a .home) (length (a .held)) ++ lines (a .held)
 
 -- ---- list: 7, then 8 if the lent buffer is too short
 
--- the paper's number of an answer, 0 for success
+-- document 01's number of an answer, 0 for success
 abbrev pub listedNumber : Listed → ℕ
 listedNumber (Bytes n) = 0
 listedNumber (Refused k) = k

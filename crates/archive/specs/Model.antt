@@ -1,7 +1,7 @@
 -- The archive as a model, a home network and the PDUs held; its bytes; and its limits (document 01, "The archive").
 use mathlib.Core.Bool.{Bool, _&&_}
 use mathlib.Core.List.{List, [], _∷_, _++_}
-use Prim.Native.Nat.{ℕ, _+_, _*_, _/_, _%_}
+use Prim.Native.Nat.{ℕ, _+_, _*_, _/_, _%_, _<_}
 use lib.ListN.{length}
 use lib.Dec.{leb}
 use Rattle.bits.specs.Frame.{bytesFor}
@@ -22,6 +22,11 @@ keyFor network ssi part = network * 4294967296 + ssi * 256 + part
 
 abbrev pub keyOf : Held → ℕ
 keyOf h = keyFor (h .entry .network) (h .entry .ssi) (h .entry .part)
+
+-- entries that rise strictly, from above a key on: no user and part stands twice
+pub data Rising : ℕ → List Held → Type 0 where
+  no-key : {last : ℕ} → Rising last []
+  next-key : {last : ℕ} {h : Held} {hs : List Held} → last < keyOf h → Rising (keyOf h) hs → Rising last (h ∷ hs)
 
 -- ---- bytes, the most significant of a number first
 

@@ -1,4 +1,5 @@
 -- What bytes say as an archive, and which bytes are one.
+use mathlib.Core.Path.{_≡_}
 use mathlib.Core.Bool.{Bool, _&&_}
 use mathlib.Core.List.{List, [], _∷_}
 use Prim.Native.Nat.{ℕ, zero, suc, _+_, _*_}
@@ -6,7 +7,7 @@ use lib.ListN.{length, getD, take, drop}
 use lib.Dec.{leb, eqb}
 use Rattle.bits.specs.Bits.{pick}
 use Rattle.bits.specs.Frame.{bytesFor}
-use Rattle.archive.specs.Model.{Held, Archive, headerWidth, entryWidth, lengthOf}
+use Rattle.archive.specs.Model.{Held, Archive, Rising, headerWidth, entryWidth, lengthOf}
 use Rattle.archive.specs.Filing.{wellFormed}
 use Rattle.archive.specs.declared.contents.Entry.{Entry}
 
@@ -52,3 +53,9 @@ reading b = record { home = number3 b 0; held = heldIn b }
 -- the archive that the bytes say keeps the rules, and is as long as they are
 unfoldable pub isArchive : List ℕ → Bool
 isArchive b = wellFormed (reading b) && eqb (lengthOf (reading b)) (length b)
+
+-- the entry count is the number of PDUs held, each for another user and part; the length is that of header, contents and bodies
+pub record Counted (b : List ℕ) : Type 0 where
+  pub count : countOf b ≡ length (reading b .held)
+  pub once : Rising 0 (reading b .held)
+  pub size : length b ≡ lengthOf (reading b)

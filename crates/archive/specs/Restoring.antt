@@ -32,7 +32,7 @@ fetchIs b network ssi part =
 
 -- ---- restore
 
--- the paper's number of an answer, 0 for success
+-- document 01's number of an answer, 0 for success
 abbrev pub restoredNumber : Restored → ℕ
 restoredNumber (Bits n) = 0
 restoredNumber (Refused k) = k

@@ -1,15 +1,42 @@
--- Where a key stands in an archive's bytes, and the bytes of a capture as parts of the old archive around the new entry and body.
+-- What private functions give: a PDU's filing; where a key stands in an archive's bytes; the bytes of a capture as parts of the old archive
+-- around the new entry and body; the lines of a listing.
 use mathlib.Core.Path.{_≡_}
 use mathlib.Core.List.{List, [], _∷_, _++_}
-use Prim.Native.Nat.{ℕ, _+_, _-_, _*_, _≤_, _<_}
+use Prim.Native.Nat.{ℕ, zero, suc, _+_, _-_, _*_, _≤_, _<_}
 use lib.ListN.{length, take, drop}
 use lib.Dec.{ltb, eqb}
 use Rattle.bits.specs.Bits.{pick}
 use Rattle.bits.specs.Frame.{bytesFor}
-use Rattle.archive.specs.Model.{Held, keyOf, headerWidth, entryWidth, headerBytes, entryBytes, bodySize}
-use Rattle.archive.specs.Reading.{homeOf}
+use Rattle.reader.specs.Read.{readIs}
+use Rattle.reader.specs.declared.Answer.{Answer}
+use Rattle.reader.specs.declared.Answer.the-variants as reader
+use Rattle.judging.specs.Judge.{isAccepted}
+use Rattle.archive.specs.Model.{Held, Archive, keyOf, headerWidth, entryWidth, headerBytes, entryBytes, bodySize}
+use Rattle.archive.specs.Filing.{filingOf}
+use Rattle.archive.specs.Reading.{homeOf, entryAt, reading}
+use Rattle.archive.specs.Keeping.{with}
+use Rattle.archive.specs.Listing.{line}
 use Rattle.archive.specs.declared.contents.Entry.{Entry}
 use Rattle.archive.specs.declared.checking.Place.{Place}
+use Rattle.archive.specs.declared.filing.Filing.{Filing}
+use Rattle.archive.specs.declared.filing.Filing.the-variants.{Nowhere}
+
+-- ---- filing
+
+-- the entry of a PDU of n bits; nowhere also for one that is not legal
+unfoldable pub filingFor : ℕ → List ℕ → ℕ → Filing
+filingFor home s n = pick (isAccepted (readIs s n .answer)) (filingOf home (readIs s n .found) n) Nowhere
+
+-- the number with which a PDU is not filed: its own refusal, or 6
+abbrev pub unfitNumber : Answer → ℕ
+unfitNumber reader.Accepted = 6
+unfitNumber (reader.Refused k) = k
+
+-- the archive of some bytes with a body under an entry
+abbrev pub filedIn : List ℕ → Entry → List ℕ → Archive
+filedIn b e body = with (reading b) (record { entry = e; body = body })
+
+-- ---- the place of a key
 
 -- a place with so many entries, none or one, and a body of so many bits
 abbrev pub placeOf : ℕ → ℕ → ℕ → ℕ → Place
@@ -71,3 +98,10 @@ splicedLength b p size = p .at + entryWidth + backLength b p size
 pub record Laid (out : List ℕ) (at : ℕ) (s : List ℕ) (out′ : List ℕ) (end : ℕ) : Type 0 where
   pub ends : end ≡ at + length s
   pub same : out′ ≡ take at out ++ (s ++ drop (at + length s) out)
+
+-- ---- the listing
+
+-- the lines of n entries whose contents begin at a place of an archive's bytes
+unfoldable pub linesFrom : List ℕ → ℕ → ℕ → List ℕ
+linesFrom b zero at = []
+linesFrom b (suc n) at = line (entryAt b at) ++ linesFrom b n (at + entryWidth)

@@ -8,9 +8,9 @@ ghost use Rattle.archive.specs.Reading.{number2, number3, homeOf, entryA
 ghost use Rattle.archive.specs.Seeking.{EntryFits};
 
 // Bytes of the header, and of an entry of the contents.
-pub const HEADER: usize = 5;
+pub(crate) const HEADER: usize = 5;
 
-pub const ENTRY: usize = 9;
+pub(crate) const ENTRY: usize = 9;
 
 // A contents entry.
 pub struct Entry {

@@ -1,6 +1,6 @@
 // The archive of INTERROGATE ACKs: an empty one, capture into it, restore from it (document 01, "The archive").
-pub mod checking;
-pub mod contents;
+mod checking;
+mod contents;
 mod copying;
 mod filing;
 pub mod listing;
@@ -21,8 +21,8 @@ ghost use Rattle.bits.specs.Frame.{bytesFor};
 ghost use Rattle.reader.specs.Read.{readIs};
 ghost use Rattle.archive.specs.Model.{bytesOf};
 ghost use Rattle.archive.specs.Reading.{isArchive};
-ghost use Rattle.archive.specs.Seeking.{EntryFits};
-ghost use Rattle.archive.specs.Keeping.{leaves, emptyIs, emptyOut, filedIn, unfitNumber, placed, captureIs, captureOut};
+ghost use Rattle.archive.specs.Seeking.{EntryFits, filedIn, unfitNumber};
+ghost use Rattle.archive.specs.Keeping.{leaves, emptyIs, emptyOut, placed, captureIs, captureOut};
 ghost use Rattle.archive.specs.Restoring.{inRange, fetchIs, restores, restoreIs, restoreOut};
 
 // The length in bytes of an archive that was written, or a refusal number.

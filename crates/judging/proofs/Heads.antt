@@ -22,8 +22,8 @@ use Rattle.grammar.specs.declared.record.Record.{Record}
 use Rattle.grammar.specs.declared.site.Listing.the-variants as of
 use Rattle.reader.specs.Reader.{recordAt}
 use Rattle.reader.proofs.Steps.{identities-at, pdu-at}
-use Rattle.judging.specs.Walk.{walked, walk, Inside}
-use Rattle.judging.specs.Judge.{mayHold, userOf, judgedIs, partAfter, held}
+use Rattle.judging.specs.Walk.{walked, walk, Inside, partAfter, held}
+use Rattle.judging.specs.Judge.{mayHold, userOf, judgedIs}
 use Rattle.judging.specs.declared.Judged.the-variants.{Part, Other}
 use Rattle.judging.specs.declared.walking.Walked.the-variants.{Off}
 use Rattle.judging.proofs.Walks.{read-cases, walk-short}

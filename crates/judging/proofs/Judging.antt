@@ -17,8 +17,7 @@ use Rattle.grammar.specs.SiteSheet.{resultRefusal}
 use Rattle.grammar.specs.Grammar.{services, partOf, Rest, interrogateAck}
 use Rattle.grammar.specs.declared.record.Services.{Services}
 use Rattle.grammar.specs.declared.record.Lists.{Lists}
-use Rattle.judging.specs.Walk.{walked, walk, Inside}
-use Rattle.judging.specs.Judge.{ending, partAfter}
+use Rattle.judging.specs.Walk.{walked, walk, Inside, ending, partAfter}
 use Rattle.judging.specs.declared.walking.Walked.the-variants.{Off}
 use Rattle.judging.proofs.Walks.{onward, walk-seq, walk-short}
 use Rattle.judging.proofs.Windows.{length-pdu, window-first}

@@ -3,10 +3,9 @@ use mathlib.Core.Bool.{Bool, true, false, _&&_}
 use mathlib.Core.List.{List}
 use Prim.Native.Nat.{ℕ}
 use lib.ListN.{getD}
-use lib.Dec.{ltb, leb, eqb}
+use lib.Dec.{leb, eqb}
 use Rattle.bits.specs.Bits.{pick}
-use Rattle.codec.specs.Reading.{Answer, got, refused}
-use Rattle.grammar.specs.Grammar.{zeroIdentity, Rest}
+use Rattle.grammar.specs.Grammar.{zeroIdentity}
 use Rattle.grammar.specs.declared.record.Identity.{Identity}
 use Rattle.grammar.specs.declared.record.Record.{Record}
 use Rattle.reader.specs.Read.{readIs}
@@ -14,8 +13,6 @@ use Rattle.reader.specs.declared.Answer as reader
 use Rattle.reader.specs.declared.Answer.the-variants.{Accepted, Refused}
 use Rattle.judging.specs.declared.Judged.{Judged}
 use Rattle.judging.specs.declared.Judged.the-variants.{Part, Other}
-use Rattle.judging.specs.declared.walking.Walked.{Walked}
-use Rattle.judging.specs.declared.walking.Walked.the-variants.{At, Off}
 
 abbrev pub isAccepted : reader.Answer → Bool
 isAccepted Accepted = true
@@ -35,19 +32,3 @@ judgedIs s n =
     pick (isAccepted (readIs s n .answer) && mayHold (readIs s n .found))
     (Part (userOf (readIs s n .found)) (readIs s n .found .result))
     Other
-
--- ---- the steps of judging
-
--- a part that ends the PDU of n bits; 0 for one that does not
-abbrev pub ending : ℕ → ℕ → Walked → ℕ
-ending n part (At at) = pick (ltb at n) 0 part
-ending n part Off = 0
-
--- the part that follows an affected user, from a place on: 1 or 2, its interrogation result, if it is legal and ends the PDU; otherwise 0
-abbrev pub partAfter : ℕ → Answer Rest → ℕ
-partAfter n (got rest at) = pick (leb 1 (rest .1 .0) && leb (rest .1 .0) 2) (ending n (rest .1 .0) (At at)) 0
-partAfter n (refused k p) = 0
-
--- a user with a part
-abbrev pub held : Identity → ℕ → Judged
-held user part = pick (eqb part 0) Other (Part user part)

@@ -6,10 +6,10 @@ ghost use mathlib.Core.Path.{_≡_};
 ghost use Rattle.bits.specs.Frame.{bitsIn};
 ghost use Rattle.codec.specs.Reading.{readAt};
 ghost use Rattle.grammar.specs.Grammar.{interrogateAck};
-ghost use Rattle.judging.specs.Walk.{Inside};
-ghost use Rattle.judging.specs.Judge as judging;
+ghost use Rattle.judging.specs.Judge.{judgedIs};
+ghost use Rattle.judging.specs.Walk as walk;
 
-pub mod walking;
+mod walking;
 
 // A PDU that an archive may hold: its affected user and its interrogation result. Any other PDU, legal or not, is none.
 pub enum Judged {
@@ -21,7 +21,7 @@ pub enum Judged {
 const HEAD: u64 = 9409;
 
 pub fn judge(s: &[u8], n: BitCount) -> Judged
-    ensures { λ r. ⌜ r ≡ judging.judgedIs (now (s .entry)) (n .0) ⌝ }
+    ensures { λ r. ⌜ r ≡ judgedIs (now (s .entry)) (n .0) ⌝ }
 {
     if !bits::is_framed(s, n) {
         return Judged::Other;
@@ -55,7 +55,7 @@ pub fn judge(s: &[u8], n: BitCount) -> Judged
 }
 
 fn held(user: Identity, part: u32) -> Judged
-    ensures { λ r. ⌜ r ≡ judging.held user part ⌝ }
+    ensures { λ r. ⌜ r ≡ walk.held user part ⌝ }
 {
     if part == 0 {
         return Judged::Other;
@@ -65,8 +65,8 @@ fn held(user: Identity, part: u32) -> Judged
 
 // The part that follows the affected user: 1 or 2, its interrogation result, if it is legal and ends the PDU; otherwise 0.
 fn part_after(s: &[u8], n: usize, start: usize) -> u32
-    requires { ⌜ Inside (now s) n start ⌝ }
-    ensures { λ r. ⌜ r ≡ judging.partAfter n (readAt interrogateAck (bitsIn n (now (s .entry))) start) ⌝ }
+    requires { ⌜ walk.Inside (now s) n start ⌝ }
+    ensures { λ r. ⌜ r ≡ walk.partAfter n (readAt interrogateAck (bitsIn n (now (s .entry))) start) ⌝ }
 {
     if n - start < 5 {
         return 0;
@@ -80,7 +80,7 @@ fn part_after(s: &[u8], n: usize, start: usize) -> u32
 
 // A part, if it ends the PDU of n bits; otherwise 0.
 fn ending(n: usize, part: u32, end: Walked) -> u32
-    ensures { λ r. ⌜ r ≡ judging.ending n part end ⌝ }
+    ensures { λ r. ⌜ r ≡ walk.ending n part end ⌝ }
 {
     let Walked::At(at) = end else {
         return 0;

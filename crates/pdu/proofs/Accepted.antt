@@ -19,10 +19,11 @@ use Rattle.grammar.specs.declared.record.Identity.{Identity}
 use Rattle.grammar.specs.declared.record.Record.{Record}
 use Rattle.reader.specs.Read.{readIs}
 use Rattle.reader.specs.declared.Answer.the-variants.{Accepted}
+use Rattle.pdu.specs.Accepting.{accepting}
 use Rattle.pdu.proofs.RoundTrip as trip
 
 module _ (s : List ℕ) (n : ℕ) (e : readIs s n .answer ≡ Accepted) where
-  with-record : readIs s n ≡ trip.accepting (readIs s n .found)
+  with-record : readIs s n ≡ accepting (readIs s n .found)
   with-record = λ i. record { answer = e i; found = readIs s n .found }
 
   pub accepted-framed : Framed s n
@@ -33,7 +34,7 @@ module _ (s : List ℕ) (n : ℕ) (e : readIs s n .answer ≡ Accepted) where
 
 -- ---- an identity's numbers have 24 bits
 
-pub record Small (e : Identity) : Type 0 where
+record Small (e : Identity) : Type 0 where
   pub ssi : e .ssi < 2 ^ 24
   pub extension : e .extension < 2 ^ 24
 

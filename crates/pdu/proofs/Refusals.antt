@@ -49,7 +49,7 @@ faults = record {
 }
 
 -- A record whose PDU type we read has no fault, or one with 3 or 4.
-pub pdu-fault : (r : Record) → kindRefusal (r .kind) ≡ 0 → ThreeOrFour (pdu .fault r)
+pdu-fault : (r : Record) → kindRefusal (r .kind) ≡ 0 → ThreeOrFour (pdu .fault r)
 unfolding pdu mark shaped seq element tested
 pdu-fault r e =
     firstly (firstly (faults .number 6 ssType) none)

@@ -29,10 +29,7 @@ use Rattle.writer.specs.Write.{recordRefusal, lengthOf, writeRefusal, written, 
 use Rattle.reader.specs.declared.Answer.the-variants.{Accepted, Refused}
 use Rattle.reader.specs.declared.Reading.{Reading}
 use Rattle.writer.specs.declared.Written.the-variants.{Bits}
-
--- a PDU that is accepted with a record
-abbrev pub accepting : Record → Reading
-accepting r = record { answer = Accepted; found = r }
+use Rattle.pdu.specs.Accepting.{accepting, WritingOf}
 
 -- ---- what is accepted
 
@@ -53,12 +50,6 @@ framed-first s n r e = go (framed s n) e
     go true e = refl
     go false e = refusing-not 1 r e
 
--- a record that a PDU of n bits in the bytes s is the writing of
-pub record WritingOf (s : List ℕ) (n : ℕ) (r : Record) : Type 0 where
-  pub legal : Legal pdu r
-  pub size : n ≡ lengthOf r
-  pub bytes : s ≡ pack (pdu .print r)
-
 pub accepted-framed : (s : List ℕ) (n : ℕ) (r : Record) → readIs s n ≡ accepting r → Framed s n
 accepted-framed s n r e = framed-says s n (framed-first s n r e)
 
@@ -68,7 +59,7 @@ accepted-legal s n r e =
     let e′ : answered (wholeParse pdu (bitsIn n s)) ≡ accepting r = rw (framed-first s n r e) at e in
     read-as (bitsIn n s) r (wholeParse pdu (bitsIn n s)) refl e′ .0
 
-pub accepted-writing : (s : List ℕ) (n : ℕ) (r : Record) → Bytes s → readIs s n ≡ accepting r → WritingOf s n r
+accepted-writing : (s : List ℕ) (n : ℕ) (r : Record) → Bytes s → readIs s n ≡ accepting r → WritingOf s n r
 unfolding readIs
 accepted-writing s n r b e =
     let f = framed-first s n r e in
@@ -77,7 +68,7 @@ accepted-writing s n r b e =
     let k = read-as (bitsIn n s) r (wholeParse pdu (bitsIn n s)) refl e′ in
     record { legal = k .0; size = sym (length-bitsIn s n fr) ∙ ap length (k .1); bytes = sym (pack-bitsIn s n b fr) ∙ ap pack (k .1) }
 
-pub writing-accepted : (s : List ℕ) (n : ℕ) (r : Record) → WritingOf s n r → readIs s n ≡ accepting r
+writing-accepted : (s : List ℕ) (n : ℕ) (r : Record) → WritingOf s n r → readIs s n ≡ accepting r
 unfolding readIs
 writing-accepted s n r w =
     let fr : Framed (pack (pdu .print r)) (lengthOf r) = framed-pack (pdu .print r) (omega (arith, pdu-size r)) in

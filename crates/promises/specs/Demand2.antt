@@ -13,8 +13,8 @@ use Rattle.grammar.specs.declared.record.Record.{Record}
 use Rattle.reader.specs.Read.{readIs}
 use Rattle.writer.specs.Write.{lengthOf, writeIs, outIs}
 use Rattle.writer.specs.declared.Written.the-variants.{Bits}
+use Rattle.pdu.specs.Accepting.{accepting, WritingOf}
 use Rattle.pdu.proofs.RoundTrip as trip
-use Rattle.pdu.proofs.RoundTrip.{accepting, WritingOf}
 
 -- A PDU of n bits in the bytes s is accepted with a record exactly if it is the writing of that record, and the record is legal.
 pub read-exactly-legal : (s : List ℕ) (n : ℕ) (r : Record) → Bytes s → (readIs s n ≡ accepting r) ↔ WritingOf s n r

@@ -11,9 +11,10 @@ use Rattle.reader.specs.Read.{readIs}
 use Rattle.reader.specs.declared.Answer.the-variants.{Accepted}
 use Rattle.judging.specs.Judge.{mayHold}
 use Rattle.archive.specs.Model.{Archive, bytesOf}
-use Rattle.archive.specs.Filing.{entryFor, filingFor}
+use Rattle.archive.specs.Filing.{entryFor}
 use Rattle.archive.specs.Reading.{reading, isArchive}
 use Rattle.archive.specs.Keeping.{leaves, with, heldFor, captured, placed, captureIs}
+use Rattle.archive.specs.Seeking.{filingFor}
 use Rattle.archive.specs.declared.Archived.the-variants.{Refused}
 use Rattle.archive.specs.declared.contents.Entry.{Entry}
 use Rattle.archive.proofs.Bodies.{fits, Fits}

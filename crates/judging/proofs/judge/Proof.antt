@@ -10,8 +10,7 @@ use Rattle.bits.specs.Frame.{framed}
 use Rattle.bits.specs.Element.{windowAt}
 use Rattle.bits.proofs.Frames.{framed-says}
 use Rattle.grammar.specs.declared.record.Identity.{Identity}
-use Rattle.judging.specs.Walk.{Inside}
-use Rattle.judging.specs.Judge.{held}
+use Rattle.judging.specs.Walk.{Inside, held}
 use Rattle.judging.proofs.Identities.{identity-plain, identity-wide, identity-cut}
 use Rattle.judging.proofs.Users.{judged-unframed}
 use Rattle.judging.proofs.Heads.{judged-other, judged-user, judged-no-user, judged-short}

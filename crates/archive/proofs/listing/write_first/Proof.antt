@@ -5,22 +5,22 @@ use native.Mathlib.Omega.{arith}
 use borrow.Author.Needs.{needs}
 use denote.Ref.{now}
 use lib.ListN.{length}
-use Rattle.archive.specs.Listing.{home-word, entries-word, line-end, item, firstLine}
+use Rattle.archive.specs.Listing.{homeWord, entriesWord, lineEnd, item, firstLine}
 use Rattle.archive.proofs.Laying.{then}
 use Rattle.archive.proofs.Lines.{length-first, first-fits, rest-fits}
 use Rattle.archive.proofs.listing.write_first.Statement.{statement}
 use Rattle.archive.proofs.listing.write_first.Tie as tie
 
 -- room for the whole, and after the word
-whole : (c : tie.Start) → 0 + length (home-word ++ (item (c .args .home) entries-word ++ item (c .args .count) line-end)) ≤ length (now (c .args .out))
+whole : (c : tie.Start) → 0 + length (homeWord ++ (item (c .args .home) entriesWord ++ item (c .args .count) lineEnd)) ≤ length (now (c .args .out))
 unfolding firstLine
 whole c = omega (arith, c .pre)
 
 after-word : (c : tie.After-append)
-    → c .append .result + length (item (c .before .before .before .before .args .home) entries-word ++ item (c .before .before .before .before .args .count) line-end) ≤ length (c .append .last .0)
+    → c .append .result + length (item (c .before .before .before .before .args .home) entriesWord ++ item (c .before .before .before .before .args .count) lineEnd) ≤ length (c .append .last .0)
 after-word c =
     let start = c .before .before .before .before in
-    rest-fits (item (start .args .home) entries-word ++ item (start .args .count) line-end) (whole start) (c .append .ensures)
+    rest-fits (item (start .args .home) entriesWord ++ item (start .args .count) lineEnd) (whole start) (c .append .ensures)
 
 append-requires : tie.Need-append-requires
 append-requires c κs = let start = c .before .before .before in omega (arith, length-first (start .args .home) (start .args .count))
@@ -29,13 +29,13 @@ write-item-requires : tie.Need-write-item-requires
 write-item-requires c κs =
     let word = c .before .before .before .before in
     let start = word .before .before .before .before in
-    first-fits (item (start .args .home) entries-word) (item (start .args .count) line-end) (word .append .result) (after-word word)
+    first-fits (item (start .args .home) entriesWord) (item (start .args .count) lineEnd) (word .append .result) (after-word word)
 
 write-item-requires-2 : tie.Need-write-item-requires-2
 write-item-requires-2 c κs =
     let home = c .before .before .before .before in
     let word = home .before .before .before .before .before in
-    rest-fits (item (word .before .before .before .before .args .count) line-end) (after-word word) (home .write-item .ensures)
+    rest-fits (item (word .before .before .before .before .args .count) lineEnd) (after-word word) (home .write-item .ensures)
 
 returns : tie.Need-returns
 unfolding firstLine

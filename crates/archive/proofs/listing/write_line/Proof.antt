@@ -4,7 +4,7 @@ use Prim.Native.Nat.{ℕ, _+_, _≤_}
 use native.Mathlib.Omega.{arith}
 use borrow.Author.Needs.{needs}
 use lib.ListN.{length}
-use Rattle.archive.specs.Listing.{space, part-word, bits-word, line-end, item, line}
+use Rattle.archive.specs.Listing.{space, partWord, bitsWord, lineEnd, item, line}
 use Rattle.archive.specs.declared.contents.Entry.{Entry}
 use Rattle.archive.proofs.Laying.{then}
 use Rattle.archive.proofs.Lines.{first-fits, rest-fits}
@@ -13,10 +13,10 @@ use Rattle.archive.proofs.listing.write_line.Tie as tie
 
 -- a line's items, from the second and from the third on
 abbrev from-part : Entry → List ℕ
-from-part e = item (e .part) bits-word ++ item (e .bits .0) line-end
+from-part e = item (e .part) bitsWord ++ item (e .bits .0) lineEnd
 
 abbrev from-ssi : Entry → List ℕ
-from-ssi e = item (e .ssi) part-word ++ from-part e
+from-ssi e = item (e .ssi) partWord ++ from-part e
 
 -- the entry, and the room for them
 abbrev entry-of : tie.After-write-item → Entry
@@ -42,19 +42,19 @@ write-item-requires-2 : tie.Need-write-item-requires-2
 write-item-requires-2 c κs =
     let first = c .before .before .before .before .before in
     let e = entry-of first in
-    first-fits (item (e .ssi) part-word) (from-part e) (first .write-item .result) (room-ssi first)
+    first-fits (item (e .ssi) partWord) (from-part e) (first .write-item .result) (room-ssi first)
 
 write-item-requires-3 : tie.Need-write-item-requires-3
 write-item-requires-3 c κs =
     let second = c .before .before .before .before .before in
     let e = entry-of (first-of second) in
-    first-fits (item (e .part) bits-word) (item (e .bits .0) line-end) (second .write-item2 .result) (room-part second)
+    first-fits (item (e .part) bitsWord) (item (e .bits .0) lineEnd) (second .write-item2 .result) (room-part second)
 
 write-item-requires-4 : tie.Need-write-item-requires-4
 write-item-requires-4 c κs =
     let third = c .before .before .before .before in
     let second = third .before .before .before .before .before .before in
-    rest-fits (item (entry-of (first-of second) .bits .0) line-end) (room-part second) (third .write-item3 .ensures)
+    rest-fits (item (entry-of (first-of second) .bits .0) lineEnd) (room-part second) (third .write-item3 .ensures)
 
 returns : tie.Need-returns
 unfolding line

@@ -6,8 +6,8 @@ use native.Mathlib.Omega.{arith}
 use denote.Ref.{now}
 use lib.ListN.{length}
 use Rattle.archive.specs.Reading.{countOf}
-use Rattle.archive.specs.Seeking.{Laid}
-use Rattle.archive.specs.Listing.{line, linesFrom}
+use Rattle.archive.specs.Seeking.{Laid, linesFrom}
+use Rattle.archive.specs.Listing.{line}
 use Rattle.archive.specs.declared.contents.Entry.{Entry}
 use Rattle.archive.proofs.Laying.{then}
 use Rattle.archive.proofs.Lines.{none, first-fits, rest-fits, linesFrom-next, linesFrom-none}
