@@ -1,7 +1,6 @@
 // Whether a call is barred: the request, the six rules, and the decision from an archive (document 01, "The barring rule").
 mod lists;
 mod matching;
-mod places;
 pub mod request;
 
 use archive::Fetched;
