@@ -4,4 +4,5 @@ pub mod Demand2
 pub mod Demand3
 pub mod Archive
 pub mod Profiles
+pub mod Rules
 pub mod Determined
