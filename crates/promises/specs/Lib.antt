@@ -5,4 +5,5 @@ pub mod Demand3
 pub mod Archive
 pub mod Profiles
 pub mod Rules
+pub mod Words
 pub mod Determined
