@@ -39,7 +39,7 @@ pub enum Decision {
 }
 
 // What the part of a user says of a call of that user: the first rule that applies.
-pub fn rule(part: Record, home: u32, request: Request) -> Decision
+fn rule(part: Record, home: u32, request: Request) -> Decision
     ensures { λ r. ⌜ r ≡ ruling home part request ⌝ }
 {
     // An entry without extension means the home network.
