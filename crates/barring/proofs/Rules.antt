@@ -1,14 +1,13 @@
--- What the six rules come to, by cases on which of them applies. Assumes nothing.
+-- What the six rules say together, by cases on which of them applies. Assumes nothing.
 use mathlib.Core.Path.{_≡_, refl, ap}
 use mathlib.Core.Bool.{Bool, true, false, not, _&&_}
-use Prim.Native.Nat.{ℕ, _≤_}
+use Prim.Native.Nat.{ℕ}
 use native.Mathlib.Omega.{arith}
 use borrow.Author.Tests.{eq-eqb}
 use Rattle.bits.specs.Bits.{pick}
 use Rattle.grammar.specs.declared.record.Record.{Record}
 use Rattle.barring.specs.Matching.{covered}
 use Rattle.barring.specs.Rule.{isExcepted, isRestricted, isOutside, inGroups, bothEmpty, ruling, ruled, outsideGroup, restrictedService, restrictedAddress}
-use Rattle.barring.specs.Decision.{refusalOf, verdictOf}
 use Rattle.barring.specs.declared.request.Request.{Request}
 use Rattle.barring.specs.declared.Decision.the-variants.{Allowed, Barred}
 
@@ -44,20 +43,3 @@ module _ (home : ℕ) (r : Record) (q : Request) where
       never true false true d e = let z : _≡_ {A = ℕ} 0 1 = cc in omega arith
       never true false false true e = let z : _≡_ {A = ℕ} 0 1 = cc in omega arith
       never true false false false e = let z : _≡_ {A = ℕ} 0 1 = cc in omega arith
-
-  -- the rules allow the call, or bar it with cause 0, 1 or 2
-  pub rules-decide : (refusalOf (ruling home r q) ≡ 0) × (verdictOf (ruling home r q) ≤ 3)
-  unfolding ruling ruled
-  rules-decide =
-      go (covered (r .services) (q .service)) (isExcepted home (r .lists) (q .destination) (q .digits))
-      (isRestricted home (r .lists) (q .destination) (q .digits)) (isOutside home (r .lists .groups) (q .group)) (bothEmpty (r .lists) (q .destination))
-    where
-      go : (a b c d e : Bool)
-          → let x = pick (not a) Allowed (pick b Allowed (pick c (Barred restrictedAddress) (pick d (Barred outsideGroup) (pick e (Barred restrictedService) Allowed)))) in
-          (refusalOf x ≡ 0) × (verdictOf x ≤ 3)
-      go false b c d e = (refl, omega arith)
-      go true true c d e = (refl, omega arith)
-      go true false true d e = (refl, omega arith)
-      go true false false true e = (refl, omega arith)
-      go true false false false true = (refl, omega arith)
-      go true false false false false = (refl, omega arith)

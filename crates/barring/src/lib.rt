@@ -1,7 +1,6 @@
 // Whether a call is barred: the request, the six rules, and the decision from an archive (document 01, "The barring rule").
 mod lists;
 mod matching;
-mod places;
 pub mod request;
 
 use archive::Fetched;
@@ -40,7 +39,7 @@ pub enum Decision {
 }
 
 // What the part of a user says of a call of that user: the first rule that applies.
-pub fn rule(part: Record, home: u32, request: Request) -> Decision
+fn rule(part: Record, home: u32, request: Request) -> Decision
     ensures { λ r. ⌜ r ≡ ruling home part request ⌝ }
 {
     // An entry without extension means the home network.

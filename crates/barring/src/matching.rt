@@ -1,5 +1,4 @@
 // Whether a list names a user or an external number. `missing` is the network that a missing extension means.
-use crate::places::used;
 use crate::request::User;
 use bits::DigitCount;
 use grammar::record::Identities;
@@ -40,7 +39,7 @@ pub(crate) fn in_range(first: Identity, last: Identity, missing: u32, u: User) -
 pub(crate) fn is_single(entries: [Identity; 8], n: u32, missing: u32, u: User) -> bool
     ensures { λ r. ⌜ r ≡ some (isEntry missing u) (take n entries) ⌝ }
 {
-    let count = used(n, 8);
+    let count = bits::least(n as usize, 8);
     let mut found = false;
     let mut i: usize = 0;
     'entries: while i < count {
@@ -71,8 +70,8 @@ pub(crate) fn number_among(list: Numbers, length: DigitCount, digits: [u8; 24]) 
     ensures { λ r. ⌜ r ≡ numberAmong list (length .0) digits ⌝ }
 {
     let entries = list.entries;
-    let count = used(grammar::site::row_of(list.code).entries, 8);
-    let places = used(length.0 as u32, 24);
+    let count = bits::least(grammar::site::row_of(list.code).entries as usize, 8);
+    let places = bits::least(length.0 as usize, 24);
     let mut found = false;
     let mut i: usize = 0;
     'entries: while i < count {
@@ -110,7 +109,7 @@ pub(crate) fn covers(services: Services, service: u32) -> bool
     ensures { λ r. ⌜ r ≡ covered services service ⌝ }
 {
     let list = services.list;
-    let count = used(services.count, 7);
+    let count = bits::least(services.count as usize, 7);
     let mut found = false;
     let mut i: usize = 0;
     'services: while i < count {

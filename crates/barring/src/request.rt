@@ -1,5 +1,4 @@
 // A request: who calls, by which service, to whom, and in which group (document 01, "The barring rule").
-use crate::places::used;
 use bits::DigitCount;
 ghost use mathlib.Core.Path.{_≡_};
 ghost use lib.ListN.{take, drop};
@@ -87,7 +86,7 @@ pub(crate) fn digits_used(destination: Destination) -> DigitCount
 pub(crate) fn has_digits(digits: [u8; 24], length: DigitCount) -> bool
     ensures { λ r. ⌜ r ≡ every isDigit (take (length .0) digits) ⌝ }
 {
-    let n = used(length.0 as u32, 24);
+    let n = bits::least(length.0 as usize, 24);
     let mut i: usize = 0;
     while i < n {
         if grammar::site::digit_refusal(digits[i] as u32) != 0 {
@@ -102,7 +101,7 @@ pub(crate) fn has_digits(digits: [u8; 24], length: DigitCount) -> bool
 pub(crate) fn is_clear(digits: [u8; 24], length: DigitCount) -> bool
     ensures { λ r. ⌜ r ≡ every isUnused (drop (length .0) digits) ⌝ }
 {
-    let mut i = used(length.0 as u32, 24);
+    let mut i = bits::least(length.0 as usize, 24);
     while i < 24 {
         if digits[i] != 0 {
             return false;

@@ -18,7 +18,7 @@ use Rattle.archive.specs.declared.Restored.the-variants as restored
 use Rattle.archive.specs.declared.listing.Listed.{Listed}
 use Rattle.archive.specs.declared.listing.Listed.the-variants as listed
 use Rattle.barring.specs.Decide.{decideIs}
-use Rattle.barring.specs.Decision as verdict
+use Rattle.barring.specs.Decision.{decidedNumber, verdictOf}
 use Rattle.barring.specs.declared.Decision.{Decision}
 use Rattle.barring.specs.declared.Decision.the-variants as decided
 use Rattle.boc.specs.RecordWords.{recordWords, recordFrom}
@@ -30,8 +30,8 @@ use Rattle.boc.specs.RequestWords.{areRequest, requestFrom}
 abbrev pub areRecord : ℕ → Bool
 areRecord words = eqb words 514
 
-unfoldable pub readRefusal : List ℕ → ℕ → ℕ → ℕ
-readRefusal s n words = pick (areRecord words) (refusalOf (readIs s n .answer)) 9
+unfoldable pub readNumber : List ℕ → ℕ → ℕ → ℕ
+readNumber s n words = pick (areRecord words) (refusalOf (readIs s n .answer)) 9
 
 abbrev pub ifAccepted : {A : Type 0} → Answer → A → A → A
 ifAccepted answer.Accepted new old = new
@@ -46,8 +46,8 @@ abbrev pub writtenLength : Written → ℕ → ℕ
 writtenLength (written.Bits n) old = n .0
 writtenLength (written.Refused k) old = old
 
-unfoldable pub writeRefusal : List ℕ → List ℕ → ℕ
-writeRefusal words out = pick (areRecord (length words)) (writtenNumber (writeIs (recordFrom words) out)) 9
+unfoldable pub writeNumber : List ℕ → List ℕ → ℕ
+writeNumber words out = pick (areRecord (length words)) (writtenNumber (writeIs (recordFrom words) out)) 9
 
 unfoldable pub writeOut : List ℕ → List ℕ → List ℕ
 writeOut words out = pick (areRecord (length words)) (outIs (recordFrom words) out) out
@@ -69,22 +69,22 @@ restoredLength (restored.Refused k) old = old
 
 -- ---- boc_decide
 
--- 0 to 2 barred with that cause, 3 allowed, 4 not held
-abbrev pub decidedNumber : Decision → ℕ → ℕ
-decidedNumber (decided.Barred cause) old = cause
-decidedNumber decided.Allowed old = 3
-decidedNumber decided.NotHeld old = 4
-decidedNumber (decided.Refused k) old = old
+-- the decision's number; a refusal leaves the old one
+abbrev pub decidedVerdict : Decision → ℕ → ℕ
+decidedVerdict (decided.Barred cause) old = verdictOf (decided.Barred cause)
+decidedVerdict decided.Allowed old = verdictOf decided.Allowed
+decidedVerdict decided.NotHeld old = verdictOf decided.NotHeld
+decidedVerdict (decided.Refused k) old = old
 
 -- 34 words that are a request's, otherwise 9
 abbrev pub isRequest : List ℕ → Bool
 isRequest words = eqb (length words) 34 && areRequest words
 
-unfoldable pub decideRefusal : List ℕ → List ℕ → ℕ
-decideRefusal b words = pick (isRequest words) (verdict.refusalOf (decideIs b (requestFrom words))) 9
+unfoldable pub decideNumber : List ℕ → List ℕ → ℕ
+decideNumber b words = pick (isRequest words) (decidedNumber (decideIs b (requestFrom words))) 9
 
 unfoldable pub decision : List ℕ → List ℕ → ℕ → ℕ
-decision b words old = pick (isRequest words) (decidedNumber (decideIs b (requestFrom words)) old) old
+decision b words old = pick (isRequest words) (decidedVerdict (decideIs b (requestFrom words)) old) old
 
 -- ---- boc_contents
 

@@ -10,7 +10,7 @@ use Rattle.barring.specs.declared.request.Destination.the-variants.{Number}
 use Rattle.barring.specs.declared.request.Group.the-variants.{NoGroup}
 use Rattle.boc.specs.RecordWords.{word, recordWords, narrowed, records}
 use Rattle.boc.specs.RequestWords.{areRequest, requestFrom, requestWords, requests}
-use Rattle.boc.specs.Calls.{readRefusal, decideRefusal}
+use Rattle.boc.specs.Calls.{readNumber, decideNumber}
 
 -- ---- requests
 
@@ -69,10 +69,10 @@ too-wide = refl
 
 -- ---- another number of words
 
-read-513 : (s : List ℕ) (n : ℕ) → readRefusal s n 513 ≡ 9
-unfolding readRefusal
+read-513 : (s : List ℕ) (n : ℕ) → readNumber s n 513 ≡ 9
+unfolding readNumber
 read-513 s n = refl
 
-decide-nothing : (b : List ℕ) → decideRefusal b [] ≡ 9
-unfolding decideRefusal
+decide-nothing : (b : List ℕ) → decideNumber b [] ≡ 9
+unfolding decideNumber
 decide-nothing b = refl

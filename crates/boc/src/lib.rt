@@ -15,7 +15,7 @@ use record_words::RECORD_WORDS;
 use request_words::REQUEST_WORDS;
 ghost use mathlib.Core.Path.{_≡_};
 ghost use lib.ListN.{length};
-ghost use Rattle.boc.specs.Calls.{readRefusal, readWords, writeRefusal, writeOut, writeBits, archivedLength, restoredLength, decideRefusal, decision, listedLength};
+ghost use Rattle.boc.specs.Calls.{readNumber, readWords, writeNumber, writeOut, writeBits, archivedLength, restoredLength, decideNumber, decision, listedLength};
 ghost use Rattle.archive.specs.Keeping.{archivedNumber, emptyIs, emptyOut, captureIs, captureOut};
 ghost use Rattle.archive.specs.Restoring.{restoredNumber, restoreIs, restoreOut};
 ghost use Rattle.archive.specs.Listing.{listedNumber, listIs, listOut};
@@ -23,7 +23,7 @@ ghost use Rattle.archive.specs.Listing.{listedNumber, listIs, listOut};
 // Reads the PDU of `count` bits in `bytes`; its record goes to 514 words.
 #[no_mangle]
 pub extern "C" fn boc_read(bytes: &[u8], count: usize, words: &mut [u32]) -> u32
-    ensures { λ r. ⌜ r ≡ readRefusal (now (bytes .entry)) count (length (now (words .entry))) ⌝ }
+    ensures { λ r. ⌜ r ≡ readNumber (now (bytes .entry)) count (length (now (words .entry))) ⌝ }
     ensures { λ _. ⌜ now (words .exit) ≡ readWords (now (bytes .entry)) count (now (words .entry)) ⌝ }
 {
     if words.len() != RECORD_WORDS {
@@ -44,7 +44,7 @@ pub extern "C" fn boc_read(bytes: &[u8], count: usize, words: &mut [u32]) -> u32
 // Writes the record in 514 words as a PDU; its length in bits goes to `count`.
 #[no_mangle]
 pub extern "C" fn boc_write(words: &[u32], out: &mut [u8], count: &mut usize) -> u32
-    ensures { λ r. ⌜ r ≡ writeRefusal (now (words .entry)) (now (out .entry)) ⌝ }
+    ensures { λ r. ⌜ r ≡ writeNumber (now (words .entry)) (now (out .entry)) ⌝ }
     ensures { λ _. ⌜ now (out .exit) ≡ writeOut (now (words .entry)) (now (out .entry)) ⌝ }
     ensures { λ _. ⌜ now (count .exit) ≡ writeBits (now (words .entry)) (now (out .entry)) (now (count .entry)) ⌝ }
 {
@@ -124,7 +124,7 @@ pub extern "C" fn boc_restore(
 // Decides the request in 34 words; the decision goes to `verdict`: 0 to 2 barred with that cause, 3 allowed, 4 not held.
 #[no_mangle]
 pub extern "C" fn boc_decide(held: &[u8], words: &[u32], verdict: &mut u32) -> u32
-    ensures { λ r. ⌜ r ≡ decideRefusal (now (held .entry)) (now (words .entry)) ⌝ }
+    ensures { λ r. ⌜ r ≡ decideNumber (now (held .entry)) (now (words .entry)) ⌝ }
     ensures { λ _. ⌜ now (verdict .exit) ≡ decision (now (held .entry)) (now (words .entry)) (now (verdict .entry)) ⌝ }
 {
     if words.len() != REQUEST_WORDS {

@@ -4,4 +4,6 @@ pub mod Demand2
 pub mod Demand3
 pub mod Archive
 pub mod Profiles
+pub mod Rules
+pub mod Words
 pub mod Determined

@@ -6,18 +6,18 @@ use borrow.Author.Tests.{eq-eqb, ne-eqb, not-true, not-false}
 use denote.Ref.{now}
 use Rattle.barring.specs.Decide.{decideIs}
 use Rattle.boc.specs.RequestWords.{requestFrom}
-use Rattle.boc.specs.Calls.{isRequest, decidedNumber, decideRefusal, decision}
-use Rattle.barring.specs.Decision as verdict
+use Rattle.boc.specs.Calls.{isRequest, decidedVerdict, decideNumber, decision}
+use Rattle.barring.specs.Decision.{decidedNumber}
 use Rattle.boc.proofs.Answering.{answered}
 use Rattle.boc.proofs.boc_decide.Statement.{statement}
 use Rattle.boc.proofs.boc_decide.Tie as tie
 
 returns : tie.Need-returns
-unfolding decideRefusal decision
+unfolding decideNumber decision
 returns c = let e = ne-eqb _ _ (c .if1 .taken) in (rw e, rw e)
 
 returns-2 : tie.Need-returns-2
-unfolding decideRefusal decision
+unfolding decideNumber decision
 returns-2 c =
     let l = eq-eqb _ _ (c .before .before .if1 .left) in
     let e = sym (c .before .are-request .ensures) ∙ not-true _ (c .if2 .taken) in
@@ -38,20 +38,20 @@ answer c =
     c .decide .ensures ∙ ap (decideIs (now (a .held))) (c .before .request-from .ensures)
 
 returns-3 : tie.Need-returns-3
-unfolding decideRefusal decision
-returns-3 c = let d = c .before .before .before in rw (whole d) (answered verdict.refusalOf decidedNumber _ (answer d) (c .before .cause .given .1))
+unfolding decideNumber decision
+returns-3 c = let d = c .before .before .before in rw (whole d) (answered decidedNumber decidedVerdict _ (answer d) (c .before .cause .given .1))
 
 returns-4 : tie.Need-returns-4
-unfolding decideRefusal decision
-returns-4 c = let d = c .before .before in rw (whole d) (answered verdict.refusalOf decidedNumber _ (answer d) (c .enum-told .given .1))
+unfolding decideNumber decision
+returns-4 c = let d = c .before .before in rw (whole d) (answered decidedNumber decidedVerdict _ (answer d) (c .enum-told .given .1))
 
 returns-5 : tie.Need-returns-5
-unfolding decideRefusal decision
-returns-5 c = let d = c .before .before in rw (whole d) (answered verdict.refusalOf decidedNumber _ (answer d) (c .enum-told2 .given .1))
+unfolding decideNumber decision
+returns-5 c = let d = c .before .before in rw (whole d) (answered decidedNumber decidedVerdict _ (answer d) (c .enum-told2 .given .1))
 
 returns-6 : tie.Need-returns-6
-unfolding decideRefusal decision
-returns-6 c = let d = c .before .before .before in rw (whole d) (answered verdict.refusalOf decidedNumber _ (answer d) (c .before .number .given .1))
+unfolding decideNumber decision
+returns-6 c = let d = c .before .before .before in rw (whole d) (answered decidedNumber decidedVerdict _ (answer d) (c .before .number .given .1))
 
 pub boc-decide-spec : {M : Type 1} → statement M
 boc-decide-spec =

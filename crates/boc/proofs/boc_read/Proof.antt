@@ -7,12 +7,12 @@ use denote.Ref.{now}
 use lib.ListN.{length}
 use Rattle.reader.specs.declared.Reading.{Reading}
 use Rattle.boc.specs.RecordWords.{recordWords}
-use Rattle.boc.specs.Calls.{areRecord, readRefusal, readWords}
+use Rattle.boc.specs.Calls.{areRecord, readNumber, readWords}
 use Rattle.boc.proofs.boc_read.Statement.{statement}
 use Rattle.boc.proofs.boc_read.Tie as tie
 
 returns : tie.Need-returns
-unfolding readRefusal readWords
+unfolding readNumber readWords
 returns c =
     let e : areRecord (length (now (c .before .before .before .args .words))) ≡ false = ne-eqb _ _ (c .if1 .taken) in
     (rw e, rw e)
@@ -22,7 +22,7 @@ whole : (c : tie.Else1) → areRecord (length (now (c .before .before .before .a
 whole c = eq-eqb _ _ (c .if1 .left)
 
 returns-2 : tie.Need-returns-2
-unfolding readRefusal readWords
+unfolding readNumber readWords
 returns-2 c =
     let put = c .before .before in
     let told = put .before .before in
@@ -32,7 +32,7 @@ returns-2 c =
     (rw (whole (read .before), e), rw (whole (read .before), e) (put .put-record .ensures ∙ ap (λ (x : Reading). recordWords (x .found)) r))
 
 returns-3 : tie.Need-returns-3
-unfolding readRefusal readWords
+unfolding readNumber readWords
 returns-3 c =
     let read = c .before .before .before .before in
     let e = ap (λ (x : Reading). x .answer) (sym (read .read .ensures)) ∙ c .before .answer .given .1 in

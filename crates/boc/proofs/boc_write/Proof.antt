@@ -8,14 +8,14 @@ use lib.ListN.{length}
 use Rattle.grammar.specs.declared.record.Record.{Record}
 use Rattle.writer.specs.Write.{writeIs, outIs}
 use Rattle.boc.specs.RecordWords.{recordFrom}
-use Rattle.boc.specs.Calls.{areRecord, writtenLength, writeRefusal, writeOut, writeBits}
+use Rattle.boc.specs.Calls.{areRecord, writtenLength, writeNumber, writeOut, writeBits}
 use Rattle.writer.specs.Write.{writtenNumber}
 use Rattle.boc.proofs.Answering.{passed}
 use Rattle.boc.proofs.boc_write.Statement.{statement}
 use Rattle.boc.proofs.boc_write.Tie as tie
 
 returns : tie.Need-returns
-unfolding writeRefusal writeOut writeBits
+unfolding writeNumber writeOut writeBits
 returns c = let e = ne-eqb _ _ (c .if1 .taken) in (rw e, (rw e, rw e))
 
 -- there are 514 words
@@ -33,13 +33,13 @@ answer c =
     (c .write .ensures .0 ∙ ap (λ (x : Record). writeIs x out) r, c .write .ensures .1 ∙ ap (λ (x : Record). outIs x out) r)
 
 returns-2 : tie.Need-returns-2
-unfolding writeRefusal writeOut writeBits
+unfolding writeNumber writeOut writeBits
 returns-2 c =
     let write = c .before .before .before .before .before in
     rw (whole write) (passed writtenNumber writtenLength _ (answer write .0) (c .before .length .given .1) (answer write .1))
 
 returns-3 : tie.Need-returns-3
-unfolding writeRefusal writeOut writeBits
+unfolding writeNumber writeOut writeBits
 returns-3 c =
     let write = c .before .before .before .before .before in
     rw (whole write) (passed writtenNumber writtenLength _ (answer write .0) (c .before .number .given .1) (answer write .1))

@@ -18,17 +18,23 @@ use Rattle.barring.specs.Request.{isUser, isService, isDestination, isGroup, is
 use Rattle.barring.specs.Rule.{ruling, ruled, isExcepted, isRestricted, isOutside, bothEmpty}
 use Rattle.barring.specs.Matching.{covered}
 use Rattle.barring.specs.Decide.{judgedBy, partIn, decideIs}
-use Rattle.barring.specs.Decision.{refusalOf}
+use Rattle.barring.specs.Decision.{decidedNumber, verdictOf}
 use Rattle.barring.specs.declared.request.Request.{Request}
 use Rattle.barring.specs.declared.Decision.{Decision}
 use Rattle.barring.specs.declared.Decision.the-variants.{Allowed, Barred, Refused}
 use Rattle.promises.specs.Answers.{OneOf}
-use Rattle.promises.specs.Demand1.Decision.{number, Ranged, Given, success, unranged, damaged, Verdict, allowed, barred, not-held, Promise}
+use Rattle.promises.specs.Demand1.Decision.{number, Ranged, Given, success, unranged, damaged, Verdict, outside-group, restricted-service, restricted-address, allowed, not-held, Promise}
 use Rattle.promises.proofs.Tables.{exactly}
 
-verdict-number : {d : Decision} → Verdict d → refusalOf d ≡ 0
+-- a decision, with its number
+abbrev Decided : Decision → Type 0
+Decided d = Verdict (verdictOf d) d
+
+verdict-number : {n : ℕ} {d : Decision} → Verdict n d → decidedNumber d ≡ 0
+verdict-number outside-group = refl
+verdict-number restricted-service = refl
+verdict-number restricted-address = refl
 verdict-number allowed = refl
-verdict-number (barred c h) = refl
 verdict-number not-held = refl
 
 module _ (q : Request) where
@@ -57,21 +63,21 @@ module _ (q : Request) where
 
   -- ---- the verdict
 
-  by-rule : (home : ℕ) (r : Record) → Verdict (ruling home r q)
+  by-rule : (home : ℕ) (r : Record) → Decided (ruling home r q)
   unfolding ruling ruled
   by-rule home r =
       go (not (covered (r .services) (q .service))) (isExcepted home (r .lists) (q .destination) (q .digits)) (isRestricted home (r .lists) (q .destination) (q .digits))
       (isOutside home (r .lists .groups) (q .group)) (bothEmpty (r .lists) (q .destination))
     where
-      go : (v w x y z : Bool) → Verdict (pick v Allowed (pick w Allowed (pick x (Barred 2) (pick y (Barred 0) (pick z (Barred 1) Allowed)))))
+      go : (v w x y z : Bool) → Decided (pick v Allowed (pick w Allowed (pick x (Barred 2) (pick y (Barred 0) (pick z (Barred 1) Allowed)))))
       go true w x y z = allowed
       go false true x y z = allowed
-      go false false true y z = barred 2 refl
-      go false false false true z = barred 0 refl
-      go false false false false true = barred 1 refl
+      go false false true y z = restricted-address
+      go false false false true z = outside-group
+      go false false false false true = restricted-service
       go false false false false false = allowed
 
-  judged : (home : ℕ) (l : Option Held) → Verdict (judgedBy home q l)
+  judged : (home : ℕ) (l : Option Held) → Decided (judgedBy home q l)
   judged home none = not-held
   judged home (some h) = by-rule home (readIs (h .body) (h .entry .bits .0) .found)
 
@@ -86,7 +92,7 @@ module _ (q : Request) where
     unfolding decideIs requestRefusal
     answer t a e f = rw (e, f)
 
-    decided : Verdict (answerBy true true)
+    decided : Decided (answerBy true true)
     decided = judged (reading b .home) (partIn b q)
 
     abbrev Both : ℕ → Type 0
@@ -99,17 +105,17 @@ module _ (q : Request) where
         to e h = subst Both (sym e) h
 
         go : (t : Bool) → test ≡ t → (a : Bool) → isArchive b ≡ a → Both (number b q)
-        go false e a f = to (ap refusalOf (answer false a e f)) (unranged (λ r. differ (sym (passes r) ∙ e)), refl)
-        go true e false f = to (ap refusalOf (answer true false e f)) (damaged (in-range e) f, refl)
-        go true e true f = to (ap refusalOf (answer true true e f) ∙ verdict-number decided) (success (in-range e) f, refl)
+        go false e a f = to (ap decidedNumber (answer false a e f)) (unranged (λ r. differ (sym (passes r) ∙ e)), refl)
+        go true e false f = to (ap decidedNumber (answer true false e f)) (damaged (in-range e) f, refl)
+        go true e true f = to (ap decidedNumber (answer true true e f) ∙ verdict-number decided) (success (in-range e) f, refl)
 
     back : (k : ℕ) → Given b q k → number b q ≡ k
-    back k (success r a) = ap refusalOf (answer true true (passes r) a) ∙ verdict-number decided
-    back k (unranged r) = ap refusalOf (answer false (isArchive b) (false-unless test (λ e. r (in-range e))) refl)
-    back k (damaged r a) = ap refusalOf (answer true false (passes r) a)
+    back k (success r a) = ap decidedNumber (answer true true (passes r) a) ∙ verdict-number decided
+    back k (unranged r) = ap decidedNumber (answer false (isArchive b) (false-unless test (λ e. r (in-range e))) refl)
+    back k (damaged r a) = ap decidedNumber (answer true false (passes r) a)
 
-    succeeds : (k : ℕ) → Given b q k → k ≡ 0 → Verdict (decideIs b q)
-    succeeds k (success r a) z = subst Verdict (sym (answer true true (passes r) a)) decided
+    succeeds : (k : ℕ) → Given b q k → k ≡ 0 → Decided (decideIs b q)
+    succeeds k (success r a) z = subst Decided (sym (answer true true (passes r) a)) decided
     succeeds k (unranged r) z = absurd (omega arith)
     succeeds k (damaged r a) z = absurd (omega arith)
 

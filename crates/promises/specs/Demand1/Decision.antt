@@ -9,16 +9,16 @@ use Rattle.archive.specs.Examples.{calls}
 use Rattle.barring.specs.Search.{every}
 use Rattle.barring.specs.Request.{isUser, isService, isDestination, isGroup, isDigit, isUnused, digitsUsed, requests}
 use Rattle.barring.specs.Decide.{decideIs}
-use Rattle.barring.specs.Decision.{refusalOf}
+use Rattle.barring.specs.Decision.{decidedNumber, verdictOf}
 use Rattle.barring.specs.Profiles.{speech}
 use Rattle.barring.specs.declared.request.Group.the-variants.{NoGroup}
 use Rattle.barring.specs.declared.request.Request.{Request}
 use Rattle.barring.specs.declared.Decision.{Decision}
 use Rattle.barring.specs.declared.Decision.the-variants.{Allowed, Barred, NotHeld}
-use Rattle.promises.specs.Answers.{OneOf, Exactly}
+use Rattle.promises.specs.Answers.{Exactly}
 
 abbrev pub number : List ℕ → Request → ℕ
-number b q = refusalOf (decideIs b q)
+number b q = decidedNumber (decideIs b q)
 
 -- a request in its range
 pub record Ranged (q : Request) : Type 0 where
@@ -42,14 +42,16 @@ met : (number (replicate 5 0) (speech 1 100 NoGroup) ≡ 0) × (number [] (speec
 unfolding calls requests decideIs
 met = (refl, refl, refl)
 
--- a decision: allowed, barred with a cause of table 38, or not held
-pub data Verdict : Decision → Type 0 where
-  allowed : Verdict Allowed
-  barred : (cause : ℕ) → OneOf (0 ∷ 1 ∷ 2 ∷ []) cause → Verdict (Barred cause)
-  not-held : Verdict NotHeld
+-- the number of a decision: 0 to 2 barred with that cause of table 38, 3 allowed, 4 not held
+pub data Verdict : ℕ → Decision → Type 0 where
+  outside-group : Verdict 0 (Barred 0)
+  restricted-service : Verdict 1 (Barred 1)
+  restricted-address : Verdict 2 (Barred 2)
+  allowed : Verdict 3 Allowed
+  not-held : Verdict 4 NotHeld
 
 -- Proved in proofs/Demand1/Decision.antt.
 pub record Promise : Type 0 where
   pub table : (b : List ℕ) (q : Request) → Exactly (number b q) (0 ∷ 9 ∷ 7 ∷ []) (Given b q)
   -- "Success returns the decision."
-  pub success : (b : List ℕ) (q : Request) → number b q ≡ 0 → Verdict (decideIs b q)
+  pub success : (b : List ℕ) (q : Request) → number b q ≡ 0 → Verdict (verdictOf (decideIs b q)) (decideIs b q)

@@ -24,18 +24,18 @@ abbrev μ-services : tie.MeasureT-services
 long : (c : tie.Start Inv-services μ-services) → length (c .args .services .list) ≡ 7
 long c = services-length (c .args .services) _ (c .good .0)
 
-whole : (c : tie.After-used Inv-services μ-services)
-    → some (isCovering (c .before .before .args .service)) (take (c .used .result) (c .before .before .args .services .list))
-    ≡ covered (c .before .before .args .services) (c .before .before .args .service)
+whole : (c : tie.After-least Inv-services μ-services)
+    → some (isCovering (c .before .before .before .args .service)) (take (c .least .result) (c .before .before .before .args .services .list))
+    ≡ covered (c .before .before .before .args .services) (c .before .before .before .args .service)
 unfolding covered
 whole c =
-    let a = c .before .before .args in
-    ap (some (isCovering (a .service))) (take-used (a .services .list) (a .services .count) (long (c .before .before)) (c .used .ensures))
+    let a = c .before .before .before .args in
+    ap (some (isCovering (a .service))) (take-used (a .services .list) (a .services .count) (long (c .before .before .before)) (c .least .ensures))
 
 services-again : tie.Need-services-again Inv-services μ-services
 services-again c =
     let d = c .before .before in
-    let s = d .before .before .before .before in
+    let s = d .before .before .before .before .before in
     let l = d .before .services .inv in (
       omega arith,
       (
@@ -47,14 +47,14 @@ services-again c =
 
 returns : tie.Need-returns Inv-services μ-services
 returns c =
-    let a = c .before .before .before .before .args in
+    let a = c .before .before .before .before .before .args in
     let l = c .before .services .inv in
     l .1 .0 ∙ some-end (c .services-test .left) (isCovering (a .service)) (a .services .list) (l .1 .1) ∙ whole (c .before .before)
 
 returns-2 : tie.Need-returns-2 Inv-services μ-services
 returns-2 c =
     let d = c .before .before in
-    let s = d .before .before .before .before in
+    let s = d .before .before .before .before .before in
     found (isCovering (s .args .service)) (s .args .services .list) 0 (d .services-test .taken) (omega (arith, long s))
     (sym (c .before .is-covering .ensures) ∙ c .if1 .taken) (d .before .services .inv .1 .1) ∙ whole (d .before .before)
 
@@ -64,6 +64,7 @@ covers-spec =
     (tie.spec
     Inv-services
     μ-services
+    (λ c. search needs)
     (λ c κs. search needs)
     (λ c. (omega arith, (refl, refl)))
     (λ c. search needs)

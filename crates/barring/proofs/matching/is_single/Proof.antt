@@ -23,7 +23,7 @@ abbrev μ-entries : tie.MeasureT-entries
 entries-holds : tie.Need-entries-holds Inv-entries μ-entries
 entries-holds c =
     let a = c .before .args in
-    (omega arith, (refl, ap (some (isEntry (a .missing) (a .u))) (take-used (a .t1) (a .n) (omega arith) (c .used .ensures))))
+    (omega arith, (refl, ap (some (isEntry (a .missing) (a .u))) (take-used (a .t1) (a .n) (omega arith) (c .least .ensures))))
 
 entries-again : tie.Need-entries-again Inv-entries μ-entries
 entries-again c =

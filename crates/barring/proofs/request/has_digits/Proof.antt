@@ -19,10 +19,10 @@ abbrev μ-loop : tie.MeasureT-loop
 μ-loop digits n i₀ i = n - i
 
 -- the places that are used have the digits that the length takes
-whole : (c : tie.After-used Inv-loop μ-loop)
-    → every isDigit (take (c .used .result) (c .before .before .args .t1))
+whole : (c : tie.After-least Inv-loop μ-loop)
+    → every isDigit (take (c .least .result) (c .before .before .args .t1))
     ≡ every isDigit (take (c .before .before .args .length .0) (c .before .before .args .t1))
-whole c = let a = c .before .before .args in ap (every isDigit) (take-used (a .t1) (a .length .0) (omega arith) (c .used .ensures))
+whole c = let a = c .before .before .args in ap (every isDigit) (take-used (a .t1) (a .length .0) (omega arith) (c .least .ensures))
 
 loop-holds : tie.Need-loop-holds Inv-loop μ-loop
 loop-holds c = (omega arith, refl)

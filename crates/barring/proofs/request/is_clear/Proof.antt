@@ -19,10 +19,10 @@ abbrev μ-loop : tie.MeasureT-loop
 μ-loop digits i₀ i = 24 - i
 
 -- what is not used is what the length leaves
-rest : (c : tie.After-used Inv-loop μ-loop)
-    → every isUnused (slice (c .used .result) 24 (c .before .before .args .t1))
+rest : (c : tie.After-least Inv-loop μ-loop)
+    → every isUnused (slice (c .least .result) 24 (c .before .before .args .t1))
     ≡ every isUnused (drop (c .before .before .args .length .0) (c .before .before .args .t1))
-rest c = let a = c .before .before .args in ap (every isUnused) (drop-used (a .t1) (a .length .0) (omega arith) (c .used .ensures))
+rest c = let a = c .before .before .args in ap (every isUnused) (drop-used (a .t1) (a .length .0) (omega arith) (c .least .ensures))
 
 loop-holds : tie.Need-loop-holds Inv-loop μ-loop
 loop-holds c = (omega arith, refl)

@@ -1,0 +1,34 @@
+-- What C lends as words is the record, or the request, and back.
+use mathlib.Core.Path.{_≡_}
+use mathlib.Core.Bool.{true}
+use mathlib.Core.List.{List}
+use Prim.Native.Nat.{ℕ, _<_}
+use lib.ListN.{length, take, drop}
+use Rattle.bits.proofs.Bytes.{Bytes}
+use Rattle.grammar.specs.declared.record.Record.{Record}
+use Rattle.barring.specs.declared.request.Request.{Request}
+use Rattle.boc.specs.RecordWords.{word, recordWords, recordFrom}
+use Rattle.boc.specs.RequestWords.{areRequest, requestWords, requestFrom}
+use Rattle.boc.proofs.RecordInverse as records
+use Rattle.boc.proofs.RequestInverse as requests
+
+-- ---- records; `Sized` is what the code's arrays and bytes make sure of
+
+-- A record has 514 words, and they are read as that record.
+pub record-words : (r : Record) → records.Sized r → (length (recordWords r) ≡ 514) × (recordFrom (recordWords r) ≡ r)
+record-words r f = (records.record-long r f, records.record-back r f)
+
+-- 514 words are the words of one record, if the lengths and digits among them are bytes.
+pub words-record : (w : List ℕ) → length w ≡ 514 → Bytes (take 200 (drop 113 w)) → Bytes (take 200 (drop 314 w)) → recordWords (recordFrom w) ≡ w
+words-record = records.record-forth
+
+-- ---- requests
+
+-- A request has 34 words; they pass as a request's, and are read as that request.
+pub request-words : (q : Request) → requests.Sized q
+    → (length (requestWords q) ≡ 34) × (areRequest (requestWords q) ≡ true) × (requestFrom (requestWords q) ≡ q)
+request-words q f = (requests.request-long q f, requests.request-are q f, requests.request-back q f)
+
+-- 34 words that pass are the words of one request, if its length and digits are bytes.
+pub words-request : (w : List ℕ) → length w ≡ 34 → areRequest w ≡ true → word w 6 < 256 → Bytes (take 24 (drop 7 w)) → requestWords (requestFrom w) ≡ w
+words-request = requests.request-forth
