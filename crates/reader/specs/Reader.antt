@@ -18,19 +18,19 @@ use Rattle.grammar.specs.declared.record.Identities.{Identities}
 use Rattle.grammar.specs.declared.record.Number.{Number}
 use Rattle.grammar.specs.declared.record.Numbers.{Numbers}
 use Rattle.grammar.specs.declared.record.Services.{Services}
-use Rattle.reader.specs.declared.DigitsRead.{DigitsRead}
-use Rattle.reader.specs.declared.ExternalRead.{ExternalRead}
-use Rattle.reader.specs.declared.NumberEntriesRead.{NumberEntriesRead}
-use Rattle.reader.specs.declared.NumbersRead.{NumbersRead}
-use Rattle.reader.specs.declared.ServiceListRead.{ServiceListRead}
-use Rattle.reader.specs.declared.ServicesRead.{ServicesRead}
+use Rattle.reader.specs.declared.numbers.DigitsRead.{DigitsRead}
+use Rattle.reader.specs.declared.numbers.ExternalRead.{ExternalRead}
+use Rattle.reader.specs.declared.numbers.NumberEntriesRead.{NumberEntriesRead}
+use Rattle.reader.specs.declared.numbers.NumbersRead.{NumbersRead}
+use Rattle.reader.specs.declared.services.ServiceListRead.{ServiceListRead}
+use Rattle.reader.specs.declared.services.ServicesRead.{ServicesRead}
 use Rattle.grammar.specs.declared.record.Lists.{Lists}
 use Rattle.grammar.specs.declared.record.Record.{Record}
-use Rattle.reader.specs.declared.ListsRead.{ListsRead}
-use Rattle.reader.specs.declared.RecordRead.{RecordRead}
-use Rattle.reader.specs.declared.IdentityRead.{IdentityRead}
-use Rattle.reader.specs.declared.IdentitiesRead.{IdentitiesRead}
-use Rattle.reader.specs.declared.EntriesRead.{EntriesRead}
+use Rattle.reader.specs.declared.lists.ListsRead.{ListsRead}
+use Rattle.reader.specs.declared.record.RecordRead.{RecordRead}
+use Rattle.reader.specs.declared.identities.IdentityRead.{IdentityRead}
+use Rattle.reader.specs.declared.identities.IdentitiesRead.{IdentitiesRead}
+use Rattle.reader.specs.declared.identities.EntriesRead.{EntriesRead}
 
 unfoldable pub identityIs : Answer Identity → IdentityRead
 identityIs o = record { reached = reachedOf o; value = valueOr zeroIdentity o }

@@ -1,0 +1,36 @@
+-- A list of identities and two of external numbers, each from where the one before it stands. Assumes nothing.
+use mathlib.Core.Path.{sym, ap, _∙_}
+use borrow.Author.Needs.{needs}
+use Rattle.codec.specs.Reading.{got, from}
+use Rattle.codec.proofs.Reading.{from-same, go-on}
+use Rattle.reader.specs.Reader.{listsIs}
+use Rattle.grammar.specs.declared.record.Identities.{Identities}
+use Rattle.grammar.specs.declared.record.Lists.{Lists}
+use Rattle.reader.proofs.Steps.{numberPart-at}
+use Rattle.reader.proofs.Readers.{identities-read, numbers-read}
+use Rattle.reader.proofs.lists.number_part.Statement.{statement}
+use Rattle.reader.proofs.lists.number_part.Tie as tie
+
+returns : tie.Need-returns
+returns c =
+    let third = c .before .before .before .before .before in
+    let second = third .before in
+    let first = second .before in
+    let lists : Identities → Lists =
+    λ none. record {
+      groups = first .identities-of .result .value;
+      restricted = none;
+      exceptions = none;
+      numbers = second .numbers-of .result .value;
+      excepted = third .numbers-of2 .result .value;
+    } in
+    c .kept-lists .ensures
+    ∙ ap (λ (none : Identities). listsIs (from (third .numbers-of2 .result .reached) (λ at. got (lists none) at))) (c .before .no-identities .ensures)
+    ∙ sym (ap listsIs
+    (from-same _ _ _ (numberPart-at _)
+    ∙ go-on _ _ _ _ _ (identities-read _ (first .identities-of .ensures))
+    ∙ go-on _ _ _ _ _ (numbers-read _ (second .numbers-of .ensures))
+    ∙ go-on _ _ _ _ _ (numbers-read _ (third .numbers-of2 .ensures))))
+
+pub number-part-spec : {M : Type 1} → statement M
+number-part-spec = tie.close (tie.spec (λ c κs. search needs) (λ c κs. search needs) (λ c κs. search needs) (λ c κs. search needs) (λ c κs. search needs) returns)
