@@ -44,6 +44,6 @@ few (suc j) (suc k) n h = go (ltb n 10) (few j k (n / 10) (omega (arith, pow-suc
     go true l = omega arith
     go false l = simp length-append (omega arith)
 
-pub short : (n : ℕ) → n < 100000000 → length (decimal n) ≤ 8
+pub within : (j n : ℕ) → n < 10 ^ suc j → length (decimal n) ≤ suc j
 unfolding decimal
-short n h = few 7 20 n h
+within j n h = few j 20 n h

@@ -18,3 +18,4 @@ pub mod Counts
 pub mod History
 pub mod Decimal
 pub mod Lines
+pub mod Sizes

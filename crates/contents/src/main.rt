@@ -1,14 +1,18 @@
 // Prints the listing of the archive on standard input, or `refused 7` where there is none.
 use archive::listing;
 use archive::listing::Listed;
+ghost use mathlib.Core.Path.{_≡_};
 ghost use Prim.Native.Nat.{_≤_};
 ghost use lib.ListN.{length};
+ghost use Rattle.bits.specs.Bits.{pick};
+ghost use Rattle.archive.specs.Reading.{reading, isArchive};
+ghost use Rattle.archive.specs.Listing.{listing};
 
 fn main() {
     // one byte more than an archive may have, so that longer input is refused
     let mut input = [0u8; 65537];
-    // the longest listing: 512 lines of 46 bytes, and the first
-    let mut text = [0u8; 23583];
+    // no listing is longer: 26 bytes, and 35 for each of at most 512 entries
+    let mut text = [0u8; 17946];
     let n = read_all(&mut input);
     let size = list(&input[..n], &mut text);
     if size == 0 {
@@ -53,9 +57,11 @@ fn read_some(part: &mut [u8]) -> Got
     }
 }
 
-// Writes the listing to the front of the text; returns its length, 0 where it is refused.
+// Writes the listing to the front of the text; returns its length, 0 where there is no archive.
 fn list(archive: &[u8], text: &mut [u8]) -> usize
+    requires { ⌜ 17946 ≤ length (now text) ⌝ }
     ensures { λ r. ⌜ r ≤ length (now (text .exit)) ⌝ }
+    ensures { λ r. ⌜ r ≡ pick (isArchive (now (archive .entry))) (length (listing (reading (now (archive .entry))))) 0 ⌝ }
 {
     let listed = listing::list(archive, text);
     match listed {

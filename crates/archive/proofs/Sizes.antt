@@ -1,0 +1,72 @@
+-- No listing has more than 17,946 bytes: 26 for the first line, and 35 for each of at most 512 entries. Assumes nothing.
+use mathlib.Core.Path.{_≡_, refl, ap}
+use mathlib.Core.Bool.{Bool, true, false}
+use mathlib.Core.List.{List, [], _∷_}
+use Prim.Native.Nat.{ℕ, _*_, _≤_, _<_}
+use native.Mathlib.Omega.{arith}
+use lib.ListN.{length, length-append}
+use lib.Dec.{leb, eqb}
+use borrow.Author.Tests.{le-leb}
+use Rattle.bits.specs.Bits.{pick}
+use Rattle.reader.specs.Read.{readIs}
+use Rattle.pdu.proofs.Accepted.{accepted-framed}
+use Rattle.archive.specs.Model.{Held, keyOf, lengthOf}
+use Rattle.archive.specs.Filing.{keepsRules, wellFormed}
+use Rattle.archive.specs.Reading.{reading, isArchive}
+use Rattle.archive.specs.Listing.{firstLine, line, lines, listing, listIs}
+use Rattle.archive.specs.declared.contents.Entry.{Entry}
+use Rattle.archive.specs.declared.listing.Listed.{Listed}
+use Rattle.archive.specs.declared.listing.Listed.the-variants.{Bytes, Refused}
+use Rattle.archive.proofs.Tests.{and-true}
+use Rattle.archive.proofs.Bodies.{Agrees, agrees-says, part-is, fits}
+use Rattle.archive.proofs.Rules.{kept, formed}
+use Rattle.archive.proofs.Decimal.{within}
+use Rattle.archive.proofs.Lines.{length-line, length-first}
+
+-- network and SSI have at most 8 digits, the part 1, the bit length 4
+line-size : (home : ℕ) (h : Held) → home < 16777216 → Agrees home h → length (line (h .entry)) ≤ 35
+line-size home h k a =
+    let e = h .entry in
+    let n = e .bits .0 in
+    let f = fits home h k a .entry in
+    let network : e .network < 100000000 = omega (arith, f .network) in
+    let ssi : e .ssi < 100000000 = omega (arith, f .ssi) in
+    let part : e .part < 10 = omega (arith, ap (λ (y : Entry). y .part) (a .entry), part-is (readIs (h .body) n .found) (a .may) .1) in
+    let bits : n < 10000 = omega (arith, accepted-framed (h .body) n (a .accepted) .short) in
+    omega (arith, length-line e, within 7 (e .network) network, within 7 (e .ssi) ssi, within 0 (e .part) part, within 3 n bits)
+
+lines-size : (home last : ℕ) (hs : List Held) → home < 16777216 → keepsRules home last hs ≡ true → length (lines hs) ≤ 35 * length hs
+unfolding lines
+lines-size home last [] k e = omega arith
+lines-size home last (h ∷ hs) k e =
+    let u = kept home last h hs e in
+    let l = line-size home h k (agrees-says home h (u .agrees)) in
+    let rest = lines-size home (keyOf h) hs k (u .others) in
+    omega (arith, length-append (line (h .entry)) (lines hs), l, rest)
+
+pub listing-size : (b : List ℕ) → isArchive b ≡ true → length (listing (reading b)) ≤ 17946
+unfolding isArchive listing
+listing-size b ok =
+    let a = reading b in
+    let f = formed a (and-true (wellFormed a) (eqb (lengthOf a) (length b)) ok .0) in
+    let home : a .home < 100000000 = omega (arith, f .home) in
+    let count : length (a .held) < 1000 = omega (arith, f .few) in
+    let first = length-first (a .home) (length (a .held)) in
+    let all = length-append (firstLine (a .home) (length (a .held))) (lines (a .held)) in
+    omega (arith, all, first, within 7 (a .home) home, within 2 (length (a .held)) count, lines-size (a .home) 0 (a .held) (f .home) (f .rules), f .few)
+
+-- in a buffer of that size every archive is listed
+abbrev pub sizeOf : Listed → ℕ
+sizeOf (Bytes n) = n
+sizeOf (Refused k) = 0
+
+pub all-listed : (b : List ℕ) (room : ℕ) → 17946 ≤ room → sizeOf (listIs b room) ≡ pick (isArchive b) (length (listing (reading b))) 0
+unfolding listIs
+all-listed b room h = go (isArchive b) refl
+  where
+    size : ℕ
+    size = length (listing (reading b))
+
+    go : (p : Bool) → isArchive b ≡ p → sizeOf (pick p (pick (leb size room) (Bytes size) (Refused 8)) (Refused 7)) ≡ pick p size 0
+    go true e = ap (λ (q : Bool). sizeOf (pick q (Bytes size) (Refused 8))) (le-leb size room (omega (arith, listing-size b e)))
+    go false e = refl
