@@ -21,7 +21,8 @@ use Rattle.archive.specs.declared.contents.Entry.{Entry}
 use Rattle.archive.specs.declared.filing.Filing.the-variants.{Under, Nowhere}
 use Rattle.archive.proofs.Bodies.{Agrees, was-accepted}
 use Rattle.archive.proofs.Tests.{and-false, and-both}
-use Rattle.archive.proofs.Walks.{home-is, sound}
+use Rattle.archive.proofs.Walks.{home-is}
+use Rattle.archive.proofs.Checks.{sound}
 use lib.Dec.{leb}
 use borrow.Author.Tests.{le-leb, lt-leb}
 

@@ -20,7 +20,8 @@ use Rattle.archive.specs.declared.Archived.{Archived}
 use Rattle.archive.specs.declared.Archived.the-variants.{Bytes, Refused}
 use Rattle.archive.proofs.Tests.{and-true}
 use Rattle.archive.proofs.Rules.{kept, formed}
-use Rattle.archive.proofs.Walks.{sound, length-heldFrom}
+use Rattle.archive.proofs.Walks.{length-heldFrom}
+use Rattle.archive.proofs.Checks.{sound}
 use Rattle.archive.proofs.Capturing.{as-placed}
 use Rattle.archive.proofs.Putting.{isNone, length-put}
 

@@ -2,6 +2,7 @@ pub mod Tests
 pub mod Bodies
 pub mod Rules
 pub mod Walks
+pub mod Checks
 pub mod Laying
 pub mod Reading
 pub mod Writing

@@ -21,7 +21,7 @@ use Rattle.archive.specs.declared.Fetched.the-variants.{Body, NotHeld, N
 use Rattle.archive.specs.declared.checking.Place.{Place}
 use Rattle.archive.proofs.Tests.{and-true}
 use Rattle.archive.proofs.Rules.{Kept, kept}
-use Rattle.archive.proofs.Walks.{sound}
+use Rattle.archive.proofs.Checks.{sound}
 use Rattle.archive.proofs.Placing.{placeIn}
 
 -- ---- by order or not

@@ -14,7 +14,8 @@ use Rattle.archive.specs.Seeking.{seek, nextAt, restAt, Within, frontOf,
 use Rattle.archive.specs.declared.Archived.the-variants.{Bytes}
 use Rattle.archive.specs.declared.checking.Place.{Place}
 use Rattle.archive.proofs.Rules.{AllFit, all-fit}
-use Rattle.archive.proofs.Walks.{home-is, sound, length-heldFrom}
+use Rattle.archive.proofs.Walks.{home-is, length-heldFrom}
+use Rattle.archive.proofs.Checks.{sound}
 use Rattle.archive.proofs.Reading.{written-as-read}
 use Rattle.archive.proofs.Writing.{part-of, length-header, length-contents, length-bodies}
 use Rattle.archive.proofs.Splitting.{Split, split, contents-join, bodies-join, sizes-join, fit-parts}

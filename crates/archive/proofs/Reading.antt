@@ -9,7 +9,8 @@ use lib.Seq.{drop-cons, drop-drop, take-add, take-all}
 use Rattle.bits.proofs.Bytes.{Bytes}
 use Rattle.archive.specs.Model.{headerWidth, entryWidth, bytes2, bytes3, headerBytes, entryBytes, contentsOf, bodiesOf, bytesOf, sizes}
 use Rattle.archive.specs.Reading.{number3, countOf, entryAt, sizeAt, heldFrom, bodiesAt, heldIn, reading, isArchive}
-use Rattle.archive.proofs.Walks.{sound, length-heldFrom}
+use Rattle.archive.proofs.Walks.{length-heldFrom}
+use Rattle.archive.proofs.Checks.{sound}
 
 -- ---- numbers in bytes
 

@@ -14,7 +14,7 @@ use Rattle.archive.specs.Keeping.{over, put, with}
 use Rattle.archive.specs.Seeking.{Within, spliced, splicedLength}
 use Rattle.archive.specs.declared.Archived.the-variants.{Bytes}
 use Rattle.archive.specs.declared.checking.Place.{Place}
-use Rattle.archive.proofs.Walks.{sound}
+use Rattle.archive.proofs.Checks.{sound}
 use Rattle.archive.proofs.Laying.{length-spliced, at-front}
 use Rattle.archive.proofs.Placing.{placeIn, within, new-count, new-length, new-bytes}
 use Rattle.archive.proofs.Capturing.{placed-over, placed-short, placed-whole}

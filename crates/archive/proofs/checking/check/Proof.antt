@@ -16,7 +16,8 @@ use Rattle.archive.specs.Filing.{bodyAgrees}
 use Rattle.archive.specs.Reading.{number3, heldAt, isArchive}
 use Rattle.archive.specs.declared.contents.Entry.{Entry}
 use Rattle.archive.proofs.Tests.{and-true}
-use Rattle.archive.proofs.Walks.{home-is, too-short, over-limits, begins, restOk, rest-low, rest-short, rest-bad, rest-next, rest-none}
+use Rattle.archive.proofs.Walks.{home-is}
+use Rattle.archive.proofs.Checks.{too-short, over-limits, begins, restOk, rest-low, rest-short, rest-bad, rest-next, rest-none}
 use Rattle.archive.proofs.checking.check.Statement.{statement}
 use Rattle.archive.proofs.checking.check.Tie as tie
 

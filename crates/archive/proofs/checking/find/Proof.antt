@@ -11,7 +11,8 @@ use Rattle.archive.specs.Model.{Held, keyFor, keyOf, bodySize, sizes}
 use Rattle.archive.specs.Reading.{heldAt, heldFrom, heldIn, bodiesAt}
 use Rattle.archive.specs.Seeking.{placeOf, seek}
 use Rattle.archive.specs.declared.contents.Entry.{Entry}
-use Rattle.archive.proofs.Walks.{sound, sizes-next, seek-past, seek-held, seek-gap, seek-none}
+use Rattle.archive.proofs.Walks.{sizes-next, seek-past, seek-held, seek-gap, seek-none}
+use Rattle.archive.proofs.Checks.{sound}
 use Rattle.archive.proofs.checking.find.Statement.{statement}
 use Rattle.archive.proofs.checking.find.Tie as tie
 

@@ -10,7 +10,8 @@ use Rattle.archive.specs.Reading.{homeOf, countOf, reading}
 use Rattle.archive.specs.Listing.{decimal, firstLine, line, listing}
 use Rattle.archive.specs.Seeking.{linesFrom}
 use Rattle.archive.specs.declared.contents.Entry.{Entry}
-use Rattle.archive.proofs.Walks.{sound, home-small}
+use Rattle.archive.proofs.Walks.{home-small}
+use Rattle.archive.proofs.Checks.{sound}
 use Rattle.archive.proofs.Lines.{length-first, linesFrom-next, linesFrom-none, listing-read}
 use Rattle.archive.proofs.listing.text_length.Statement.{statement}
 use Rattle.archive.proofs.listing.text_length.Tie as tie

@@ -9,7 +9,7 @@ use lib.ListN.{length}
 use Rattle.archive.specs.Reading.{countOf, reading}
 use Rattle.archive.specs.Listing.{firstLine, listing}
 use Rattle.archive.specs.Seeking.{linesFrom}
-use Rattle.archive.proofs.Walks.{sound}
+use Rattle.archive.proofs.Checks.{sound}
 use Rattle.archive.proofs.Laying.{then}
 use Rattle.archive.proofs.Lines.{first-fits, rest-fits, listing-read}
 use Rattle.archive.proofs.listing.write_text.Statement.{statement}
