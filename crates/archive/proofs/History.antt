@@ -5,55 +5,25 @@ use mathlib.Core.Bool.{Bool, true, false}
 use mathlib.Core.List.{List, [], _∷_}
 use mathlib.Core.Option.{Option, none, some}
 use Prim.Native.Nat.{ℕ, _≤_}
-use native.Mathlib.Omega.{arith}
-use lib.ListN.{length, take, drop}
-use lib.Seq.{take-at}
-use lib.Dec.{ltb, leb}
-use borrow.Author.Tests.{ltb-true, le-leb}
+use lib.ListN.{length, take}
+use lib.Dec.{leb}
+use borrow.Author.Tests.{le-leb}
 use Rattle.bits.specs.Bits.{pick}
 use Rattle.bits.specs.Frame.{bytesFor}
 use Rattle.bits.specs.declared.BitCount.{BitCount}
-use Rattle.archive.specs.Model.{Held, Archive, keyFor, headerWidth, bytesOf}
-use Rattle.archive.specs.Filing.{names, keepsRules, wellFormed}
+use Rattle.archive.specs.Model.{Held, Archive, keyFor}
+use Rattle.archive.specs.Filing.{names}
 use Rattle.archive.specs.Reading.{reading, isArchive}
-use Rattle.archive.specs.Keeping.{over, leaves, emptyOf, emptyIs, emptyOut, heldFor, captured, captureOut}
+use Rattle.archive.specs.Keeping.{over, emptyIs, emptyOut, heldFor, captured, captureOut}
 use Rattle.archive.specs.Restoring.{inRange, lookup, delivered, bodyOf, restoreIs, restores, restoreOut}
 use Rattle.archive.specs.History.{Offer, keptOf, answerTo, after, afterAll, entryOf, latest, lastAccepted}
 use Rattle.archive.specs.declared.Archived.{Archived}
 use Rattle.archive.specs.declared.Archived.the-variants.{Bytes, Refused}
 use Rattle.archive.specs.declared.Restored.{Restored}
 use Rattle.archive.specs.declared.Restored.the-variants as restored
-use Rattle.archive.proofs.Rules.{is-formed}
-use Rattle.archive.proofs.Writing.{length-written, read-as-written, passes}
 use Rattle.archive.proofs.Restoring.{as-delivered, restore-leaves}
 use Rattle.archive.proofs.Theorems.{new-archive, new-reads, held-after}
-
--- ---- the empty archive
-
-empty-formed : (home : ℕ) → ltb home 16777216 ≡ true → wellFormed (emptyOf home) ≡ true
-unfolding keepsRules
-empty-formed home h = is-formed (emptyOf home) (record { home = ltb-true home 16777216 h; few = omega arith; small = omega arith; rules = refl })
-
-pub was-empty : (home room m : ℕ) → emptyIs home room ≡ Bytes m → (ltb home 16777216 ≡ true) × (m ≡ headerWidth)
-unfolding emptyIs
-was-empty home room m = go (ltb home 16777216) refl (leb headerWidth room)
-  where
-    go : (p : Bool) → ltb home 16777216 ≡ p → (q : Bool) → pick p (pick q (Bytes headerWidth) (Refused 8)) (Refused 9) ≡ Bytes m → (ltb home 16777216 ≡ true) × (m ≡ headerWidth)
-    go true h true e = (h, cc)
-    go true h false e = absurd (let z : _≡_ {A = ℕ} 0 1 = cc in omega arith)
-    go false h q e = absurd (let z : _≡_ {A = ℕ} 0 1 = cc in omega arith)
-
--- what `empty` writes is an archive that holds nothing
-empty-holds : (home : ℕ) (out : List ℕ) (m : ℕ) → emptyIs home (length out) ≡ Bytes m
-    → (isArchive (take m (emptyOut home out)) ≡ true) × (reading (take m (emptyOut home out)) ≡ emptyOf home)
-unfolding emptyOut
-empty-holds home out m e =
-    let r = was-empty home (length out) m e in
-    let f = empty-formed home (r .0) in
-    let w = bytesOf (emptyOf home) in
-    let l : length w ≡ m = length-written (emptyOf home) f ∙ sym (r .1) in
-    let is : take m (emptyOut home out) ≡ w = ap (λ (x : Archived). take m (leaves x w out)) e ∙ take-at w (drop (length w) out) m l in
-    (ap isArchive is ∙ passes (emptyOf home) f, ap reading is ∙ read-as-written (emptyOf home) f)
+use Rattle.archive.proofs.Emptied.{empty-holds}
 
 -- ---- one offer
 

@@ -16,6 +16,7 @@ pub mod Captured
 pub mod Users
 pub mod Theorems
 pub mod Counts
+pub mod Emptied
 pub mod History
 pub mod Decimal
 pub mod Lines

@@ -4,13 +4,13 @@ use mathlib.Core.Bool.{true}
 use mathlib.Core.List.{List}
 use Prim.Native.Nat.{ℕ, _<_}
 use lib.ListN.{length, take, drop}
-use Rattle.bits.proofs.Bytes.{Bytes}
 use Rattle.grammar.specs.declared.record.Record.{Record}
 use Rattle.barring.specs.declared.request.Request.{Request}
 use Rattle.boc.specs.RecordWords.{word, recordWords, recordFrom}
 use Rattle.boc.specs.RequestWords.{areRequest, requestWords, requestFrom}
 use Rattle.boc.proofs.RecordInverse as records
 use Rattle.boc.proofs.RequestInverse as requests
+use Rattle.bits.specs.Bits.{Bytes}
 
 -- ---- records; `Sized` is what the code's arrays and bytes make sure of
 

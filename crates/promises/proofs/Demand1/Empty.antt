@@ -11,7 +11,7 @@ use Rattle.archive.specs.Model.{headerWidth, headerBytes, bytesOf}
 use Rattle.archive.specs.Keeping.{archivedNumber, leaves, emptyOf, emptyIs, emptyOut}
 use Rattle.archive.specs.declared.Archived.{Archived}
 use Rattle.archive.specs.declared.Archived.the-variants.{Bytes, Refused}
-use Rattle.archive.proofs.History.{was-empty}
+use Rattle.archive.proofs.Emptied.{was-empty}
 use Rattle.promises.specs.Answers.{OneOf}
 use Rattle.promises.specs.Demand1.Empty.{number, Given, success, unranged, no-room, Promise}
 use Rattle.promises.proofs.Tables.{exactly}
