@@ -18,7 +18,7 @@ ghost use Rattle.codec.specs.Reading.{got, from, readAt};
 ghost use Rattle.grammar.specs.SiteSheet.{digitRefusal};
 ghost use Rattle.grammar.specs.Grammar.{external, noExternal, externals};
 ghost use Rattle.grammar.specs.Zero.{zeroNumbers};
-ghost use Rattle.reader.specs.Reader.{digitsIs, twelveAt, digitIn, Spread, numberIs, numberEntriesIs, numbersIs};
+ghost use Rattle.reader.specs.Reader.{digitsIs, twelveAt, digitIn, Spread, externalIs, numberEntriesIs, numbersIs};
 
 pub struct DigitsRead {
     pub reached: Reached,
@@ -121,7 +121,7 @@ pub struct ExternalRead {
 
 // An external number: its length and its digits.
 fn external_of(s: &[u8], n: BitCount, start: Reached) -> ExternalRead
-    ensures { λ r. ⌜ r ≡ numberIs (from start (readAt external (bitsIn (n .0) (now (s .entry))))) ⌝ }
+    ensures { λ r. ⌜ r ≡ externalIs (from start (readAt external (bitsIn (n .0) (now (s .entry))))) ⌝ }
 {
     let length = bounded(s, n, start, 5, 1, 24);
     let after_length = length.reached;
@@ -138,7 +138,7 @@ fn external_of(s: &[u8], n: BitCount, start: Reached) -> ExternalRead
 }
 
 fn kept_external(end: Reached, value: Number) -> ExternalRead
-    ensures { λ r. ⌜ r ≡ numberIs (from end (λ at. got value at)) ⌝ }
+    ensures { λ r. ⌜ r ≡ externalIs (from end (λ at. got value at)) ⌝ }
 {
     let Reached::At(_) = end else {
         return ExternalRead {
