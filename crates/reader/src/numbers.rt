@@ -38,14 +38,15 @@ fn digits_of(s: &[u8], n: BitCount, start: Reached, count: u32) -> DigitsRead
     };
     let at = c.at;
     let all = count as usize;
-    if are_there(s, n, at, 4 * all) {
+    let width = DigitCount(count as u8).bits().0;
+    if are_there(s, n, at, width) {
         let first = bits::least(all, 12);
         let high = twelve(s, at, first);
-        let low = twelve(s, at + 4 * first, all - first);
+        let low = twelve(s, at + DigitCount(first as u8).bits().0, all - first);
         if site::are_digits(high) {
             if site::are_digits(low) {
                 return DigitsRead {
-                    reached: Reached::At(Cursor { at: at + 4 * all }),
+                    reached: Reached::At(Cursor { at: at + width }),
                     value: spread(high, low),
                 };
             }
