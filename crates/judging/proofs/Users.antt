@@ -18,7 +18,6 @@ use Rattle.grammar.specs.Grammar.{identity, noIdentity, zeroIdentity, rangeEnds
 use Rattle.grammar.specs.declared.record.Identity.{Identity}
 use Rattle.grammar.specs.declared.record.Identities.{Identities}
 use Rattle.grammar.specs.declared.record.Record.{Record}
-use Rattle.grammar.specs.declared.site.Listing.the-variants as of
 use Rattle.reader.specs.Reader.{recordAt}
 use Rattle.reader.proofs.Answers.{not-framed, refused-inside, bits-left, accepted-whole}
 use Rattle.reader.proofs.Steps.{noIdentity-at}
