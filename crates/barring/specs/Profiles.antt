@@ -5,7 +5,8 @@ use Prim.Native.Nat.{ℕ}
 use lib.ListN.{length, replicate}
 use Rattle.bits.specs.Frame.{bytesFor}
 use Rattle.grammar.specs.Grammar.{pdu, grammar, zeroIdentity}
-use Rattle.grammar.specs.Examples.{user, one, noList, noNumbers, asking}
+use Rattle.grammar.specs.Examples.{user, one, asking}
+use Rattle.grammar.specs.Zero.{zeroIdentities, zeroNumbers}
 use Rattle.grammar.specs.declared.record.Identities.{Identities}
 use Rattle.grammar.specs.declared.record.Record.{Record}
 use Rattle.barring.specs.Rule.{ruling, rules}
@@ -26,7 +27,7 @@ part service groups restricted exceptions = record {
   result = 1;
   delivery = 0;
   services = record { count = 1; list = service ∷ replicate 6 0 };
-  lists = record { groups = groups; restricted = restricted; exceptions = exceptions; numbers = noNumbers; excepted = noNumbers };
+  lists = record { groups = groups; restricted = restricted; exceptions = exceptions; numbers = zeroNumbers; excepted = zeroNumbers };
 }
 
 abbrev pub range : ℕ → ℕ → Identities
@@ -34,15 +35,15 @@ range first last = record { code = 9; entries = user first ∷ user last ∷ rep
 
 -- services [1], no groups, restricted range 100 to 199, exception 150
 abbrev pub A : Record
-A = part 1 noList (range 100 199) (one (user 150))
+A = part 1 zeroIdentities (range 100 199) (one (user 150))
 
 -- services [0], no groups, none restricted, exception 7
 abbrev pub B : Record
-B = part 0 noList noList (one (user 7))
+B = part 0 zeroIdentities zeroIdentities (one (user 7))
 
 -- services [1], group 500, restricted 8
 abbrev pub C : Record
-C = part 1 (one (user 500)) (one (user 8)) noList
+C = part 1 (one (user 500)) (one (user 8)) zeroIdentities
 
 -- ---- the calls of user 1/5
 

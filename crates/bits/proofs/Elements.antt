@@ -27,7 +27,7 @@ pub take-element : (s : List ℕ) (n at w : ℕ) → 1 ≤ w → w ≤ 32 → ta
 unfolding takeAt
 take-element s n at w l h = rw (le-leb 1 w l, le-leb w 32 h)
 
-same-pick : {A : Type 0} (b : Bool) (t : A) → pick b t t ≡ t
+pub same-pick : {A : Type 0} (b : Bool) (t : A) → pick b t t ≡ t
 same-pick true t = refl
 same-pick false t = refl
 

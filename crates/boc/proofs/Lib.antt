@@ -1,4 +1,3 @@
-pub mod Arrays
 pub mod Putting
 pub mod Filling
 pub mod Answering

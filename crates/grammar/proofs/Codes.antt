@@ -1,17 +1,17 @@
 -- Laws of the site sheet's codes and of the ends of a range. Assumes nothing.
 use mathlib.Core.Path.{_≡_, refl}
 use mathlib.Core.Bool.{Bool, true, false, _&&_}
-use mathlib.Core.List.{[], _++_}
+use mathlib.Core.List.{List, [], _++_}
 use Prim.Native.Nat.{ℕ, _+_, _≤_}
 use native.Mathlib.Omega.{arith}
-use borrow.Author.Tests.{leb-true}
+use borrow.Author.Tests.{leb-true, ne-eqb}
 use lib.ListN.{length, length-append}
 use lib.Dec.{eqb, leb}
 use Rattle.bits.specs.Bits.{pick, bitsOf}
 use Rattle.bits.proofs.Numbers.{length-bitsOf}
 use Rattle.codec.specs.Parts.{number, absent, seq, shaped}
 use Rattle.grammar.specs.SiteSheet.{rangeType, rowOfType, rowOf, entriesOf, between}
-use Rattle.grammar.specs.Grammar.{extension, identity}
+use Rattle.grammar.specs.Grammar.{extension, identity, rangeEnds}
 use Rattle.grammar.specs.declared.record.Identity.{Identity}
 use Rattle.grammar.specs.declared.site.RangeType.the-variants.{Empty, Single, FirstAndLast, NoRangeType}
 
@@ -26,6 +26,11 @@ entriesOf-le code = go (eqb code 0) (leb code 8) refl (eqb code 9)
     go false true e d = leb-true code 8 e
     go false false e true = omega arith
     go false false e false = omega arith
+
+-- only range type 9 has two ends
+pub not-nine : (code : ℕ) → (code ≡ 9 → ⊥) → (l : List Identity) → rangeEnds code l ≡ 0
+unfolding rangeEnds
+not-nine code h l = rw (ne-eqb code 9 h)
 
 -- a value that is not outside its bounds
 pub between-le : (low high v : ℕ) → between low high v ≡ 0 → v ≤ high

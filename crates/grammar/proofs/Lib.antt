@@ -1,5 +1,6 @@
 pub mod Table
 pub mod Codes
+pub mod Arrays
 pub mod Digits
 pub mod Sizes
 pub mod Parts

@@ -7,6 +7,7 @@ use lib.ListN.{length, replicate}
 use Rattle.codec.specs.Codec.{ok}
 use Rattle.codec.specs.Whole.{wholeParse}
 use Rattle.grammar.specs.Grammar.{pdu, grammar, zeroIdentity}
+use Rattle.grammar.specs.Zero.{zeroIdentities, zeroNumbers, zeroServices, zeroLists}
 use Rattle.grammar.specs.declared.record.Identity.{Identity}
 use Rattle.grammar.specs.declared.record.Identities.{Identities}
 use Rattle.grammar.specs.declared.record.Numbers.{Numbers}
@@ -14,12 +15,6 @@ use Rattle.grammar.specs.declared.record.Record.{Record}
 
 abbrev pub user : ℕ → Identity
 user n = record { ssi = n; present = 0; extension = 0 }
-
-abbrev pub noList : Identities
-noList = record { code = 0; entries = replicate 8 zeroIdentity }
-
-abbrev pub noNumbers : Numbers
-noNumbers = record { code = 0; entries = replicate 8 (record { length = record { 0 = 0 }; digits = replicate 24 0 }) }
 
 abbrev pub one : Identity → Identities
 one e = record { code = 1; entries = e ∷ replicate 7 zeroIdentity }
@@ -32,8 +27,8 @@ asking = record {
   asked = 1;
   result = 0;
   delivery = 0;
-  services = record { count = 0; list = replicate 7 0 };
-  lists = record { groups = noList; restricted = noList; exceptions = noList; numbers = noNumbers; excepted = noNumbers };
+  services = zeroServices;
+  lists = zeroLists;
 }
 
 -- profile A: speech, no groups, restricted range 100 to 199, exception 150
@@ -46,11 +41,11 @@ profileA = record {
   delivery = 0;
   services = record { count = 1; list = 1 ∷ replicate 6 0 };
   lists = record {
-    groups = noList;
+    groups = zeroIdentities;
     restricted = record { code = 9; entries = user 100 ∷ user 199 ∷ replicate 6 zeroIdentity };
     exceptions = one (user 150);
-    numbers = noNumbers;
-    excepted = noNumbers;
+    numbers = zeroNumbers;
+    excepted = zeroNumbers;
   };
 }
 
@@ -84,8 +79,8 @@ longestAsking = record {
   asked = 3;
   result = 0;
   delivery = 0;
-  services = record { count = 0; list = replicate 7 0 };
-  lists = record { groups = noList; restricted = noList; exceptions = noList; numbers = noNumbers; excepted = noNumbers };
+  services = zeroServices;
+  lists = zeroLists;
 }
 
 abbrev longestAck : Record
@@ -96,7 +91,7 @@ longestAck = record {
   result = 2;
   delivery = 3;
   services = record { count = 7; list = replicate 7 3 };
-  lists = record { groups = eight; restricted = noList; exceptions = noList; numbers = eightNumbers; excepted = eightNumbers };
+  lists = record { groups = eight; restricted = zeroIdentities; exceptions = zeroIdentities; numbers = eightNumbers; excepted = eightNumbers };
 }
 
 -- an INTERROGATE of 409 bits, and an INTERROGATE ACK of 2,456: both legal

@@ -2,7 +2,7 @@
 -- Each part is a codec: it is written, read and judged by the same description.
 use mathlib.Core.Path.{refl}
 use mathlib.Core.Bool.{_&&_}
-use mathlib.Core.List.{List, []}
+use mathlib.Core.List.{List}
 use Prim.Native.Nat.{ℕ}
 use lib.ListN.{length, getD}
 use lib.Dec.{leb, eqb}

@@ -11,6 +11,7 @@ use Rattle.bits.specs.Bits.{pick, value, bitsOf}
 use Rattle.bits.specs.Frame.{bitsIn, framed}
 use Rattle.bits.specs.Element.{windowAt}
 use Rattle.bits.proofs.Frames.{framed-says}
+use Rattle.bits.proofs.Elements.{same-pick}
 use Rattle.bits.proofs.Tests.{both}
 use Rattle.codec.specs.Parts.{number, element, seq, tested, shaped, mark, only}
 use Rattle.codec.specs.Reading.{Answer, got, refused, andNext, readAt}
@@ -56,14 +57,10 @@ module _ (s : List ℕ) (n : ℕ) (f : framed s n ≡ true) where
   judged-other h k =
       judged-at s n f ∙ read-cases pdu (bitsIn n s) 0 (λ o. judgedOf n o ≡ Other) (λ j p. refl) (λ r g rest e. may r rest e (mayHold r) refl _)
     where
-      neither : (b : Bool) → pick b Other Other ≡ Other
-      neither true = refl
-      neither false = refl
-
       may : (r : Record) (rest : List Bool) → bitsIn n s ≡ pdu .print r ++ rest → (b : Bool) → mayHold r ≡ b
           → (p : ℕ) → pick (ltb p n) Other (pick b (Part (userOf r) (r .result)) Other) ≡ Other
       may r rest e true m p = absurd (k (begins h r rest e m))
-      may r rest e false m p = neither (ltb p n)
+      may r rest e false m p = same-pick (ltb p n) Other
 
   -- ---- the affected user
 

@@ -10,6 +10,7 @@ use lib.Dec.{leb}
 use Rattle.bits.specs.Bits.{pick, value, bitsOf}
 use Rattle.bits.specs.Frame.{bitsIn}
 use Rattle.bits.specs.Element.{windowAt}
+use Rattle.bits.proofs.Elements.{same-pick}
 use Rattle.codec.specs.Parts.{number, absent, element, seq, tested}
 use Rattle.codec.specs.Reading.{Answer, got, refused, andNext, unlessAt, readAt}
 use Rattle.codec.proofs.Reading.{andNext-assoc, readAt-absent, readAt-seq}
@@ -33,21 +34,17 @@ module _ (l : List Bool) (at : ℕ) where
   unfolding interrogateAck
   ack-at = simp (readAt-seq, andNext-assoc, readAt-absent)
 
-neither : (b : Bool) → _≡_ {A = ℕ} 0 (pick b 0 0)
-neither true = refl
-neither false = refl
-
 -- only an accepting result counts, and then only where the part ends
 part-ends : (n result delivery : ℕ) (o : Answer Services) (f : ℕ → Answer Lists)
     → partAfter n (andNext o (λ listed p. andNext (f p) (λ lists q. got (0, (result, (delivery, (listed, lists)))) q)))
     ≡ pick (leb 1 result && leb result 2) (ending n result (onward (walked o) (λ p. walked (f p)))) 0
-part-ends n result delivery (refused k p) f = neither (leb 1 result && leb result 2)
+part-ends n result delivery (refused k p) f = sym (same-pick (leb 1 result && leb result 2) 0)
 part-ends n result delivery (got a p) f = go (f p)
   where
     go : (o : Answer Lists) → partAfter n (andNext {B = Rest} o (λ lists q. got (0, (result, (delivery, (a, lists)))) q))
         ≡ pick (leb 1 result && leb result 2) (ending n result (walked o)) 0
     go (got b q) = refl
-    go (refused k q) = neither (leb 1 result && leb result 2)
+    go (refused k q) = sym (same-pick (leb 1 result && leb result 2) 0)
 
 off-part : (n : ℕ) (o : Answer Rest) → walked o ≡ Off → partAfter n o ≡ 0
 off-part n (got rest p) e = absurd (let z : _≡_ {A = ℕ} 0 1 = cc in omega arith)

@@ -15,6 +15,7 @@ use Rattle.codec.specs.Reading.{Answer, got, refused, andNext, unlessAt, readAt
 use Rattle.codec.proofs.Reading.{readAt-tested}
 use Rattle.grammar.specs.SiteSheet.{rangeType, rowOfType, rowOf, entriesOf, refusalIn, rangeRefusal}
 use Rattle.grammar.specs.Grammar.{identity, noIdentity, rangeEnds, secondEnd, identities, external, noExternal, externals, services, identityPart, numberPart}
+use Rattle.grammar.proofs.Codes.{not-nine}
 use Rattle.grammar.specs.declared.record.Identity.{Identity}
 use Rattle.grammar.specs.declared.site.RangeType.{RangeType}
 use Rattle.grammar.specs.declared.site.RangeType.the-variants.{Single, FirstAndLast, NoRangeType}
@@ -54,10 +55,6 @@ untested : (o : Answer (List Identity)) (refuse into : List Identity → ℕ) �
     → walked (andNext o (λ a p. unlessAt (refuse a) (into a) (got a p))) ≡ walked o
 untested (got a p) refuse into h = rw (h a)
 untested (refused n p) refuse into h = refl
-
-not-nine : (code : ℕ) → (code ≡ 9 → ⊥) → (a : List Identity) → rangeEnds code a ≡ 0
-unfolding rangeEnds
-not-nine code h a = rw (ne-eqb code 9 h)
 
 module _ {s : List ℕ} {n at : ℕ} (i : Inside s n at) where
   shape : walk (identities of.Identities) (bitsIn n s) at ≡ walk (seq (element 4 (rangeRefusal of.Identities)) (λ code.

@@ -73,10 +73,11 @@ spread-one high low i l r h {d} e = record { room = length-set l i d ∙ r .room
         let other : j ≡ i → ⊥ = eqb-false j i t in
         getD-set-other l i j d 0 other ∙ r .digits j (omega arith)
 
--- all of them: the first twelve in one number, the others in another
-module _ (s : List ℕ) (n at count first : ℕ) (half : first ≡ min count 12) (few : count ≤ 24) {high low : ℕ}
-    (eh : high ≡ twelveAt s at first) (el : low ≡ twelveAt s (at + 4 * first) (count - first)) where
-  digit-there : at + 4 * count ≤ length (bitsIn n s) → allDigits 16 high ≡ true → allDigits 16 low ≡ true → (i : ℕ) → i < count
+-- all of them, of so many bits: the first twelve in one number, the others, so many bits further on, in another
+module _ (s : List ℕ) (n at count first : ℕ) (half : first ≡ min count 12) (few : count ≤ 24)
+    {width into : ℕ} (wide : width ≡ 4 * count) (further : into ≡ 4 * first) {high low : ℕ}
+    (eh : high ≡ twelveAt s at first) (el : low ≡ twelveAt s (at + into) (count - first)) where
+  digit-there : at + width ≤ length (bitsIn n s) → allDigits 16 high ≡ true → allDigits 16 low ≡ true → (i : ℕ) → i < count
       → readAt (element 4 digitRefusal) (bitsIn n s) (at + 4 * i) ≡ got (digitIn high low i) (at + 4 * suc i)
   unfolding digitIn
   digit-there there lh ll i h = go (ltb i 12) refl
@@ -89,7 +90,7 @@ module _ (s : List ℕ) (n at count first : ℕ) (half : first ≡ min count 12)
           (at + 4 * i) (at + 4 * suc i) (omega arith) (omega arith))
       go false t =
           let late = ltb-false i 12 t in
-          rw el (twelve-digit s n (at + 4 * first) (count - first) (i - 12) (92 - 4 * i) (omega arith) (omega arith) (omega arith) (omega arith) (rw el at ll)
+          rw el (twelve-digit s n (at + into) (count - first) (i - 12) (92 - 4 * i) (omega arith) (omega arith) (omega arith) (omega arith) (rw el at ll)
           (at + 4 * i) (at + 4 * suc i) (omega arith) (omega arith))
 
   no-digit : (i : ℕ) → count ≤ i → i < 24 → digitIn high low i ≡ 0
@@ -102,13 +103,14 @@ module _ (s : List ℕ) (n at count first : ℕ) (half : first ≡ min count 12)
           rw eh (twelve-none s n at first i (44 - 4 * i) (omega arith) (omega arith) (omega arith))
       go false t =
           let late = ltb-false i 12 t in
-          rw el (twelve-none s n (at + 4 * first) (count - first) (i - 12) (92 - 4 * i) (omega arith) (omega arith) (omega arith))
+          rw el (twelve-none s n (at + into) (count - first) (i - 12) (92 - 4 * i) (omega arith) (omega arith) (omega arith))
 
-  pub digits-there : at + 4 * count ≤ length (bitsIn n s) → allDigits 16 high ≡ true → allDigits 16 low ≡ true → {l : List ℕ} → Spread high low 24 l
-      → readAt (places (element 4 digitRefusal) absent 24 count) (bitsIn n s) at ≡ got l (at + 4 * count)
+  pub digits-there : at + width ≤ length (bitsIn n s) → allDigits 16 high ≡ true → allDigits 16 low ≡ true → {l : List ℕ} → Spread high low 24 l
+      → readAt (places (element 4 digitRefusal) absent 24 count) (bitsIn n s) at ≡ got l (at + width)
   digits-there there lh ll {l} r =
       let start : at ≡ at + 4 * 0 = omega arith in
       ap (readAt (places (element 4 digitRefusal) absent 24 count) (bitsIn n s)) start
       ∙ places-each (element 4 digitRefusal) absent (bitsIn n s) 0 24 count (λ i. at + 4 * i) l (r .room) few
       (λ i h. digit-there there lh ll i h ∙ ap {B = Answer ℕ} (λ (x : ℕ). got x (at + 4 * suc i)) (sym (r .digits i (omega arith))))
       (λ i p h k. readAt-absent (bitsIn n s) p ∙ ap {B = Answer ℕ} (λ (x : ℕ). got x p) (sym (r .digits i k ∙ no-digit i h k)))
+      ∙ ap {B = Answer (List ℕ)} (λ (x : ℕ). got l (at + x)) (sym wide)

@@ -7,7 +7,7 @@ use Rattle.codec.specs.Reading.{Answer}
 use Rattle.codec.proofs.Reading.{placed, placed-answer}
 use Rattle.grammar.specs.Grammar.{zeroIdentity}
 use Rattle.grammar.specs.Zero.{zeroIdentities, zeroNumber, zeroNumbers, zeroServices, zeroLists, zeroRecord}
-use Rattle.reader.specs.Reader.{identityIs, entriesIs, identitiesIs, digitsIs, numberIs, numberEntriesIs, numbersIs, serviceListIs, servicesIs, listsIs, recordIs}
+use Rattle.reader.specs.Reader.{identityIs, entriesIs, identitiesIs, digitsIs, externalIs, numberEntriesIs, numbersIs, serviceListIs, servicesIs, listsIs, recordIs}
 use Rattle.grammar.specs.declared.record.Identity.{Identity}
 use Rattle.grammar.specs.declared.record.Identities.{Identities}
 use Rattle.grammar.specs.declared.record.Number.{Number}
@@ -43,8 +43,8 @@ pub digits-read : (o : Answer (List ℕ)) {r : DigitsRead} → r ≡ digitsIs o 
 unfolding digitsIs
 digits-read o e = placed-answer (replicate 24 0) o ∙ ap (λ (r : DigitsRead). placed (r .reached) (r .value)) (sym e)
 
-pub external-read : (o : Answer Number) {r : ExternalRead} → r ≡ numberIs o → o ≡ placed (r .reached) (r .value)
-unfolding numberIs
+pub external-read : (o : Answer Number) {r : ExternalRead} → r ≡ externalIs o → o ≡ placed (r .reached) (r .value)
+unfolding externalIs
 external-read o e = placed-answer zeroNumber o ∙ ap (λ (r : ExternalRead). placed (r .reached) (r .value)) (sym e)
 
 pub number-entries-read : (o : Answer (List Number)) {r : NumberEntriesRead} → r ≡ numberEntriesIs o → o ≡ placed (r .reached) (r .value)

@@ -68,8 +68,8 @@ pub record Spread (high low n : ℕ) (l : List ℕ) : Type 0 where
   pub room : length l ≡ 24
   pub digits : (i : ℕ) → i < n → getD l i 0 ≡ digitIn high low i
 
-unfoldable pub numberIs : Answer Number → ExternalRead
-numberIs o = record { reached = reachedOf o; value = valueOr zeroNumber o }
+unfoldable pub externalIs : Answer Number → ExternalRead
+externalIs o = record { reached = reachedOf o; value = valueOr zeroNumber o }
 
 unfoldable pub numberEntriesIs : Answer (List Number) → NumberEntriesRead
 numberEntriesIs o = record { reached = reachedOf o; value = valueOr (replicate 8 zeroNumber) o }

@@ -13,8 +13,7 @@ ghost use Prim.Native.Nat.{_≤_};
 ghost use lib.ListN.{length, replicate};
 ghost use Rattle.bits.specs.Frame.{bitsIn};
 ghost use Rattle.codec.specs.Places.{places};
-ghost use Rattle.codec.specs.Reading.{got, from, readAt};
-ghost use Rattle.codec.specs.Reading as reading;
+ghost use Rattle.codec.specs.Reading.{got, from, readAt, numberIs};
 ghost use Rattle.grammar.specs.Grammar.{extension, identity, noIdentity, zeroIdentity, identities};
 ghost use Rattle.grammar.specs.Zero.{zeroIdentities};
 ghost use Rattle.reader.specs.Reader.{identityIs, entriesIs, EndsFit, endsIs, identitiesIs};
@@ -79,7 +78,7 @@ fn identity_by_parts(s: &[u8], n: BitCount, start: Reached) -> IdentityRead
 
 // Nothing is read: where reading stands, and 0.
 fn nothing(start: Reached) -> NumberRead
-    ensures { λ r. ⌜ r ≡ reading.numberIs (from start (λ at. got 0 at)) ⌝ }
+    ensures { λ r. ⌜ r ≡ numberIs (from start (λ at. got 0 at)) ⌝ }
 {
     NumberRead {
         reached: start,
@@ -88,7 +87,7 @@ fn nothing(start: Reached) -> NumberRead
 }
 
 fn extension_of(s: &[u8], n: BitCount, start: Reached, present: u32) -> NumberRead
-    ensures { λ r. ⌜ r ≡ reading.numberIs (from start (readAt (extension present) (bitsIn (n .0) (now (s .entry))))) ⌝ }
+    ensures { λ r. ⌜ r ≡ numberIs (from start (readAt (extension present) (bitsIn (n .0) (now (s .entry))))) ⌝ }
 {
     if present == 1 {
         return codec::number(s, n, start, 24);

@@ -18,7 +18,7 @@ ghost use Rattle.codec.specs.Reading.{got, from, readAt};
 ghost use Rattle.grammar.specs.SiteSheet.{digitRefusal};
 ghost use Rattle.grammar.specs.Grammar.{external, noExternal, externals};
 ghost use Rattle.grammar.specs.Zero.{zeroNumbers};
-ghost use Rattle.reader.specs.Reader.{digitsIs, twelveAt, digitIn, Spread, numberIs, numberEntriesIs, numbersIs};
+ghost use Rattle.reader.specs.Reader.{digitsIs, twelveAt, digitIn, Spread, externalIs, numberEntriesIs, numbersIs};
 
 pub struct DigitsRead {
     pub reached: Reached,
@@ -38,14 +38,15 @@ fn digits_of(s: &[u8], n: BitCount, start: Reached, count: u32) -> DigitsRead
     };
     let at = c.at;
     let all = count as usize;
-    if are_there(s, n, at, 4 * all) {
+    let width = DigitCount(count as u8).bits().0;
+    if are_there(s, n, at, width) {
         let first = bits::least(all, 12);
         let high = twelve(s, at, first);
-        let low = twelve(s, at + 4 * first, all - first);
+        let low = twelve(s, at + DigitCount(first as u8).bits().0, all - first);
         if site::are_digits(high) {
             if site::are_digits(low) {
                 return DigitsRead {
-                    reached: Reached::At(Cursor { at: at + 4 * all }),
+                    reached: Reached::At(Cursor { at: at + width }),
                     value: spread(high, low),
                 };
             }
@@ -121,7 +122,7 @@ pub struct ExternalRead {
 
 // An external number: its length and its digits.
 fn external_of(s: &[u8], n: BitCount, start: Reached) -> ExternalRead
-    ensures { λ r. ⌜ r ≡ numberIs (from start (readAt external (bitsIn (n .0) (now (s .entry))))) ⌝ }
+    ensures { λ r. ⌜ r ≡ externalIs (from start (readAt external (bitsIn (n .0) (now (s .entry))))) ⌝ }
 {
     let length = bounded(s, n, start, 5, 1, 24);
     let after_length = length.reached;
@@ -138,7 +139,7 @@ fn external_of(s: &[u8], n: BitCount, start: Reached) -> ExternalRead
 }
 
 fn kept_external(end: Reached, value: Number) -> ExternalRead
-    ensures { λ r. ⌜ r ≡ numberIs (from end (λ at. got value at)) ⌝ }
+    ensures { λ r. ⌜ r ≡ externalIs (from end (λ at. got value at)) ⌝ }
 {
     let Reached::At(_) = end else {
         return ExternalRead {

@@ -1,5 +1,6 @@
 // What a record comes to before anything is stored, part by part in the order of reading: whether all that its PDU does not carry is zero,
 // the first refusal, and the length of the PDU.
+use bits::DigitCount;
 use grammar::record::Identities;
 use grammar::record::Identity;
 use grammar::record::Lists;
@@ -205,7 +206,7 @@ fn tally_digit_places(start: Tally, digits: [u8; 24], n: usize) -> Tally
     Tally {
         clean: both(start.clean, unused),
         refusal: first_refusal(start.refusal, refusal_unless(legal)),
-        bits: start.bits + 4 * used,
+        bits: start.bits + DigitCount(used as u8).bits().0,
     }
 }
 

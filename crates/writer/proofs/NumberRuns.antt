@@ -6,13 +6,10 @@ use Prim.Native.Nat.{ℕ, zero, suc, _+_, _-_, _*_, _/_, _%_, _^_, _≤_, _<_, m
 use native.Mathlib.Nat.{zero-add, add-zero}
 use native.Mathlib.Numerals.{add-one}
 use native.Mathlib.Omega.{arith}
-use lib.ListN.{length, take, drop, getD, length-append, length-map, length-drop, take-append-drop}
+use lib.ListN.{length, take, drop, getD, length-append, length-drop, take-append-drop}
 use lib.Seq.{take-nil, take-at, take-add, take-suc, take-take, length-take-le}
 use lib.Dec.{leb}
 use borrow.Author.Tests.{leb-true, leb-false}
-use mir.Val.{Val}
-use denote.Laws.{Is}
-use denote.Struct.Declared.{row}
 use Rattle.bits.specs.Bits.{bitsOf}
 use Rattle.bits.proofs.Numbers.{length-bitsOf, bitsOf-add}
 use Rattle.bits.proofs.Lists.{take-min}
@@ -21,7 +18,6 @@ use Rattle.codec.specs.Places.{nil, cons, places}
 use Rattle.grammar.specs.SiteSheet.{digitRefusal}
 use Rattle.grammar.specs.Grammar.{external}
 use Rattle.grammar.specs.declared.record.Number.{Number}
-use Rattle.grammar.proofs.record.Number as number-type
 use Rattle.writer.specs.Writing.{digitBits, DigitsAfter}
 use Rattle.writer.proofs.Runs.{bitsOf-join}
 
@@ -78,10 +74,6 @@ fewer-digits t k start run few long whole w =
     (omega (arith, length-append (bitsOf w start) (digitBits (take k t)), length-bitsOf w start, length-digitBits (take k t), length-take-le k t (omega arith)))
 
 -- ---- an external number
-
--- owning it tells how many digits it has
-pub digits-length : (x : Number) (vs : List Val) → Is (row number-type.the-type) x vs → length (x .digits) ≡ 24
-digits-length x vs t = sym (length-map (x .digits) (λ v. v)) ∙ t .1 .1 .1 .0 .1 .0 .1
 
 print-digits : (m n : ℕ) (l : List ℕ) → length l ≡ m → places (element 4 digitRefusal) absent m n .print l ≡ digitBits (take n l)
 unfolding places cons nil element tested number absent digitBits

@@ -5,7 +5,8 @@ use lib.ListN.{replicate}
 use Rattle.bits.specs.Frame.{bytesOf, pack}
 use Rattle.grammar.specs.Grammar.{grammar, zeroIdentity}
 use Rattle.writer.specs.Write.{recordRefusal, writeRefusal, writeIs, outIs}
-use Rattle.grammar.specs.Examples.{user, noList, noNumbers, asking, profileA}
+use Rattle.grammar.specs.Examples.{user, asking, profileA}
+use Rattle.grammar.specs.Zero.{zeroIdentities, zeroNumbers}
 use Rattle.grammar.specs.declared.record.Numbers.{Numbers}
 use Rattle.grammar.specs.declared.record.Record.{Record}
 use Rattle.writer.specs.declared.Written.the-variants.{Bits, Refused}
@@ -43,15 +44,15 @@ reversed excepted = record {
   result = 1;
   delivery = 0;
   services = record { count = 1; list = 1 ∷ replicate 6 0 };
-  lists = record { groups = noList; restricted = noList; exceptions = noList; numbers = noNumbers; excepted = excepted };
+  lists = record { groups = zeroIdentities; restricted = zeroIdentities; exceptions = zeroIdentities; numbers = zeroNumbers; excepted = excepted };
 }
 
 -- 4, before 8
-ends : writeIs (reversed noNumbers) [] ≡ Refused 4
+ends : writeIs (reversed zeroNumbers) [] ≡ Refused 4
 unfolding writing
 ends = refl
 
 -- what must be zero and is not gives 3, before the 4 of an earlier element
-stray : writeIs (reversed (record { code = 1; entries = noNumbers .entries })) [] ≡ Refused 3
+stray : writeIs (reversed (record { code = 1; entries = zeroNumbers .entries })) [] ≡ Refused 3
 unfolding writing
 stray = refl

@@ -1,13 +1,14 @@
 -- Only code 9 is a range, of the first two places. Assumes nothing.
+use mathlib.Core.Path.{sym}
 use borrow.Author.Needs.{needs}
-use borrow.Author.Tests.{eq-eqb, ne-eqb}
+use borrow.Author.Tests.{eq-eqb}
 use Rattle.grammar.specs.Grammar.{rangeEnds}
+use Rattle.grammar.proofs.Codes.{not-nine}
 use Rattle.tally.proofs.range_ends.Statement.{statement}
 use Rattle.tally.proofs.range_ends.Tie as tie
 
 returns : tie.Need-returns
-unfolding rangeEnds
-returns c = rw (ne-eqb (c .before .args .code) 9 (c .if1 .taken))
+returns c = sym (not-nine _ (c .if1 .taken) _)
 
 returns-2 : tie.Need-returns-2
 unfolding rangeEnds

@@ -8,7 +8,7 @@ use lib.Seq.{slice}
 use borrow.Author.Needs.{needs}
 use Rattle.barring.specs.Search.{some}
 use Rattle.barring.specs.Matching.{isCovering, covered}
-use Rattle.barring.proofs.Arrays.{services-length}
+use Rattle.grammar.proofs.Arrays.{services-length}
 use Rattle.barring.proofs.Search.{take-used, passed, found, some-end}
 use Rattle.barring.proofs.matching.covers.Statement.{statement}
 use Rattle.barring.proofs.matching.covers.Tie as tie

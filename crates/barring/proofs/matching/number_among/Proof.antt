@@ -13,9 +13,9 @@ use borrow.Author.Tests.{eq-eqb, ne-eqb}
 use Rattle.grammar.specs.SiteSheet.{entriesOf}
 use Rattle.grammar.specs.declared.site.Row.{Row}
 use Rattle.grammar.specs.declared.record.Number.{Number}
+use Rattle.grammar.proofs.Arrays.{numbers-length, each-digits-length}
 use Rattle.barring.specs.Search.{some}
 use Rattle.barring.specs.Matching.{same, isNumber, numberAmong}
-use Rattle.barring.proofs.Arrays.{numbers-length, digits-length}
 use Rattle.barring.proofs.Search.{take-used, passed, found, some-end, agrees, differs, same-end}
 use Rattle.barring.proofs.matching.number_among.Statement.{statement}
 use Rattle.barring.proofs.matching.number_among.Tie as tie
@@ -65,7 +65,7 @@ there : (c : tie.In-entries Inv-loop μ-loop Inv-entries μ-entries)
 unfolding entry
 there c =
     let s = c .before .before .before .before .before .before .before .before in
-    (digits-length (s .args .list) _ (s .good .0) blank (omega arith), omega arith, omega arith)
+    (each-digits-length (s .args .list) _ (s .good .0) blank (omega arith), omega arith, omega arith)
 
 loop-holds : tie.Need-loop-holds Inv-loop μ-loop Inv-entries μ-entries
 unfolding entry isNumber

@@ -5,7 +5,7 @@ use native.Mathlib.Omega.{arith}
 use borrow.Author.Needs.{needs}
 use lib.ListN.{length}
 use Rattle.boc.specs.RecordWords.{identityWords, identitiesWords}
-use Rattle.boc.proofs.Arrays.{identities-length}
+use Rattle.grammar.proofs.Arrays.{identities-length}
 use Rattle.boc.proofs.Putting.{then, Turned, turned-none, turned-more, turned-all}
 use Rattle.boc.proofs.record_words.put_identities.Statement.{statement}
 use Rattle.boc.proofs.record_words.put_identities.Tie as tie

@@ -6,7 +6,7 @@ use native.Mathlib.Omega.{arith}
 use borrow.Author.Needs.{needs}
 use lib.ListN.{length}
 use Rattle.boc.specs.RecordWords.{numberWords}
-use Rattle.boc.proofs.Arrays.{digits-length}
+use Rattle.grammar.proofs.Arrays.{digits-length}
 use Rattle.boc.proofs.Putting.{then, inTurn-words, Turned, turned-none, turned-more, turned-all}
 use Rattle.boc.proofs.record_words.put_number.Statement.{statement}
 use Rattle.boc.proofs.record_words.put_number.Tie as tie

@@ -5,11 +5,13 @@ use native.Mathlib.Omega.{arith}
 use borrow.Author.Needs.{needs}
 use denote.Ref.{now}
 use Rattle.bits.specs.Frame.{bitsIn}
+use Rattle.bits.specs.Element.{windowAt}
 use Rattle.codec.specs.Reading.{got, readAt}
 use Rattle.grammar.specs.Grammar.{identity}
+use Rattle.reader.proofs.Windows.{plainIn}
 use Rattle.judging.specs.Walk.{Inside}
 use Rattle.judging.specs.declared.walking.Walked.the-variants.{At}
-use Rattle.judging.proofs.Identities.{plainAt, identity-short, identity-plain}
+use Rattle.judging.proofs.Identities.{identity-short, identity-plain}
 use Rattle.judging.proofs.Ranges.{ends-agree, ends-say, in-order, out-of-order, range-off, range-agrees, range-differs, second-short, second-wide}
 use Rattle.judging.proofs.walking.pass_range.Statement.{statement}
 use Rattle.judging.proofs.walking.pass_range.Tie as tie
@@ -19,7 +21,7 @@ returns c = sym (range-off _ _ (identity-short (c .before .before .pre) (omega a
 
 -- the first end, and where the second begins
 first : (c : tie.Else2) → let a = c .before .before .before .before .args in
-    readAt identity (bitsIn (a .n) (now (a .s))) (a .start) ≡ got (plainAt (now (a .s)) (a .start)) (a .start + 25)
+    readAt identity (bitsIn (a .n) (now (a .s))) (a .start) ≡ got (plainIn (windowAt (now (a .s)) (a .start))) (a .start + 25)
 first c = let e = c .before .window .ensures in identity-plain (c .before .before .before .before .pre) (omega arith) (omega arith)
 
 there : (c : tie.Else2) → let a = c .before .before .before .before .args in Inside (now (a .s)) (a .n) (a .start + 25)
@@ -36,7 +38,7 @@ returns-4 c =
 
 -- the second end, which has no extension either
 second : (c : tie.Else4) → let a = c .before .before .before .before .before .before .before .args in
-    readAt identity (bitsIn (a .n) (now (a .s))) (a .start + 25) ≡ got (plainAt (now (a .s)) (a .start + 25)) (a .start + 25 + 25)
+    readAt identity (bitsIn (a .n) (now (a .s))) (a .start + 25) ≡ got (plainIn (windowAt (now (a .s)) (a .start + 25))) (a .start + 25 + 25)
 second c = let e = c .before .window2 .ensures in identity-plain (there (c .before .before .before)) (omega arith) (omega arith)
 
 returns-5 : tie.Need-returns-5

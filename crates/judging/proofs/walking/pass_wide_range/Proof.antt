@@ -5,11 +5,13 @@ use native.Mathlib.Omega.{arith}
 use borrow.Author.Needs.{needs}
 use denote.Ref.{now}
 use Rattle.bits.specs.Frame.{bitsIn}
+use Rattle.bits.specs.Element.{windowAt}
 use Rattle.codec.specs.Reading.{got, readAt}
 use Rattle.grammar.specs.Grammar.{identity}
+use Rattle.reader.proofs.Windows.{wideIn}
 use Rattle.judging.specs.Walk.{Inside}
 use Rattle.judging.specs.declared.walking.Walked.the-variants.{At}
-use Rattle.judging.proofs.Identities.{wideAt, identity-wide}
+use Rattle.judging.proofs.Identities.{identity-wide}
 use Rattle.judging.proofs.Ranges.{ends-agree, ends-say, in-order, out-of-order, range-agrees, range-differs, second-plain, wide-short}
 use Rattle.judging.proofs.walking.pass_wide_range.Statement.{statement}
 use Rattle.judging.proofs.walking.pass_wide_range.Tie as tie
@@ -19,7 +21,7 @@ returns c = let p = c .before .before .pre in sym (wide-short (p .0) (p .1) (ome
 
 -- the first end, and where the second begins
 first : (c : tie.After-window) → let a = c .before .before .before .args in
-    readAt identity (bitsIn (a .n) (now (a .s))) (a .start) ≡ got (wideAt (now (a .s)) (a .start)) (a .start + 49)
+    readAt identity (bitsIn (a .n) (now (a .s))) (a .start) ≡ got (wideIn (windowAt (now (a .s)) (a .start))) (a .start + 49)
 first c = let p = c .before .before .before .pre in identity-wide (p .0) (p .1) (omega arith) (omega arith)
 
 there : (c : tie.After-window) → let a = c .before .before .before .args in Inside (now (a .s)) (a .n) (a .start + 49)
@@ -30,7 +32,7 @@ returns-2 c = let e = c .before .window .ensures in sym (second-plain _ (there (
 
 -- the second end, which has an extension too
 second : (c : tie.Else2) → let a = c .before .before .before .before .args in
-    readAt identity (bitsIn (a .n) (now (a .s))) (a .start + 49) ≡ got (wideAt (now (a .s)) (a .start + 49)) (a .start + 49 + 49)
+    readAt identity (bitsIn (a .n) (now (a .s))) (a .start + 49) ≡ got (wideIn (windowAt (now (a .s)) (a .start + 49))) (a .start + 49 + 49)
 second c = let e = c .before .window .ensures in identity-wide (there (c .before)) (omega arith) (omega arith) (omega arith)
 
 returns-3 : tie.Need-returns-3

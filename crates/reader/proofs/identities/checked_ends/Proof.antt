@@ -5,7 +5,6 @@ use mathlib.Core.List.{List}
 use Prim.Native.Nat.{ℕ, _+_, _≤_}
 use native.Mathlib.Omega.{arith}
 use borrow.Author.Needs.{needs}
-use borrow.Author.Tests.{ne-eqb}
 use lib.ListN.{getD, replicate}
 use lib.Dec.{eqb, leb}
 use Rattle.bits.specs.Bits.{pick}
@@ -14,6 +13,7 @@ use Rattle.codec.specs.Reading.{from}
 use Rattle.codec.specs.declared.Reached.{Reached}
 use Rattle.codec.specs.declared.Reached.the-variants.{At, Refused}
 use Rattle.grammar.specs.Grammar.{zeroIdentity, endsRefusal, rangeEnds, secondEnd}
+use Rattle.grammar.proofs.Codes.{not-nine}
 use Rattle.reader.specs.Reader.{entriesIs, endsIs, EndsFit}
 use Rattle.grammar.specs.declared.record.Identity.{Identity}
 use Rattle.reader.specs.declared.identities.EntriesRead.{EntriesRead}
@@ -40,10 +40,6 @@ module _ {start : Reached} (read : EntriesRead) (code : ℕ) {c : Cursor} (from-
     fits : EndsFit start (read .reached) (read .value) → c .at + secondEnd (read .value) ≤ d .at
     fits h = rw (from-c, to-d) at h
 
-other : (code : ℕ) (l : List Identity) → (code ≡ 9 → ⊥) → rangeEnds code l ≡ 0
-unfolding rangeEnds
-other code l h = rw (ne-eqb code 9 h)
-
 nine : (code : ℕ) (l : List Identity) → code ≡ 9 → rangeEnds code l ≡ endsRefusal (getD l 0 zeroIdentity) (getD l 1 zeroIdentity)
 unfolding rangeEnds
 nine code l h = rw h
@@ -69,7 +65,7 @@ returns-2 c =
 returns-3 : tie.Need-returns-3
 returns-3 c =
     let d = c .before in
-    passed _ _ (d .before .before .before .before .start .given .1) (d .before .end .given .1) (other _ _ (c .if1 .taken))
+    passed _ _ (d .before .before .before .before .start .given .1) (d .before .end .given .1) (not-nine _ (c .if1 .taken) _)
 
 returns-4 : tie.Need-returns-4
 returns-4 c =

@@ -10,7 +10,7 @@ use Rattle.bits.specs.Bits.{bits}
 use Rattle.bits.specs.Frame.{bitsIn}
 use Rattle.codec.specs.Reading.{from}
 use Rattle.reader.specs.Reader.{identityIs}
-use Rattle.reader.proofs.Windows.{identity-extended, identity-plain}
+use Rattle.reader.proofs.Windows.{identity-plain, identity-wide}
 use Rattle.reader.proofs.identities.identity_of.Statement.{statement}
 use Rattle.reader.proofs.identities.identity_of.Tie as tie
 
@@ -22,6 +22,11 @@ there : (c : tie.Else1) →
     c .before .before .before .start .given .0 .0 .at + 49 ≤ length (bitsIn (a .n .0) (now (a .s)))
 there c = leb-true _ _ (sym (c .before .are-there .ensures) ∙ not-false _ (c .if1 .left))
 
+short : (c : tie.Else1) →
+    let a = c .before .before .before .before .before .before .args in
+    c .before .before .before .start .given .0 .0 .at + 25 ≤ length (bitsIn (a .n .0) (now (a .s)))
+short c = omega (arith, there c)
+
 fits : (c : tie.Else1) →
     let a = c .before .before .before .before .before .before .args in
     c .before .before .before .start .given .0 .0 .at + 49 ≤ a .n .0
@@ -31,13 +36,13 @@ returns-3 : tie.Need-returns-3
 unfolding from identityIs
 returns-3 c =
     let d = c .before .before in
-    rw (d .before .before .before .start .given .1, identity-extended _ _ _ (c .before .window .ensures) (there d) (c .if2 .taken))
+    rw (d .before .before .before .start .given .1, identity-wide _ _ _ (c .before .window .ensures) (short d) (c .if2 .taken) (there d))
 
 returns-4 : tie.Need-returns-4
 unfolding from identityIs
 returns-4 c =
     let d = c .before .before in
-    rw (d .before .before .before .start .given .1, identity-plain _ _ _ (c .before .window .ensures) (there d) (c .if2 .left))
+    rw (d .before .before .before .start .given .1, identity-plain _ _ _ (c .before .window .ensures) (short d) (omega (arith, c .if2 .left)))
 
 pub identity-of-spec : {M : Type 1} → statement M
 identity-of-spec =

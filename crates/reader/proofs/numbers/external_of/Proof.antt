@@ -5,7 +5,7 @@ use native.Mathlib.Omega.{arith}
 use borrow.Author.Needs.{needs}
 use Rattle.codec.proofs.Reading.{from-same, go-on, number-read, element-bound}
 use Rattle.grammar.specs.SiteSheet.{lengthRefusal}
-use Rattle.reader.specs.Reader.{numberIs}
+use Rattle.reader.specs.Reader.{externalIs}
 use Rattle.grammar.proofs.Codes.{between-le}
 use Rattle.reader.proofs.Steps.{external-at}
 use Rattle.reader.proofs.Readers.{digits-read}
@@ -19,7 +19,7 @@ returns : tie.Need-returns
 returns c =
     let d = c .before .before .before in
     c .kept-external .ensures
-    ∙ sym (ap numberIs
+    ∙ sym (ap externalIs
     (from-same _ _ _ (external-at _)
     ∙ go-on _ _ _ _ _ (number-read _ (d .before .bounded .ensures))
     ∙ go-on _ _ _ _ _ (digits-read _ (d .digits-of .ensures))))

@@ -6,8 +6,9 @@ use native.Mathlib.Omega.{arith}
 use borrow.Author.Needs.{needs}
 use Rattle.codec.specs.Parts.{number}
 use Rattle.grammar.specs.Grammar.{external}
+use Rattle.grammar.proofs.Arrays.{digits-length}
 use Rattle.writer.proofs.Puts.{left, right, join}
-use Rattle.writer.proofs.NumberRuns.{digits-length, number-runs}
+use Rattle.writer.proofs.NumberRuns.{number-runs}
 use Rattle.writer.proofs.put.put_number.Statement.{statement}
 use Rattle.writer.proofs.put.put_number.Tie as tie
 
