@@ -10,6 +10,7 @@ use Rattle.bits.specs.Bits.{pick, bits, value}
 use Rattle.bits.specs.Frame.{bitsIn}
 use Rattle.bits.specs.Element.{windowAt}
 use Rattle.bits.proofs.Windows.{window-part}
+use Rattle.bits.proofs.Frames.{length-pdu}
 use Rattle.codec.specs.Parts.{number}
 use Rattle.codec.specs.Reading.{Answer, got, andNext, readAt}
 use Rattle.codec.proofs.Reading.{readAt-absent}
@@ -20,7 +21,7 @@ use Rattle.reader.proofs.Steps.{identity-at}
 use Rattle.judging.specs.Walk.{walked, walk, Inside}
 use Rattle.judging.specs.declared.walking.Walked.the-variants.{Off}
 use Rattle.judging.proofs.Walks.{walk-short}
-use Rattle.judging.proofs.Windows.{length-pdu, window-value, window-first}
+use Rattle.judging.proofs.Windows.{window-value, window-first}
 use Rattle.judging.proofs.Elements.{number-there, number-short}
 
 at-least : (b : Bool) → 25 ≤ pick b 49 25

@@ -14,7 +14,7 @@ use mir.Val.{Val}
 use denote.Laws.{Is}
 use denote.Struct.Declared.{row}
 use Rattle.bits.specs.Bits.{bitsOf}
-use Rattle.bits.proofs.Numbers.{length-bitsOf, bitsOf-add}
+use Rattle.bits.proofs.Numbers.{length-bitsOf, bitsOf-add, bitsOf-join}
 use Rattle.bits.proofs.Lists.{take-min}
 use Rattle.codec.specs.Parts.{number, absent, element, seq, tested, shaped}
 use Rattle.codec.specs.Places.{nil, cons, places}
@@ -23,7 +23,6 @@ use Rattle.grammar.specs.Grammar.{external}
 use Rattle.grammar.specs.declared.record.Number.{Number}
 use Rattle.grammar.proofs.record.Number as number-type
 use Rattle.writer.specs.Writing.{digitBits, DigitsAfter}
-use Rattle.writer.proofs.Runs.{bitsOf-join}
 
 -- ---- digits
 
