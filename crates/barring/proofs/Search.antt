@@ -9,7 +9,7 @@ use lib.ListN.{length, getD, take, drop, length-take, drop-of-length-le}
 use lib.Dec.{eqb}
 use lib.Seq.{slice, slice-cons, take-all}
 use Rattle.bits.proofs.Lists.{take-min, drop-min}
-use Rattle.barring.specs.Search.{some, every}
+use Rattle.bits.specs.Lists.{some, every}
 use Rattle.barring.specs.Matching.{same}
 
 -- a count beyond the places of an array uses them all

@@ -1,4 +1,3 @@
-pub mod Search
 pub mod Request
 pub mod Matching
 pub mod Rule

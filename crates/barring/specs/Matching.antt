@@ -4,6 +4,7 @@ use mathlib.Core.Bool.{Bool, true, false, _&&_, _||_}
 use mathlib.Core.List.{List, [], _∷_}
 use lib.ListN.{take, getD}
 use lib.Dec.{eqb, leb}
+use Rattle.bits.specs.Lists.{some}
 use Rattle.grammar.specs.SiteSheet.{rangeType, entriesOf}
 use Rattle.grammar.specs.Grammar.{zeroIdentity, networkOf}
 use Rattle.grammar.specs.declared.site.RangeType.{RangeType}
@@ -13,7 +14,6 @@ use Rattle.grammar.specs.declared.record.Identities.{Identities}
 use Rattle.grammar.specs.declared.record.Number.{Number}
 use Rattle.grammar.specs.declared.record.Numbers.{Numbers}
 use Rattle.grammar.specs.declared.record.Services.{Services}
-use Rattle.barring.specs.Search.{some}
 use Rattle.barring.specs.declared.request.User.{User}
 
 -- ---- identities

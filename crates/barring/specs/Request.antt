@@ -4,8 +4,8 @@ use mathlib.Core.Bool.{Bool, true, _&&_}
 use lib.ListN.{take, drop}
 use lib.Dec.{eqb, leb, ltb}
 use Rattle.bits.specs.Bits.{pick}
+use Rattle.bits.specs.Lists.{every}
 use Rattle.grammar.specs.SiteSheet.{digitOf, digitRefusal}
-use Rattle.barring.specs.Search.{every}
 use Rattle.barring.specs.declared.request.User.{User}
 use Rattle.barring.specs.declared.request.Destination.{Destination}
 use Rattle.barring.specs.declared.request.Destination.the-variants.{Identity, Number}

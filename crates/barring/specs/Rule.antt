@@ -4,12 +4,12 @@ use mathlib.Core.Bool.{Bool, false, not, _&&_}
 use mathlib.Core.List.{List}
 use lib.Dec.{eqb}
 use Rattle.bits.specs.Bits.{pick}
+use Rattle.bits.specs.Lists.{some}
 use Rattle.grammar.specs.declared.record.Identities.{Identities}
 use Rattle.grammar.specs.declared.record.Lists.{Lists}
 use Rattle.grammar.specs.declared.record.Record.{Record}
 use Rattle.grammar.specs.SiteSheet.{rangeType, rowOf}
 use Rattle.grammar.specs.Grammar.{networkOf}
-use Rattle.barring.specs.Search.{some}
 use Rattle.barring.specs.Matching.{isEntry, inRange, identityAmong, same, isNumber, numberAmong, isCovering, covered}
 use Rattle.barring.specs.declared.request.Destination.{Destination}
 use Rattle.barring.specs.declared.request.Destination.the-variants.{Identity, Number}

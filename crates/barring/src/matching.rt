@@ -9,7 +9,7 @@ use grammar::site::RangeType;
 use grammar::site::network_of;
 ghost use mathlib.Core.Path.{_≡_};
 ghost use lib.ListN.{take};
-ghost use Rattle.barring.specs.Search.{some};
+ghost use Rattle.bits.specs.Lists.{some};
 ghost use Rattle.barring.specs.Matching.{isEntry, inRange, identityAmong, numberAmong, isCovering, covered};
 
 // A single entry is this user.

@@ -2,7 +2,7 @@
 use bits::DigitCount;
 ghost use mathlib.Core.Path.{_≡_};
 ghost use lib.ListN.{take, drop};
-ghost use Rattle.barring.specs.Search.{every};
+ghost use Rattle.bits.specs.Lists.{every};
 ghost use Rattle.barring.specs.Request.{isUser, isService, isDestination, isGroup, isDigit, isUnused, digitsUsed, requestRefusal};
 
 // A network and an SSI in it.

@@ -2,10 +2,10 @@
 use mathlib.Core.Path.{_≡_, refl, sym, ap, ap₂, _∙_}
 use mathlib.Core.List.{List, [], _∷_, _++_, append-assoc}
 use mathlib.Core.Bool.{Bool}
-use Prim.Native.Nat.{ℕ, suc, _+_, _*_, _≤_, _<_}
+use Prim.Native.Nat.{ℕ, zero, suc, _+_, _*_, _≤_, _<_}
 use native.Mathlib.Omega.{arith}
 use lib.ListN.{length, getD, take, drop, set, length-append, length-take, length-drop, take-append-drop}
-use lib.Seq.{split-at, set-split, take-at, drop-at, length-take-le, take-append-le, drop-append-le}
+use lib.Seq.{getD-drop, getD-append-add, split-at, set-split, take-at, drop-at, length-take-le, take-append-le, drop-append-le}
 use Rattle.bits.specs.Bits.{value, bitsOf, Bytes, bits, splice}
 use Rattle.bits.proofs.Numbers.{length-bitsOf, value-of-bits}
 
@@ -54,6 +54,24 @@ take-before l at w end h k =
     sym (ap (λ x. take w (drop at x)) (sym (take-append-drop end l))
     ∙ ap (take w) (drop-append-le at (take end l) (drop end l) (omega arith))
     ∙ take-append-le w (drop at (take end l)) (drop end l) (omega (arith, length-drop at (take end l))))
+
+-- ---- bytes: of parts, and of the whole
+
+pub bytes-append : (s t : List ℕ) → Bytes s → Bytes t → Bytes (s ++ t)
+bytes-append [] t hs ht i = ht i
+bytes-append (b ∷ s) t hs ht zero = hs 0
+bytes-append (b ∷ s) t hs ht (suc i) = bytes-append s t (λ k. hs (suc k)) ht i
+
+pub bytes-drop : (k : ℕ) (s : List ℕ) → Bytes s → Bytes (drop k s)
+bytes-drop k s h i = rw (getD-drop k s i 0) (h (k + i))
+
+bytes-front : (s t : List ℕ) → Bytes (s ++ t) → Bytes s
+bytes-front [] t b i = omega arith
+bytes-front (x ∷ s) t b zero = b 0
+bytes-front (x ∷ s) t b (suc i) = bytes-front s t (λ k. b (suc k)) i
+
+pub bytes-parts : (s t : List ℕ) → Bytes (s ++ t) → Bytes s × Bytes t
+bytes-parts s t b = (bytes-front s t b, λ i. rw (getD-append-add s t i 0) at (b (length s + i)))
 
 -- ---- bytes with equal bits are equal
 

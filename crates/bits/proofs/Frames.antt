@@ -44,8 +44,11 @@ framed-says s n e =
     let q = both (leb n 4096) (eqb (length s) (bytesFor n)) (p .0) in
     record { short = leb-true _ _ (q .0); count = eqb-true _ _ (q .1); unused = eqb-true _ _ (p .1) }
 
+pub length-pdu : (s : List ℕ) (n : ℕ) → n ≤ 8 * length s → length (bitsIn n s) ≡ n
+length-pdu s n h = length-take-le n (bits s) (omega (arith, length-bits s))
+
 pub length-bitsIn : (s : List ℕ) (n : ℕ) → Framed s n → length (bitsIn n s) ≡ n
-length-bitsIn s n f = length-take-le n (bits s) (omega (arith, length-bits s, f .count))
+length-bitsIn s n f = length-pdu s n (omega (arith, f .count))
 
 rest : (s : List ℕ) (n : ℕ) → Framed s n → drop n (bits s) ≡ bitsOf (8 * bytesFor n - n) 0
 rest s n f =

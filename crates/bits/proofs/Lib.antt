@@ -1,5 +1,6 @@
 pub mod Tests
 pub mod Lists
+pub mod Table
 pub mod Numbers
 pub mod Bytes
 pub mod Splices

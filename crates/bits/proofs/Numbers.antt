@@ -67,6 +67,10 @@ pub bitsOf-parts : (j k h l : ℕ) → l < 2 ^ k → bitsOf (j + k) (h * 2 ^ k +
 bitsOf-parts j k h l lt =
     bitsOf-add j k (h * 2 ^ k + l) ∙ ap₂ (λ (x : ℕ) (y : List Bool). bitsOf j x ++ y) (high h k lt) (bitsOf-low k h l)
 
+-- a number, and another of k bits after it
+pub bitsOf-join : (j k h v : ℕ) → bitsOf (j + k) (h * 2 ^ k + v % 2 ^ k) ≡ bitsOf j h ++ bitsOf k v
+bitsOf-join j k h v = bitsOf-parts j k h (v % 2 ^ k) (mod-lt v (pow-pos k)) ∙ ap (λ (l : List Bool). bitsOf j h ++ l) (bitsOf-mod k v)
+
 -- ---- the number of a run
 
 pub value-append : (a b : List Bool) → value (a ++ b) ≡ value a * 2 ^ length b + value b

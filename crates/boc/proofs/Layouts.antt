@@ -37,14 +37,6 @@ narrowed-bytes (x ∷ s) b =
     let e : narrow x ≡ x = omega (arith, b 0) in
     λ i. e i ∷ narrowed-bytes s (λ k. b (suc k)) i
 
-bytes-front : (s t : List ℕ) → Bytes (s ++ t) → Bytes s
-bytes-front [] t b i = omega arith
-bytes-front (x ∷ s) t b zero = b 0
-bytes-front (x ∷ s) t b (suc i) = bytes-front s t (λ k. b (suc k)) i
-
-pub bytes-parts : (s t : List ℕ) → Bytes (s ++ t) → Bytes s × Bytes t
-bytes-parts s t b = (bytes-front s t b, λ i. rw (getD-append-add s t i 0) at (b (length s + i)))
-
 -- ---- layouts
 
 -- n words: written for what fits they read back, and those that are narrow enough are written again

@@ -6,6 +6,7 @@ use native.Mathlib.Omega.{arith}
 use lib.ListN.{length, take, drop, length-drop}
 use lib.Seq.{take-add, take-at, getD-take}
 use Rattle.bits.specs.Bits.{Bytes}
+use Rattle.bits.proofs.Bytes.{bytes-parts}
 use Rattle.grammar.specs.declared.record.Identity.{Identity}
 use Rattle.grammar.specs.declared.record.Identities.{Identities}
 use Rattle.grammar.specs.declared.record.Number.{Number}
@@ -14,7 +15,7 @@ use Rattle.grammar.specs.declared.record.Services.{Services}
 use Rattle.boc.specs.RecordWords.{word, narrow, narrowed}
 use Rattle.boc.specs.RecordWords.{identityWords, identitiesWords, numberWords, numbersWords, servicesWords}
 use Rattle.boc.specs.RecordWords.{identityFrom, identitiesFrom, numberFrom, numbersFrom, servicesFrom}
-use Rattle.boc.proofs.Layouts.{spelt-word, spelt-then, narrowed-bytes, bytes-parts, Layout, Each, entries-long, entries-back, entries-forth}
+use Rattle.boc.proofs.Layouts.{spelt-word, spelt-then, narrowed-bytes, Layout, Each, entries-long, entries-back, entries-forth}
 
 -- ---- what the code's structs hold: every list as long as its array, lengths and digits of numbers bytes
 

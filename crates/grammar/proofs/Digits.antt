@@ -9,8 +9,8 @@ use lib.Dec.{eqb, lit<}
 use borrow.Author.Tests.{eqb-true, ne-eqb}
 use lib.Pow.{pow-pos, split, shr-shr, mod-mod-pow}
 use Rattle.bits.proofs.Tests.{both}
+use Rattle.bits.proofs.Table.{at}
 use Rattle.grammar.specs.SiteSheet.{digitOf, digitRefusal, allDigits}
-use Rattle.grammar.proofs.Table.{at}
 
 -- the lowest bit of each of k digits
 abbrev pub marks : ℕ → ℕ

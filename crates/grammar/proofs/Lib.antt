@@ -1,4 +1,3 @@
-pub mod Table
 pub mod Codes
 pub mod Arrays
 pub mod Digits

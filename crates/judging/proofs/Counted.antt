@@ -9,6 +9,7 @@ use lib.ListN.{take, drop}
 use Rattle.bits.specs.Bits.{pick, value}
 use Rattle.bits.specs.Frame.{bitsIn}
 use Rattle.bits.specs.Element.{windowAt}
+use Rattle.bits.proofs.Frames.{length-pdu}
 use Rattle.codec.specs.Codec.{Codec}
 use Rattle.codec.specs.Parts.{absent, element, seq}
 use Rattle.codec.specs.Places.{places}
@@ -19,7 +20,6 @@ use Rattle.grammar.proofs.Codes.{between-le}
 use Rattle.judging.specs.Walk.{walk, passing, Inside}
 use Rattle.judging.specs.declared.walking.Walked.the-variants.{At, Off}
 use Rattle.judging.proofs.Walks.{steps, walk-shaped, walk-places}
-use Rattle.judging.proofs.Windows.{length-pdu}
 use Rattle.judging.proofs.Elements.{coded-short, coded-refused, coded-passed}
 use Rattle.judging.proofs.Rows.{row-there, row-short}
 

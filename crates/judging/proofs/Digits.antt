@@ -10,10 +10,11 @@ use lib.Dec.{eqb}
 use Rattle.bits.specs.Bits.{value}
 use Rattle.bits.specs.Frame.{bitsIn}
 use Rattle.bits.specs.Element.{windowAt}
+use Rattle.bits.proofs.Frames.{length-pdu}
 use Rattle.grammar.specs.SiteSheet.{digitOf, digitRefusal, allDigits}
 use Rattle.judging.specs.Walk.{passing, Inside}
 use Rattle.judging.proofs.Rows.{at-once, row-split}
-use Rattle.judging.proofs.Windows.{length-pdu, window-value}
+use Rattle.judging.proofs.Windows.{window-value}
 
 all-passing : (k v : ℕ) → passing digitRefusal 4 k v ≡ allDigits k v
 unfolding passing allDigits

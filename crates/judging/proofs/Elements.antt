@@ -12,6 +12,7 @@ use Rattle.bits.specs.Bits.{pick, value}
 use Rattle.bits.specs.Frame.{bitsIn}
 use Rattle.bits.specs.Element.{windowAt}
 use Rattle.bits.proofs.Elements.{element-there, element-short}
+use Rattle.bits.proofs.Frames.{length-pdu}
 use Rattle.codec.specs.Codec.{Codec}
 use Rattle.codec.specs.Parts.{number, element, seq}
 use Rattle.codec.specs.Reading.{Answer, got, refused, andNext, unlessAt, readAt}
@@ -19,7 +20,7 @@ use Rattle.codec.proofs.Reading.{unlessAt-some, taken, readAt-number, readAt-te
 use Rattle.judging.specs.Walk.{walked, walk, Inside}
 use Rattle.judging.specs.declared.walking.Walked.the-variants.{At, Off}
 use Rattle.judging.proofs.Walks.{walked-made}
-use Rattle.judging.proofs.Windows.{length-pdu, window-first}
+use Rattle.judging.proofs.Windows.{window-first}
 
 module _ (w : ℕ) (l : List Bool) (at : ℕ) (some : 1 ≤ w) where
   pub number-there : at + w ≤ length l → readAt (number w) l at ≡ got (value (take w (drop at l))) (at + w)

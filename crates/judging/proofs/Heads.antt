@@ -10,7 +10,7 @@ use lib.Dec.{ltb, leb, eqb}
 use Rattle.bits.specs.Bits.{pick, value, bitsOf}
 use Rattle.bits.specs.Frame.{bitsIn, framed}
 use Rattle.bits.specs.Element.{windowAt}
-use Rattle.bits.proofs.Frames.{framed-says}
+use Rattle.bits.proofs.Frames.{framed-says, length-pdu}
 use Rattle.bits.proofs.Elements.{same-pick}
 use Rattle.bits.proofs.Tests.{both}
 use Rattle.codec.specs.Parts.{number, element, seq, tested, shaped, mark, only}
@@ -28,7 +28,7 @@ use Rattle.judging.specs.Judge.{mayHold, userOf, judgedIs}
 use Rattle.judging.specs.declared.Judged.the-variants.{Part, Other}
 use Rattle.judging.specs.declared.walking.Walked.the-variants.{Off}
 use Rattle.judging.proofs.Walks.{read-cases, walk-short}
-use Rattle.judging.proofs.Windows.{length-pdu, window-value, window-first}
+use Rattle.judging.proofs.Windows.{window-value, window-first}
 use Rattle.judging.proofs.Elements.{element-at}
 use Rattle.judging.proofs.Identities.{identity-short}
 use Rattle.judging.proofs.Users.{judgedOf, off-judged, judged-at, one, one-at, one-held}

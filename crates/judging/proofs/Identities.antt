@@ -10,6 +10,7 @@ use Rattle.bits.specs.Bits.{pick, bits, value}
 use Rattle.bits.specs.Frame.{bitsIn}
 use Rattle.bits.specs.Element.{windowAt}
 use Rattle.bits.proofs.Windows.{window-part}
+use Rattle.bits.proofs.Frames.{length-pdu}
 use Rattle.codec.specs.Reading.{got, readAt}
 use Rattle.grammar.specs.Grammar.{extension, identity}
 use Rattle.grammar.proofs.Codes.{identity-length}
@@ -18,7 +19,6 @@ use Rattle.reader.proofs.Windows.{plainIn, wideIn, up-to-extension}
 use Rattle.judging.specs.Walk.{walked, walk, Inside}
 use Rattle.judging.specs.declared.walking.Walked.the-variants.{Off}
 use Rattle.judging.proofs.Walks.{walk-short}
-use Rattle.judging.proofs.Windows.{length-pdu}
 use Rattle.judging.proofs.Elements.{number-short}
 
 at-least : (b : Bool) → 25 ≤ pick b 49 25

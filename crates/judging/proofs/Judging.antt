@@ -10,6 +10,7 @@ use lib.Dec.{leb}
 use Rattle.bits.specs.Bits.{pick, value, bitsOf}
 use Rattle.bits.specs.Frame.{bitsIn}
 use Rattle.bits.specs.Element.{windowAt}
+use Rattle.bits.proofs.Frames.{length-pdu}
 use Rattle.bits.proofs.Elements.{same-pick}
 use Rattle.codec.specs.Parts.{number, absent, element, seq, tested}
 use Rattle.codec.specs.Reading.{Answer, got, refused, andNext, unlessAt, readAt}
@@ -21,7 +22,7 @@ use Rattle.grammar.specs.declared.record.Lists.{Lists}
 use Rattle.judging.specs.Walk.{walked, walk, Inside, ending, partAfter}
 use Rattle.judging.specs.declared.walking.Walked.the-variants.{Off}
 use Rattle.judging.proofs.Walks.{onward, walk-seq, walk-short}
-use Rattle.judging.proofs.Windows.{length-pdu, window-first}
+use Rattle.judging.proofs.Windows.{window-first}
 use Rattle.judging.proofs.Elements.{number-there, element-at}
 
 -- ---- what follows the affected user

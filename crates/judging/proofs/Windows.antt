@@ -4,21 +4,18 @@ use mathlib.Core.List.{List}
 use Prim.Native.Nat.{ℕ, _+_, _-_, _*_, _/_, _%_, _^_, _≤_}
 use native.Mathlib.Omega.{arith}
 use lib.ListN.{length, take, drop}
-use lib.Seq.{length-take-le}
 use Rattle.bits.specs.Bits.{bits, value}
 use Rattle.bits.specs.Frame.{bitsIn}
 use Rattle.bits.specs.Element.{windowAt}
 use Rattle.bits.proofs.Bytes.{length-bits, take-before}
 use Rattle.bits.proofs.Windows.{window-part, window-front}
+use Rattle.bits.proofs.Frames.{length-pdu}
 use Rattle.codec.specs.Codec.{Codec}
 use Rattle.judging.specs.Walk.{walk, Inside}
 use Rattle.judging.specs.declared.walking.Walked.the-variants.{At}
 use Rattle.judging.proofs.Walks.{walk-inside}
 
 module _ (s : List ℕ) (n : ℕ) (room : n ≤ 8 * length s) where
-  pub length-pdu : length (bitsIn n s) ≡ n
-  length-pdu = length-take-le n (bits s) (omega (arith, length-bits s))
-
   own : (at w : ℕ) → at + w ≤ n → value (take w (drop at (bitsIn n s))) ≡ value (take w (drop at (bits s)))
   own at w h = ap value (take-before (bits s) at w n h (omega (arith, length-bits s)))
 

@@ -16,7 +16,8 @@ use Rattle.bits.specs.Element.{windowAt}
 use Rattle.codec.specs.Parts.{absent, element}
 use Rattle.codec.specs.Places.{places}
 use Rattle.codec.specs.Reading.{Answer, got, readAt}
-use Rattle.codec.proofs.Reading.{readAt-absent, element-got}
+use Rattle.codec.proofs.Reading.{readAt-absent}
+use Rattle.codec.proofs.Onward.{element-got}
 use Rattle.codec.proofs.Filling.{places-each}
 use Rattle.codec.proofs.Windows.{number-in-window}
 use Rattle.grammar.specs.SiteSheet.{digitRefusal, allDigits}

@@ -4,7 +4,7 @@ use mathlib.Core.List.{List}
 use Prim.Native.Nat.{ℕ}
 use lib.ListN.{replicate}
 use Rattle.codec.specs.Reading.{Answer}
-use Rattle.codec.proofs.Reading.{placed, placed-answer}
+use Rattle.codec.proofs.Onward.{placed, placed-answer}
 use Rattle.grammar.specs.Grammar.{zeroIdentity}
 use Rattle.grammar.specs.Zero.{zeroIdentities, zeroNumber, zeroNumbers, zeroServices, zeroLists, zeroRecord}
 use Rattle.reader.specs.Reader.{identityIs, entriesIs, identitiesIs, digitsIs, externalIs, numberEntriesIs, numbersIs, serviceListIs, servicesIs, listsIs, recordIs}

@@ -12,6 +12,7 @@ use borrow.Author.Tests.{leb-true, leb-false, lt-leb, lt-ltb, eqb-false, eq-eqb,
 use Rattle.bits.specs.Bits.{pick, bitsOf}
 use Rattle.bits.proofs.Numbers.{length-bitsOf}
 use Rattle.bits.proofs.Lists.{take-min, drop-min}
+use Rattle.bits.specs.Lists.{every}
 use Rattle.codec.specs.Codec.{first}
 use Rattle.codec.specs.Parts.{isZero, numberFault, number, absent, element, tested}
 use Rattle.codec.specs.Places.{nil, cons, places}
@@ -62,7 +63,7 @@ first-both true b = refl
 first-both false b = refl
 
 digits-fault : (m n : ℕ) (l : List ℕ) → length l ≡ m → places (element 4 digitRefusal) absent m n .fault l ≡ pick (noneAbove 12 (take n l)) 0 3
-unfolding places cons nil element tested number absent noneAbove
+unfolding places cons nil element tested number absent noneAbove every
 digits-fault zero n [] e = ap (λ (l : List ℕ). pick {A = ℕ} (noneAbove 12 l) 0 3) (sym (take-nil n))
 digits-fault zero n (d ∷ l) e = absurd (omega arith)
 digits-fault (suc m) n [] e = absurd (omega arith)
@@ -70,7 +71,7 @@ digits-fault (suc m) zero (d ∷ l) e = digits-fault m zero l (omega arith)
 digits-fault (suc m) (suc n) (d ∷ l) e = ap₂ first (digit-fault d) (digits-fault m n l (omega arith)) ∙ first-both (leb d 12) (noneAbove 12 (take n l))
 
 digits-clean : (m n : ℕ) (l : List ℕ) → length l ≡ m → places (element 4 digitRefusal) absent m n .clean l ≡ noneAbove 0 (drop n l)
-unfolding places cons nil element tested number absent noneAbove
+unfolding places cons nil element tested number absent noneAbove every
 digits-clean zero n [] e = ap (noneAbove 0) (sym (drop-nil n))
 digits-clean zero n (d ∷ l) e = absurd (omega arith)
 digits-clean (suc m) n [] e = absurd (omega arith)
@@ -90,13 +91,13 @@ digits-size (suc m) (suc n) (d ∷ l) e =
 
 pub none-more : (most i to : ℕ) (l : List ℕ) (b : Bool) → i < to → to ≤ length l
     → (b && leb (getD l i 0) most) && noneAbove most (slice (i + 1) to l) ≡ b && noneAbove most (slice i to l)
-unfolding noneAbove
+unfolding noneAbove every
 none-more most i to l b h k =
     let next : slice i to l ≡ getD l i 0 ∷ slice (i + 1) to l = slice-cons i to l 0 h k ∙ ap (λ (n : ℕ). getD l i 0 ∷ slice n to l) (sym (add-one i)) in
     and-assoc b (leb (getD l i 0) most) (noneAbove most (slice (i + 1) to l)) ∙ ap (λ (x : List ℕ). b && noneAbove most x) (sym next)
 
 pub none-left : (most to : ℕ) (l : List ℕ) (b : Bool) → b && noneAbove most (slice to to l) ≡ b
-unfolding noneAbove
+unfolding noneAbove every
 none-left most to l b = ap (λ (x : List ℕ). b && noneAbove most x) (slice-empty to l) ∙ and-true b
 
 -- ---- what they come to

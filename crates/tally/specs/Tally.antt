@@ -1,10 +1,11 @@
 -- What the parts of a record come to before anything is stored.
 use mathlib.Core.Path.{_≡_}
 use mathlib.Core.Bool.{Bool, true, _&&_}
-use mathlib.Core.List.{List, [], _∷_}
+use mathlib.Core.List.{List}
 use Prim.Native.Nat.{ℕ, _+_}
 use lib.ListN.{length}
 use lib.Dec.{leb}
+use Rattle.bits.specs.Lists.{every}
 use Rattle.codec.specs.Codec.{Codec, first}
 use Rattle.tally.specs.declared.Tally.{Tally}
 
@@ -20,5 +21,4 @@ pub record Tallies {A : Type 0} (c : Codec A) (a : A) (before after : Tally) : T
 
 -- whether no number of a list is above the greatest that it may be
 unfoldable pub noneAbove : ℕ → List ℕ → Bool
-noneAbove most [] = true
-noneAbove most (d ∷ l) = leb d most && noneAbove most l
+noneAbove most = every (λ d. leb d most)

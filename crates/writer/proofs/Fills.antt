@@ -1,26 +1,17 @@
 -- A PDU's bits and the zeros after them, put at the beginning of a buffer, are its bytes before the rest of the buffer. Assumes nothing.
 use mathlib.Core.Path.{_≡_, sym, ap, ap₂, _∙_}
 use mathlib.Core.Bool.{Bool}
-use mathlib.Core.List.{List, [], _∷_, _++_}
-use Prim.Native.Nat.{ℕ, zero, suc, _+_, _-_, _*_, _≤_}
+use mathlib.Core.List.{List, _++_}
+use Prim.Native.Nat.{ℕ, _+_, _-_, _*_, _≤_}
 use native.Mathlib.Nat.{zero-add}
 use native.Mathlib.Omega.{arith}
 use lib.ListN.{length, drop, length-append}
-use lib.Seq.{getD-drop}
 use Rattle.bits.specs.Bits.{Bytes, bits, splice}
 use Rattle.bits.specs.Frame.{bytesFor, pack}
 use Rattle.bits.proofs.Numbers.{length-bitsOf}
-use Rattle.bits.proofs.Bytes.{bits-append, bits-drop, bits-inj}
+use Rattle.bits.proofs.Bytes.{bits-append, bits-drop, bytes-append, bytes-drop, bits-inj}
 use Rattle.bits.proofs.Frames.{padding, bits-pack, bytes-pack}
 use Rattle.bits.proofs.Splices.{splice-splice}
-
-bytes-append : (s t : List ℕ) → Bytes s → Bytes t → Bytes (s ++ t)
-bytes-append [] t hs ht i = ht i
-bytes-append (b ∷ s) t hs ht zero = hs 0
-bytes-append (b ∷ s) t hs ht (suc i) = bytes-append s t (λ k. hs (suc k)) ht i
-
-bytes-drop : (k : ℕ) (s : List ℕ) → Bytes s → Bytes (drop k s)
-bytes-drop k s h i = rw (getD-drop k s i 0) (h (k + i))
 
 module _ (s t : List ℕ) (l : List Bool) (old : Bytes s) (new : Bytes t) (room : bytesFor (length l) ≤ length s) where
   pub filled : bits t ≡ splice (splice (bits s) 0 l) (length l) (padding l) → t ≡ pack l ++ drop (bytesFor (length l)) s

@@ -11,7 +11,7 @@ use lib.Seq.{take-nil, take-at, take-add, take-suc, take-take, length-take-le}
 use lib.Dec.{leb}
 use borrow.Author.Tests.{leb-true, leb-false}
 use Rattle.bits.specs.Bits.{bitsOf}
-use Rattle.bits.proofs.Numbers.{length-bitsOf, bitsOf-add}
+use Rattle.bits.proofs.Numbers.{length-bitsOf, bitsOf-add, bitsOf-join}
 use Rattle.bits.proofs.Lists.{take-min}
 use Rattle.codec.specs.Parts.{number, absent, element, seq, tested, shaped}
 use Rattle.codec.specs.Places.{nil, cons, places}
@@ -19,7 +19,6 @@ use Rattle.grammar.specs.SiteSheet.{digitRefusal}
 use Rattle.grammar.specs.Grammar.{external}
 use Rattle.grammar.specs.declared.record.Number.{Number}
 use Rattle.writer.specs.Writing.{digitBits, DigitsAfter}
-use Rattle.writer.proofs.Runs.{bitsOf-join}
 
 -- ---- digits
 

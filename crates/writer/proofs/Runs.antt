@@ -3,23 +3,17 @@ use mathlib.Core.Path.{_≡_, sym, ap, _∙_}
 use mathlib.Core.Bool.{Bool}
 use mathlib.Core.Logic.{_≢_}
 use mathlib.Core.List.{List, _++_, append-nil, append-assoc}
-use Prim.Native.Nat.{ℕ, _+_, _-_, _*_, _%_, _^_}
-use native.Mathlib.Nat.{mod-lt}
+use Prim.Native.Nat.{ℕ, _+_, _*_, _%_}
 use native.Mathlib.Omega.{arith}
 use lib.ListN.{length}
-use lib.Pow.{pow-pos}
 use borrow.Author.Tests.{eq-eqb, ne-eqb}
 use Rattle.bits.specs.Bits.{bits, bitsOf, splice}
-use Rattle.bits.proofs.Numbers.{bitsOf-mod, bitsOf-parts}
+use Rattle.bits.proofs.Numbers.{bitsOf-join}
 use Rattle.codec.specs.Codec.{Codec}
 use Rattle.codec.specs.Parts.{number, absent, seq, shaped}
 use Rattle.grammar.specs.Grammar.{identity, extension}
 use Rattle.grammar.specs.declared.record.Identity.{Identity}
 use Rattle.writer.specs.Writing.{Room, Puts}
-
--- a number, and another of k bits after it
-pub bitsOf-join : (j k h v : ℕ) → bitsOf (j + k) (h * 2 ^ k + v % 2 ^ k) ≡ bitsOf j h ++ bitsOf k v
-bitsOf-join j k h v = bitsOf-parts j k h (v % 2 ^ k) (mod-lt v (pow-pos k)) ∙ ap (λ (l : List Bool). bitsOf j h ++ l) (bitsOf-mod k v)
 
 -- a part whose bits are those of a number
 module _ {A : Type 0} {c : Codec A} {a : A} (w v : ℕ) (same : c .print a ≡ bitsOf w v) {s : List ℕ} {at : ℕ} where

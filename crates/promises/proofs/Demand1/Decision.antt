@@ -9,11 +9,11 @@ use lib.ListN.{take, drop}
 use lib.Dec.{eqb}
 use Rattle.bits.specs.Bits.{pick}
 use Rattle.bits.proofs.Tests.{differ, false-unless, both}
+use Rattle.bits.specs.Lists.{every}
 use Rattle.grammar.specs.declared.record.Record.{Record}
 use Rattle.reader.specs.Read.{readIs}
 use Rattle.archive.specs.Model.{Held}
 use Rattle.archive.specs.Reading.{reading, isArchive}
-use Rattle.barring.specs.Search.{every}
 use Rattle.barring.specs.Request.{isUser, isService, isDestination, isGroup, isDigit, isUnused, digitsUsed, requestRefusal}
 use Rattle.barring.specs.Rule.{ruling, ruled, isExcepted, isRestricted, isOutside, bothEmpty}
 use Rattle.barring.specs.Matching.{covered}

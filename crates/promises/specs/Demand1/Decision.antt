@@ -4,9 +4,9 @@ use mathlib.Core.Bool.{true, false}
 use mathlib.Core.List.{List, [], _∷_}
 use Prim.Native.Nat.{ℕ}
 use lib.ListN.{take, drop, replicate}
+use Rattle.bits.specs.Lists.{every}
 use Rattle.archive.specs.Reading.{isArchive}
 use Rattle.archive.specs.Examples.{calls}
-use Rattle.barring.specs.Search.{every}
 use Rattle.barring.specs.Request.{isUser, isService, isDestination, isGroup, isDigit, isUnused, digitsUsed, requests}
 use Rattle.barring.specs.Decide.{decideIs}
 use Rattle.barring.specs.Decision.{decidedNumber, verdictOf}

@@ -6,7 +6,7 @@ use borrow.Author.Tests.{not-true, not-false}
 use denote.Ref.{now}
 use Rattle.bits.specs.Frame.{framed}
 use Rattle.codec.specs.Reading.{from}
-use Rattle.codec.proofs.Reading.{placed-got, placed-refused}
+use Rattle.codec.proofs.Onward.{placed-got, placed-refused}
 use Rattle.reader.proofs.Answers.{not-framed, refused-inside, bits-left, accepted-whole}
 use Rattle.reader.proofs.Readers.{record-read}
 use Rattle.reader.proofs.read.Statement.{statement}

@@ -6,7 +6,7 @@ use Prim.Native.Nat.{_-_, _≤_}
 use lib.ListN.{length, take}
 use lib.Seq.{slice}
 use borrow.Author.Needs.{needs}
-use Rattle.barring.specs.Search.{some}
+use Rattle.bits.specs.Lists.{some}
 use Rattle.barring.specs.Matching.{isCovering, covered}
 use Rattle.grammar.proofs.Arrays.{services-length}
 use Rattle.barring.proofs.Search.{take-used, passed, found, some-end}

@@ -6,8 +6,8 @@ use Prim.Native.Nat.{_-_, _≤_}
 use lib.ListN.{take}
 use lib.Seq.{slice}
 use borrow.Author.Needs.{needs}
+use Rattle.bits.specs.Lists.{some}
 use Rattle.grammar.specs.Grammar.{zeroIdentity}
-use Rattle.barring.specs.Search.{some}
 use Rattle.barring.specs.Matching.{isEntry}
 use Rattle.barring.proofs.Search.{take-used, passed, found, some-end}
 use Rattle.barring.proofs.matching.is_single.Statement.{statement}

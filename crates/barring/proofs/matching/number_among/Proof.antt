@@ -10,11 +10,11 @@ use lib.ListN.{take, getD}
 use lib.Seq.{slice}
 use borrow.Author.Needs.{needs}
 use borrow.Author.Tests.{eq-eqb, ne-eqb}
+use Rattle.bits.specs.Lists.{some}
 use Rattle.grammar.specs.SiteSheet.{entriesOf}
 use Rattle.grammar.specs.declared.site.Row.{Row}
 use Rattle.grammar.specs.declared.record.Number.{Number}
 use Rattle.grammar.proofs.Arrays.{numbers-length, each-digits-length}
-use Rattle.barring.specs.Search.{some}
 use Rattle.barring.specs.Matching.{same, isNumber, numberAmong}
 use Rattle.barring.proofs.Search.{take-used, passed, found, some-end, agrees, differs, same-end}
 use Rattle.barring.proofs.matching.number_among.Statement.{statement}

@@ -6,7 +6,7 @@ use lib.ListN.{length, take}
 use lib.Seq.{slice}
 use borrow.Author.Needs.{needs}
 use borrow.Author.Tests.{eq-eqb, ne-eqb}
-use Rattle.barring.specs.Search.{every}
+use Rattle.bits.specs.Lists.{every}
 use Rattle.barring.specs.Request.{isDigit}
 use Rattle.barring.proofs.Search.{take-used, stays, fails, every-end}
 use Rattle.barring.proofs.request.has_digits.Statement.{statement}

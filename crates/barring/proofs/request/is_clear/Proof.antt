@@ -6,7 +6,7 @@ use lib.ListN.{length, drop}
 use lib.Seq.{slice}
 use borrow.Author.Needs.{needs}
 use borrow.Author.Tests.{eq-eqb, ne-eqb}
-use Rattle.barring.specs.Search.{every}
+use Rattle.bits.specs.Lists.{every}
 use Rattle.barring.specs.Request.{isUnused}
 use Rattle.barring.proofs.Search.{drop-used, stays, fails, every-end}
 use Rattle.barring.proofs.request.is_clear.Statement.{statement}

@@ -2,8 +2,8 @@
 use native.Mathlib.Omega.{arith}
 use borrow.Author.Needs.{needs}
 use borrow.Author.Tests.{lt-leb, ne-eqb}
+use Rattle.bits.proofs.Table.{at}
 use Rattle.grammar.specs.SiteSheet.{rangeType, rowOf}
-use Rattle.grammar.proofs.Table.{at}
 use Rattle.grammar.proofs.site.row_of.Statement.{statement}
 use Rattle.grammar.proofs.site.row_of.Tie as tie
 

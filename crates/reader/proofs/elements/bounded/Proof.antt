@@ -3,7 +3,7 @@ use mathlib.Core.Path.{_∙_, ap}
 use native.Mathlib.Omega.{arith}
 use borrow.Author.Needs.{needs}
 use Rattle.codec.specs.Reading.{numberIs}
-use Rattle.codec.proofs.Reading.{number-at, tested-element}
+use Rattle.codec.proofs.Onward.{number-at, tested-element}
 use Rattle.reader.proofs.elements.bounded.Statement.{statement}
 use Rattle.reader.proofs.elements.bounded.Tie as tie
 

@@ -4,7 +4,7 @@ use native.Mathlib.Omega.{arith}
 use borrow.Author.Needs.{needs}
 use Rattle.bits.specs.Frame.{bitsIn}
 use Rattle.codec.specs.Reading.{from}
-use Rattle.codec.proofs.Reading.{placed-got, placed-refused}
+use Rattle.codec.proofs.Onward.{placed-got, placed-refused}
 use Rattle.codec.proofs.Filling.{Filling, filling-start, filling-got, filling-refused, filling-done}
 use Rattle.grammar.specs.Grammar.{identity, noIdentity, zeroIdentity}
 use Rattle.reader.specs.Reader.{entriesIs}

@@ -3,7 +3,8 @@ use mathlib.Core.Path.{_∙_, sym, ap}
 use borrow.Author.Needs.{needs}
 use borrow.Author.Tests.{ne-eqb}
 use Rattle.codec.specs.Reading.{numberIs, elementOf}
-use Rattle.codec.proofs.Reading.{from-same, readAt-absent}
+use Rattle.codec.proofs.Reading.{readAt-absent}
+use Rattle.codec.proofs.Onward.{from-same}
 use Rattle.grammar.specs.Grammar.{extension}
 use Rattle.reader.proofs.identities.extension_of.Statement.{statement}
 use Rattle.reader.proofs.identities.extension_of.Tie as tie

@@ -11,7 +11,8 @@ use Rattle.codec.specs.Places.{places}
 use Rattle.codec.specs.Reading.{readAt, from, elementOf}
 use Rattle.codec.specs.declared.Reached.{Reached}
 use Rattle.codec.specs.declared.Reached.the-variants.{At, Refused}
-use Rattle.codec.proofs.Reading.{placed, from-same, go-on, number-read, readAt-legal, tested-element, tested-from}
+use Rattle.codec.proofs.Reading.{readAt-legal}
+use Rattle.codec.proofs.Onward.{placed, from-same, go-on, number-read, tested-element, tested-from}
 use Rattle.codec.proofs.Filling.{first-print}
 use Rattle.grammar.specs.SiteSheet.{rangeType, rowOf, entriesOf}
 use Rattle.grammar.specs.Grammar.{identity, noIdentity, zeroIdentity, rangeEnds, secondEnd}

@@ -4,7 +4,7 @@ use borrow.Author.Needs.{needs}
 use native.Mathlib.Omega.{arith}
 use borrow.Author.Tests.{ne-eqb}
 use Rattle.codec.specs.Reading.{got, from}
-use Rattle.codec.proofs.Reading.{from-same}
+use Rattle.codec.proofs.Onward.{from-same}
 use Rattle.reader.specs.Reader.{listsIs}
 use Rattle.grammar.specs.declared.record.Lists.{Lists}
 use Rattle.reader.proofs.Steps.{noPart-at}

@@ -2,7 +2,7 @@
 use mathlib.Core.Path.{sym, ap, _∙_}
 use borrow.Author.Needs.{needs}
 use Rattle.codec.specs.Reading.{got, from}
-use Rattle.codec.proofs.Reading.{from-same, go-on}
+use Rattle.codec.proofs.Onward.{from-same, go-on}
 use Rattle.reader.specs.Reader.{listsIs}
 use Rattle.grammar.specs.declared.record.Identities.{Identities}
 use Rattle.grammar.specs.declared.record.Lists.{Lists}

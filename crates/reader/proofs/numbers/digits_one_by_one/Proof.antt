@@ -8,7 +8,8 @@ use Rattle.bits.specs.Frame.{bitsIn}
 use Rattle.codec.specs.Parts.{absent, element}
 use Rattle.codec.specs.Reading.{from, readAt, numberIs, elementOf}
 use Rattle.codec.specs.declared.Reached.the-variants.{At}
-use Rattle.codec.proofs.Reading.{placed-got, placed-refused, number-read, readAt-absent, tested-element, element-bound}
+use Rattle.codec.proofs.Reading.{readAt-absent}
+use Rattle.codec.proofs.Onward.{placed-got, placed-refused, number-read, tested-element, element-bound}
 use Rattle.codec.proofs.Filling.{Filling, filling-start, filling-got, filling-refused, filling-done}
 use Rattle.grammar.specs.SiteSheet.{digitRefusal}
 use Rattle.reader.specs.Reader.{digitsIs}

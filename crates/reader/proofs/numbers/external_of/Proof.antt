@@ -3,7 +3,7 @@ use mathlib.Core.Path.{sym, ap, _∙_}
 use Prim.Native.Nat.{_≤_}
 use native.Mathlib.Omega.{arith}
 use borrow.Author.Needs.{needs}
-use Rattle.codec.proofs.Reading.{from-same, go-on, number-read, element-bound}
+use Rattle.codec.proofs.Onward.{from-same, go-on, number-read, element-bound}
 use Rattle.grammar.specs.SiteSheet.{lengthRefusal}
 use Rattle.reader.specs.Reader.{externalIs}
 use Rattle.grammar.proofs.Codes.{between-le}

@@ -7,7 +7,7 @@ use denote.Ref.{now}
 use Rattle.bits.specs.Frame.{bitsIn}
 use Rattle.codec.specs.Places.{places}
 use Rattle.codec.specs.Reading.{readAt, from, elementOf}
-use Rattle.codec.proofs.Reading.{from-same, go-on, number-read, tested-element}
+use Rattle.codec.proofs.Onward.{from-same, go-on, number-read, tested-element}
 use Rattle.grammar.specs.SiteSheet.{entriesOf}
 use Rattle.grammar.specs.Grammar.{external, noExternal}
 use Rattle.reader.specs.Reader.{numberEntriesIs, numbersIs}

@@ -2,7 +2,7 @@
 use mathlib.Core.Path.{sym, ap, _∙_}
 use borrow.Author.Needs.{needs}
 use Rattle.codec.specs.Reading.{elementOf}
-use Rattle.codec.proofs.Reading.{from-same, go-on, number-read, tested-element}
+use Rattle.codec.proofs.Onward.{from-same, go-on, number-read, tested-element}
 use Rattle.reader.specs.Reader.{recordIs}
 use Rattle.reader.proofs.Steps.{interrogateAck-at}
 use Rattle.reader.proofs.Readers.{services-read, lists-read}

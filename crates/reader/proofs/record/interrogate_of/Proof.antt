@@ -2,7 +2,7 @@
 use mathlib.Core.Path.{sym, ap, ap₂, _∙_}
 use borrow.Author.Needs.{needs}
 use Rattle.codec.specs.Reading.{got, from}
-use Rattle.codec.proofs.Reading.{from-same, go-on, number-read}
+use Rattle.codec.proofs.Onward.{from-same, go-on, number-read}
 use Rattle.reader.specs.Reader.{recordIs}
 use Rattle.grammar.specs.declared.record.Services.{Services}
 use Rattle.grammar.specs.declared.record.Lists.{Lists}

@@ -5,7 +5,7 @@ use borrow.Author.Tests.{ne-eqb}
 use denote.Ref.{now}
 use Rattle.bits.specs.Frame.{bitsIn}
 use Rattle.codec.specs.Reading.{from, readAt, elementOf}
-use Rattle.codec.proofs.Reading.{from-same, go-on, number-read, tested-element}
+use Rattle.codec.proofs.Onward.{from-same, go-on, number-read, tested-element}
 use Rattle.grammar.specs.Grammar.{pdu, restOf}
 use Rattle.reader.specs.Reader.{recordAt}
 use Rattle.reader.proofs.Steps.{pdu-at}

@@ -1,7 +1,7 @@
 -- The number of services, then as many. Assumes nothing.
 use mathlib.Core.Path.{sym, ap, _∙_}
 use borrow.Author.Needs.{needs}
-use Rattle.codec.proofs.Reading.{from-same, go-on, number-read, element-bound}
+use Rattle.codec.proofs.Onward.{from-same, go-on, number-read, element-bound}
 use Rattle.grammar.specs.SiteSheet.{countRefusal}
 use Rattle.reader.specs.Reader.{servicesIs}
 use Rattle.grammar.proofs.Codes.{between-le}

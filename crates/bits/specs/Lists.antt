@@ -1,13 +1,13 @@
--- A test of the elements of a list.
+-- A test of the entries of a list.
 use mathlib.Core.Bool.{Bool, true, false, _&&_, _||_}
 use mathlib.Core.List.{List, [], _∷_}
 
--- some element passes
+-- some entry passes
 unfoldable pub some : {A : Type 0} → (A → Bool) → List A → Bool
 some f [] = false
 some f (a ∷ l) = f a || some f l
 
--- every element passes
+-- every entry passes
 unfoldable pub every : {A : Type 0} → (A → Bool) → List A → Bool
 every f [] = true
 every f (a ∷ l) = f a && every f l
