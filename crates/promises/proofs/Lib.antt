@@ -1,3 +1,4 @@
 pub mod Tables
 pub mod Demand1
+pub mod Words
 pub mod Determined

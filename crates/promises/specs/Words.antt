@@ -1,13 +1,14 @@
 -- What C lends as words is the record, or the request, and back.
 use mathlib.Core.Path.{_≡_}
 use mathlib.Core.Bool.{true}
-use mathlib.Core.List.{List}
-use Prim.Native.Nat.{ℕ, _<_}
+use mathlib.Core.List.{List, _++_}
+use Prim.Native.Nat.{ℕ, _≤_, _<_}
 use lib.ListN.{length, take, drop}
 use Rattle.grammar.specs.declared.record.Record.{Record}
 use Rattle.barring.specs.declared.request.Request.{Request}
 use Rattle.boc.specs.RecordWords.{word, recordWords, recordFrom}
 use Rattle.boc.specs.RequestWords.{areRequest, requestWords, requestFrom}
+use Rattle.boc.specs.Calls.{readNumber, readWords, writeNumber, writeOut, writeBits}
 use Rattle.boc.proofs.RecordInverse as records
 use Rattle.boc.proofs.RequestInverse as requests
 use Rattle.bits.specs.Bits.{Bytes}
@@ -21,6 +22,12 @@ record-words r f = (records.record-long r f, records.record-back r f)
 -- 514 words are the words of one record, if the lengths and digits among them are bytes.
 pub words-record : (w : List ℕ) → length w ≡ 514 → Bytes (take 200 (drop 113 w)) → Bytes (take 200 (drop 314 w)) → recordWords (recordFrom w) ≡ w
 words-record = records.record-forth
+
+-- What boc_read left in the words, boc_write writes as the same bits, in the same bytes, and leaves the bytes after them.
+-- Proved in proofs/Words.antt.
+pub record Promise : Type 0 where
+  pub written-again : (s : List ℕ) (n : ℕ) (words out : List ℕ) (old : ℕ) → Bytes s → readNumber s n (length words) ≡ 0 → length s ≤ length out
+      → let w = readWords s n words in (writeNumber w out ≡ 0) × (writeOut w out ≡ s ++ drop (length s) out) × (writeBits w out old ≡ n)
 
 -- ---- requests
 

@@ -6,10 +6,9 @@ use borrow.Author.Tests.{eq-eqb, ne-eqb}
 use denote.Ref.{now}
 use lib.ListN.{length}
 use Rattle.grammar.specs.declared.record.Record.{Record}
-use Rattle.writer.specs.Write.{writeIs, outIs}
+use Rattle.writer.specs.Write.{writeIs, outIs, writtenNumber}
 use Rattle.boc.specs.RecordWords.{recordFrom}
 use Rattle.boc.specs.Calls.{areRecord, writtenLength, writeNumber, writeOut, writeBits}
-use Rattle.writer.specs.Write.{writtenNumber}
 use Rattle.boc.proofs.Answering.{passed}
 use Rattle.boc.proofs.boc_write.Statement.{statement}
 use Rattle.boc.proofs.boc_write.Tie as tie

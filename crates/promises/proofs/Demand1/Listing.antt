@@ -9,11 +9,10 @@ use lib.Dec.{leb}
 use borrow.Author.Tests.{leb-true, leb-false, le-leb, lt-leb}
 use Rattle.bits.specs.Bits.{pick}
 use Rattle.archive.specs.Reading.{isArchive}
-use Rattle.archive.specs.Listing.{lists, listIs, listOut}
+use Rattle.archive.specs.Listing.{lists, listIs, listOut, listedNumber}
 use Rattle.archive.specs.declared.listing.Listed.{Listed}
 use Rattle.archive.specs.declared.listing.Listed.the-variants.{Bytes, Refused}
 use Rattle.promises.specs.Answers.{OneOf}
-use Rattle.archive.specs.Listing.{listedNumber}
 use Rattle.promises.specs.Demand1.Listing.{number, text, Given, success, damaged, no-room, Promise}
 use Rattle.promises.proofs.Tables.{exactly}
 

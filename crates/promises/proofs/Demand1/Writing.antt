@@ -15,12 +15,11 @@ use Rattle.codec.specs.Parts.{isZero, is-zero}
 use Rattle.grammar.specs.SiteSheet.{kindRefusal}
 use Rattle.grammar.specs.Grammar.{pdu}
 use Rattle.grammar.specs.declared.record.Record.{Record}
-use Rattle.writer.specs.Write.{recordRefusal, lengthOf, writeRefusal, written, writeIs, outIs}
+use Rattle.writer.specs.Write.{recordRefusal, lengthOf, writeRefusal, written, writeIs, outIs, writtenNumber}
 use Rattle.writer.specs.declared.Written.the-variants.{Bits, Refused}
 use Rattle.pdu.proofs.RoundTrip.{legal-iff, written-legal}
 use Rattle.pdu.proofs.Refusals.{ThreeOrFour, three, four, refused-with}
 use Rattle.promises.specs.Answers.{OneOf}
-use Rattle.writer.specs.Write.{writtenNumber}
 use Rattle.promises.specs.Demand1.Writing.{number, Given, success, unread, unclean, faulty, no-room, Promise}
 use Rattle.promises.proofs.Tables.{exactly}
 

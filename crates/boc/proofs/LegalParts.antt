@@ -1,0 +1,65 @@
+-- What a legal value of a part says of the values it is made of, one law for each way to build a codec. Assumes nothing.
+use mathlib.Core.Path.{_≡_, refl, ap}
+use mathlib.Core.Bool.{true, false}
+use mathlib.Core.List.{List, [], _∷_}
+use Prim.Native.Nat.{ℕ, zero, suc, _^_, _<_}
+use native.Mathlib.Omega.{arith}
+use lib.ListN.{length}
+use lib.Dec.{ltb}
+use Rattle.codec.specs.Codec.{Codec, Legal}
+use Rattle.bits.proofs.Tests.{both}
+use Rattle.codec.specs.Parts.{first-none, narrow, number, is-zero, absent, seq, tested, element, shaped, mark}
+use Rattle.codec.specs.Places.{nil, cons, places}
+use Rattle.boc.proofs.Layouts.{Each}
+
+pub legal-seq : {A B : Type 0} (c : Codec A) (d : A → Codec B) (p : A × B) → Legal (seq c d) p → Legal c (p .0) × Legal (d (p .0)) (p .1)
+unfolding seq
+legal-seq c d p l =
+    let k = both (c .clean (p .0)) (d (p .0) .clean (p .1)) (l .clean) in
+    let f = first-none (c .fault (p .0)) (d (p .0) .fault (p .1)) (l .faultless) in
+    (record { clean = k .0; faultless = f .0 }, record { clean = k .1; faultless = f .1 })
+
+pub legal-shaped : {A B : Type 0} (c : Codec A) (to : A → B) (from : B → A) (there : (a : A) → c .clean a ≡ true → c .fault a ≡ 0 → from (to a) ≡ a)
+    (back : (b : B) → to (from b) ≡ b) (b : B) → Legal (shaped c to from there back) b → Legal c (from b)
+unfolding shaped
+legal-shaped c to from there back b l = record { clean = l .clean; faultless = l .faultless }
+
+pub legal-tested : {A : Type 0} (c : Codec A) (refuse into : A → ℕ) (a : A) → Legal (tested c refuse into) a → Legal c a
+unfolding tested
+legal-tested c refuse into a l = record { clean = l .clean; faultless = first-none (c .fault a) (refuse a) (l .faultless) .0 }
+
+pub legal-mark : {A : Type 0} (w v : ℕ) (c : Codec A) (a : A) → Legal (mark w v c) a → Legal c a
+unfolding mark
+legal-mark w v c a l = legal-seq _ _ _ (legal-shaped _ _ _ _ _ _ l) .1
+
+pub legal-element : (w : ℕ) (refuse : ℕ → ℕ) (v : ℕ) → Legal (element w refuse) v → v < 2 ^ w
+unfolding element number
+legal-element w refuse v l = narrow w v (ltb v (2 ^ w)) refl (legal-tested _ _ _ _ l .faultless)
+
+pub legal-absent : (v : ℕ) → Legal absent v → v ≡ 0
+unfolding absent
+legal-absent v l = is-zero v (l .clean)
+
+-- what is so of the entries that the PDU carries, and of the places that it does not, is so of each of the m places
+module _ {A : Type 0} {c z : Codec A} (P : A → Type 0) (used : (a : A) → Legal c a → P a) (unused : (a : A) → Legal z a → P a) where
+  head-tail : (x : Codec A) (y : Codec (List A)) (a : A) (l : List A) → Legal (cons x y) (a ∷ l) → Legal x a × Legal y l
+  unfolding cons
+  head-tail x y a l h =
+      let k = both (x .clean a) (y .clean l) (h .clean) in
+      let f = first-none (x .fault a) (y .fault l) (h .faultless) in
+      (record { clean = k .0; faultless = f .0 }, record { clean = k .1; faultless = f .1 })
+
+  pub legal-places : (m n : ℕ) (l : List A) → Legal (places c z m n) l → (length l ≡ m) × Each P l
+  unfolding places nil cons
+  legal-places zero n [] h = (refl, tt)
+  legal-places zero n (a ∷ l) h = absurd (let e : false ≡ true = h .clean in let q : _≡_ {A = ℕ} 0 1 = cc in omega arith)
+  legal-places (suc m) zero [] h = absurd (let e : false ≡ true = h .clean in let q : _≡_ {A = ℕ} 0 1 = cc in omega arith)
+  legal-places (suc m) (suc n) [] h = absurd (let e : false ≡ true = h .clean in let q : _≡_ {A = ℕ} 0 1 = cc in omega arith)
+  legal-places (suc m) zero (a ∷ l) h =
+      let p = head-tail z (places c z m zero) a l h in
+      let t = legal-places m zero l (p .1) in
+      (ap suc (t .0), (unused a (p .0), t .1))
+  legal-places (suc m) (suc n) (a ∷ l) h =
+      let p = head-tail c (places c z m n) a l h in
+      let t = legal-places m n l (p .1) in
+      (ap suc (t .0), (used a (p .0), t .1))
