@@ -1,19 +1,22 @@
 -- Laws of the site sheet's codes and of the ends of a range. Assumes nothing.
-use mathlib.Core.Path.{_≡_, refl}
+use mathlib.Core.Path.{_≡_, refl, ap}
 use mathlib.Core.Bool.{Bool, true, false, _&&_}
 use mathlib.Core.List.{List, [], _++_}
-use Prim.Native.Nat.{ℕ, _+_, _≤_}
+use Prim.Native.Nat.{ℕ, zero, suc, _+_, _≤_, _<_}
 use native.Mathlib.Omega.{arith}
-use borrow.Author.Tests.{leb-true, ne-eqb}
+use borrow.Author.Tests.{eqb-true, leb-true, eq-eqb, ne-eqb, le-leb, lt-leb}
 use lib.ListN.{length, length-append}
 use lib.Dec.{eqb, leb}
 use Rattle.bits.specs.Bits.{pick, bitsOf}
 use Rattle.bits.proofs.Numbers.{length-bitsOf}
 use Rattle.codec.specs.Parts.{number, absent, seq, shaped}
-use Rattle.grammar.specs.SiteSheet.{rangeType, rowOfType, rowOf, entriesOf, between}
-use Rattle.grammar.specs.Grammar.{extension, identity, rangeEnds}
+use Rattle.grammar.specs.SiteSheet.{rangeType, rowOfType, rowOf, entriesOf, refusalIn, rangeRefusal, between}
+use Rattle.grammar.specs.Grammar.{extension, identity, endsRefusal, rangeEnds}
 use Rattle.grammar.specs.declared.record.Identity.{Identity}
+use Rattle.grammar.specs.declared.site.RangeType.{RangeType}
 use Rattle.grammar.specs.declared.site.RangeType.the-variants.{Empty, Single, FirstAndLast, NoRangeType}
+use Rattle.grammar.specs.declared.site.Listing.{Listing}
+use Rattle.grammar.specs.declared.site.Listing.the-variants as of
 
 -- no range type has more than eight entries
 pub entriesOf-le : (code : ℕ) → entriesOf code ≤ 8
@@ -27,10 +30,47 @@ entriesOf-le code = go (eqb code 0) (leb code 8) refl (eqb code 9)
     go false false e true = omega arith
     go false false e false = omega arith
 
+-- range types 0 to 8 may stand before identities and before numbers, and have as many entries; 9 before identities only; the others nowhere
+pub single : (code : ℕ) → code ≤ 8 → (rangeRefusal of.Identities code ≡ 0) × (rangeRefusal of.Numbers code ≡ 0) × (entriesOf code ≡ code)
+unfolding rangeRefusal rowOf rangeType
+single zero h = (refl, refl, refl)
+single (suc k) h =
+    let e : rangeType (suc k) ≡ Single (suc k) = rw (ne-eqb (suc k) 0 (λ e. omega arith), le-leb (suc k) 8 h) in
+    (ap (refusalIn of.Identities) e, ap (refusalIn of.Numbers) e, ap (λ (t : RangeType). rowOfType t .entries) e)
+
+pub above-nine : (listing : Listing) (code : ℕ) → 9 < code → rangeRefusal listing code ≡ 3
+unfolding rangeRefusal rangeType
+above-nine listing code h = rw (ne-eqb code 0 (λ e. omega arith), lt-leb code 8 (omega arith), ne-eqb code 9 (λ e. omega arith)) refl
+
+pub not-single : (code : ℕ) → 8 < code → rangeRefusal of.Numbers code ≡ 3
+unfolding rangeRefusal rangeType
+not-single code h = rw (ne-eqb code 0 (λ e. omega arith), lt-leb code 8 h) (go (eqb code 9))
+  where
+    go : (b : Bool) → refusalIn of.Numbers (pick b FirstAndLast NoRangeType) ≡ 3
+    go true = refl
+    go false = refl
+
 -- only range type 9 has two ends
 pub not-nine : (code : ℕ) → (code ≡ 9 → ⊥) → (l : List Identity) → rangeEnds code l ≡ 0
 unfolding rangeEnds
 not-nine code h l = rw (ne-eqb code 9 h)
+
+-- the ends of a range are not refused exactly if they agree and rise
+module _ (a b : Identity) where
+  pub ends-agree : a .present ≡ b .present → a .extension ≡ b .extension → a .ssi ≤ b .ssi → endsRefusal a b ≡ 0
+  unfolding endsRefusal
+  ends-agree p e s = rw (eq-eqb _ _ p, eq-eqb _ _ e, le-leb _ _ s)
+
+  pub ends-say : endsRefusal a b ≡ 0 → (a .present ≡ b .present) × (a .extension ≡ b .extension) × (a .ssi ≤ b .ssi)
+  unfolding endsRefusal
+  ends-say = go (eqb (a .present) (b .present)) (eqb (a .extension) (b .extension)) (leb (a .ssi) (b .ssi)) refl refl refl
+    where
+      go : (x y z : Bool) → eqb (a .present) (b .present) ≡ x → eqb (a .extension) (b .extension) ≡ y → leb (a .ssi) (b .ssi) ≡ z
+          → pick {A = ℕ} (x && y && z) 0 4 ≡ 0 → (a .present ≡ b .present) × (a .extension ≡ b .extension) × (a .ssi ≤ b .ssi)
+      go true true true p e s h = (eqb-true _ _ p, eqb-true _ _ e, leb-true _ _ s)
+      go true true false p e s h = absurd (omega arith)
+      go true false z p e s h = absurd (omega arith)
+      go false y z p e s h = absurd (omega arith)
 
 -- a value that is not outside its bounds
 pub between-le : (low high v : ℕ) → between low high v ≡ 0 → v ≤ high

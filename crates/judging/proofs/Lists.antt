@@ -1,52 +1,25 @@
 -- Lists, by the code that stands before their entries. Assumes nothing.
 use mathlib.Core.Path.{_≡_, refl, ap, _∙_}
 use mathlib.Core.List.{List}
-use mathlib.Core.Bool.{Bool, true, false}
-use Prim.Native.Nat.{ℕ, zero, suc, _+_, _/_, _^_, _≤_, _<_}
+use mathlib.Core.Bool.{Bool}
+use Prim.Native.Nat.{ℕ, _+_, _/_, _^_, _≤_, _<_}
 use native.Mathlib.Omega.{arith}
-use borrow.Author.Tests.{ne-eqb, le-leb, lt-leb}
-use lib.Dec.{eqb}
-use Rattle.bits.specs.Bits.{pick}
 use Rattle.bits.specs.Frame.{bitsIn}
 use Rattle.bits.specs.Element.{windowAt}
 use Rattle.codec.specs.Parts.{element, seq, tested}
 use Rattle.codec.specs.Places.{places}
 use Rattle.codec.specs.Reading.{Answer, got, refused, andNext, unlessAt, readAt}
 use Rattle.codec.proofs.Reading.{readAt-tested}
-use Rattle.grammar.specs.SiteSheet.{rangeType, rowOfType, rowOf, entriesOf, refusalIn, rangeRefusal}
+use Rattle.grammar.specs.SiteSheet.{rangeType, rowOf, entriesOf, rangeRefusal}
 use Rattle.grammar.specs.Grammar.{identity, noIdentity, rangeEnds, secondEnd, identities, external, noExternal, externals, services, identityPart, numberPart}
-use Rattle.grammar.proofs.Codes.{not-nine}
+use Rattle.grammar.proofs.Codes.{single, above-nine, not-single, not-nine}
 use Rattle.grammar.specs.declared.record.Identity.{Identity}
-use Rattle.grammar.specs.declared.site.RangeType.{RangeType}
-use Rattle.grammar.specs.declared.site.RangeType.the-variants.{Single, FirstAndLast, NoRangeType}
-use Rattle.grammar.specs.declared.site.Listing.{Listing}
 use Rattle.grammar.specs.declared.site.Listing.the-variants as of
 use Rattle.reader.proofs.Steps.{identityLists, numberLists, identityPart-at, numberPart-at}
 use Rattle.judging.specs.Walk.{walked, walk, range, Inside}
 use Rattle.judging.specs.declared.walking.Walked.the-variants.{Off}
 use Rattle.judging.proofs.Walks.{onward, onward-same, walked-three, walk-seq, walk-shaped}
 use Rattle.judging.proofs.Elements.{coded-short, coded-refused, coded-passed}
-
--- ---- range types
-
-single : (code : ℕ) → code ≤ 8 → (rangeRefusal of.Identities code ≡ 0) × (rangeRefusal of.Numbers code ≡ 0) × (entriesOf code ≡ code)
-unfolding rangeRefusal rowOf rangeType
-single zero h = (refl, refl, refl)
-single (suc k) h =
-    let e : rangeType (suc k) ≡ Single (suc k) = rw (ne-eqb (suc k) 0 (λ e. omega arith), le-leb (suc k) 8 h) in
-    (ap (refusalIn of.Identities) e, ap (refusalIn of.Numbers) e, ap (λ (t : RangeType). rowOfType t .entries) e)
-
-above : (listing : Listing) (code : ℕ) → 9 < code → rangeRefusal listing code ≡ 3
-unfolding rangeRefusal rangeType
-above listing code h = rw (ne-eqb code 0 (λ e. omega arith), lt-leb code 8 (omega arith), ne-eqb code 9 (λ e. omega arith)) refl
-
-not-single : (code : ℕ) → 8 < code → rangeRefusal of.Numbers code ≡ 3
-unfolding rangeRefusal rangeType
-not-single code h = rw (ne-eqb code 0 (λ e. omega arith), lt-leb code 8 h) (go (eqb code 9))
-  where
-    go : (b : Bool) → refusalIn of.Numbers (pick b FirstAndLast NoRangeType) ≡ 3
-    go true = refl
-    go false = refl
 
 -- ---- a list of identities
 
@@ -84,7 +57,7 @@ module _ {s : List ℕ} {n at : ℕ} (i : Inside s n at) where
     pub identities-none : 9 < code → walk (identities of.Identities) (bitsIn n s) at ≡ Off
     identities-none k =
         shape ∙ coded-refused i 4 (omega arith) (omega arith) (rangeRefusal of.Identities) _ h
-        (rw (← is) (λ z. omega (arith, above of.Identities code k)))
+        (rw (← is) (λ z. omega (arith, above-nine of.Identities code k)))
 
 -- ---- a list of external numbers
 

@@ -1,13 +1,12 @@
 -- The ends of a range, as the windows at their places have them. Assumes nothing.
 use mathlib.Core.Path.{_≡_, refl, ap, _∙_}
-use mathlib.Core.Bool.{Bool, true, false, _&&_}
+use mathlib.Core.Bool.{Bool, true, false}
 use mathlib.Core.List.{List, _∷_}
 use Prim.Native.Nat.{ℕ, zero, suc, _+_, _/_, _%_, _^_, _≤_, _<_}
 use native.Mathlib.Omega.{arith}
-use borrow.Author.Tests.{eqb-true, leb-true, leb-false, eq-eqb, le-leb}
+use borrow.Author.Tests.{leb-true, leb-false}
 use lib.ListN.{length, replicate}
-use lib.Dec.{eqb, leb}
-use Rattle.bits.specs.Bits.{pick}
+use lib.Dec.{leb}
 use Rattle.bits.specs.Frame.{bitsIn}
 use Rattle.bits.specs.Element.{windowAt}
 use Rattle.codec.specs.Codec.{Codec}
@@ -17,29 +16,12 @@ use Rattle.codec.proofs.Reading.{andNext-assoc, unlessAt-some, readAt-cons, rea
 use Rattle.codec.proofs.Filling.{places-rest}
 use Rattle.grammar.specs.Grammar.{identity, noIdentity, zeroIdentity, endsRefusal, rangeEnds, secondEnd}
 use Rattle.grammar.specs.declared.record.Identity.{Identity}
+use Rattle.grammar.proofs.Codes.{ends-say}
 use Rattle.reader.proofs.Steps.{noIdentity-at}
 use Rattle.judging.specs.Walk.{walked, walk, range, Inside}
 use Rattle.judging.specs.declared.walking.Walked.the-variants.{At, Off}
 use Rattle.judging.proofs.Walks.{off-next}
 use Rattle.judging.proofs.Identities.{identity-short, identity-plain, identity-wide, identity-cut}
-
--- ---- the rule of a range's ends
-
-module _ (a b : Identity) where
-  pub ends-agree : a .present ≡ b .present → a .extension ≡ b .extension → a .ssi ≤ b .ssi → endsRefusal a b ≡ 0
-  unfolding endsRefusal
-  ends-agree p e s = rw (eq-eqb _ _ p, eq-eqb _ _ e, le-leb _ _ s)
-
-  pub ends-say : endsRefusal a b ≡ 0 → (a .present ≡ b .present) × (a .extension ≡ b .extension) × (a .ssi ≤ b .ssi)
-  unfolding endsRefusal
-  ends-say = go (eqb (a .present) (b .present)) (eqb (a .extension) (b .extension)) (leb (a .ssi) (b .ssi)) refl refl refl
-    where
-      go : (x y z : Bool) → eqb (a .present) (b .present) ≡ x → eqb (a .extension) (b .extension) ≡ y → leb (a .ssi) (b .ssi) ≡ z
-          → pick {A = ℕ} (x && y && z) 0 4 ≡ 0 → (a .present ≡ b .present) × (a .extension ≡ b .extension) × (a .ssi ≤ b .ssi)
-      go true true true p e s h = (eqb-true _ _ p, eqb-true _ _ e, leb-true _ _ s)
-      go true true false p e s h = absurd (omega arith)
-      go true false z p e s h = absurd (omega arith)
-      go false y z p e s h = absurd (omega arith)
 
 -- the order of two SSIs, of windows that go by other names
 module _ {x y u v : ℕ} (p : x ≡ u) (q : y ≡ v) where

@@ -8,11 +8,12 @@ use Rattle.bits.specs.Frame.{bitsIn}
 use Rattle.bits.specs.Element.{windowAt}
 use Rattle.codec.specs.Reading.{got, readAt}
 use Rattle.grammar.specs.Grammar.{identity}
+use Rattle.grammar.proofs.Codes.{ends-agree, ends-say}
 use Rattle.reader.proofs.Windows.{plainIn}
 use Rattle.judging.specs.Walk.{Inside}
 use Rattle.judging.specs.declared.walking.Walked.the-variants.{At}
 use Rattle.judging.proofs.Identities.{identity-short, identity-plain}
-use Rattle.judging.proofs.Ranges.{ends-agree, ends-say, in-order, out-of-order, range-off, range-agrees, range-differs, second-short, second-wide}
+use Rattle.judging.proofs.Ranges.{in-order, out-of-order, range-off, range-agrees, range-differs, second-short, second-wide}
 use Rattle.judging.proofs.walking.pass_range.Statement.{statement}
 use Rattle.judging.proofs.walking.pass_range.Tie as tie
 

@@ -8,11 +8,12 @@ use Rattle.bits.specs.Frame.{bitsIn}
 use Rattle.bits.specs.Element.{windowAt}
 use Rattle.codec.specs.Reading.{got, readAt}
 use Rattle.grammar.specs.Grammar.{identity}
+use Rattle.grammar.proofs.Codes.{ends-agree, ends-say}
 use Rattle.reader.proofs.Windows.{wideIn}
 use Rattle.judging.specs.Walk.{Inside}
 use Rattle.judging.specs.declared.walking.Walked.the-variants.{At}
 use Rattle.judging.proofs.Identities.{identity-wide}
-use Rattle.judging.proofs.Ranges.{ends-agree, ends-say, in-order, out-of-order, range-agrees, range-differs, second-plain, wide-short}
+use Rattle.judging.proofs.Ranges.{in-order, out-of-order, range-agrees, range-differs, second-plain, wide-short}
 use Rattle.judging.proofs.walking.pass_wide_range.Statement.{statement}
 use Rattle.judging.proofs.walking.pass_wide_range.Tie as tie
 
