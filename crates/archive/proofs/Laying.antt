@@ -1,12 +1,14 @@
 -- Bytes laid out in a buffer, one part after the other. Assumes nothing.
-use mathlib.Core.Path.{_≡_, refl, sym, ap, _∙_}
-use mathlib.Core.List.{List, [], _∷_, _++_, append-assoc, append-nil}
+use mathlib.Core.Path.{_≡_, refl, ap, ap₂, _∙_}
+use mathlib.Core.List.{List, [], _∷_, _++_, append-nil}
 use Prim.Native.Nat.{ℕ, zero, suc, _+_, _-_, _≤_, _<_}
 use native.Mathlib.Omega.{arith}
 use native.Mathlib.Nat.{le-of-suc-le-suc, not-suc-le-zero, zero-add, add-sub-cancel-left}
 use native.Mathlib.Numerals.{add-one}
 use lib.ListN.{length, getD, take, drop, set, length-append, length-take, length-drop, drop-of-length-le}
-use lib.Seq.{take-all, take-at, drop-at, drop-drop}
+use lib.Seq.{take-all, drop-drop}
+use Rattle.bits.specs.Bits.{splice}
+use Rattle.bits.proofs.Splices.{splice-splice}
 use Rattle.archive.specs.Model.{headerWidth, entryWidth, headerBytes, entryBytes}
 use Rattle.archive.specs.Keeping.{over}
 use Rattle.archive.specs.Seeking.{nextAt, restAt, Within, frontOf, backOf, spliced, splicedLength, Laid}
@@ -51,23 +53,10 @@ length-spliced b p count e body w =
 
 -- one part after the other
 pub then : {out out′ out″ s t : List ℕ} {at m end : ℕ} → at ≤ length out → Laid out at s out′ m → Laid out′ m t out″ end → Laid out at (s ++ t) out″ end
-then {out} {out′} {out″} {s} {t} {at} {m} {end} h x y =
-    let front : List ℕ = take at out ++ s in
-    let l : length front ≡ m = simp (length-append, length-take) (omega (arith, x .ends)) in
-    let is : out′ ≡ front ++ drop (at + length s) out = x .same ∙ sym (append-assoc (take at out) s (drop (at + length s) out)) in
-    let before : take m out′ ≡ front = ap (take m) is ∙ take-at front (drop (at + length s) out) m l in
-    let ends : at + length s + length t ≡ at + length (s ++ t) = omega (arith, length-append s t) in
-    let after : drop (m + length t) out′ ≡ drop (at + length (s ++ t)) out =
-    sym (drop-drop (length t) m out′)
-    ∙ ap (λ (z : List ℕ). drop (length t) (drop m z)) is
-    ∙ ap (drop (length t)) (drop-at front (drop (at + length s) out) m l)
-    ∙ drop-drop (length t) (at + length s) out
-    ∙ ap (λ (k : ℕ). drop k out) ends
-    in
-    record {
-      ends = omega (arith, y .ends, x .ends, length-append s t);
-      same = y .same ∙ (λ i. before i ++ (t ++ after i)) ∙ simp append-assoc;
-    }
+then {out} {s = s} {t = t} {at = at} h x y = record {
+  ends = omega (arith, y .ends, x .ends, length-append s t);
+  same = y .same ∙ ap₂ (λ (l : List ℕ) (k : ℕ). splice l k t) (x .same) (x .ends) ∙ splice-splice out at s t h;
+}
 
 -- at the front of a buffer
 pub at-front : {out s out′ : List ℕ} {end : ℕ} → Laid out 0 s out′ end → (end ≡ length s) × (out′ ≡ over s out)

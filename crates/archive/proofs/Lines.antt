@@ -6,11 +6,12 @@ use Prim.Native.Nat.{ℕ, zero, suc, _+_, _-_, _≤_, _<_}
 use native.Mathlib.Omega.{arith}
 use native.Mathlib.Nat.{not-suc-le-zero}
 use native.Mathlib.Numerals.{add-one}
-use lib.ListN.{length, take, drop, set, length-append, length-take, length-drop, take-append-drop}
+use lib.ListN.{length, set, length-append}
 use lib.Seq.{set-split}
 use lib.Dec.{leb}
 use borrow.Author.Tests.{leb-true}
 use Rattle.bits.specs.Bits.{pick}
+use Rattle.bits.proofs.Splices.{length-splice, splice-nil}
 use Rattle.archive.specs.Model.{headerWidth, entryWidth}
 use Rattle.archive.specs.Reading.{homeOf, countOf, entryAt, sizeAt, heldFrom, bodiesAt, reading, isArchive}
 use Rattle.archive.specs.Seeking.{Laid, linesFrom}
@@ -27,7 +28,7 @@ one out at x h = record { ends = refl; same = rw (add-one, set-split out at x h)
 
 -- no byte
 pub none : (out : List ℕ) (at : ℕ) → Laid out at [] out at
-none out at = record { ends = omega arith; same = let z : at + 0 ≡ at = omega arith in sym (ap (λ (k : ℕ). take at out ++ drop k out) z ∙ take-append-drop at out) }
+none out at = record { ends = omega arith; same = sym (splice-nil out at) }
 
 -- room for a part, and for what follows it
 pub first-fits : (s t : List ℕ) (at : ℕ) {n : ℕ} → at + length (s ++ t) ≤ n → at + length s ≤ n
@@ -35,8 +36,8 @@ first-fits s t at h = omega (arith, length-append s t)
 
 pub rest-fits : {out out′ s : List ℕ} {at m : ℕ} (t : List ℕ) → at + length (s ++ t) ≤ length out → Laid out at s out′ m → m + length t ≤ length out′
 rest-fits {out} {out′} {s} {at} {m} t h x =
-    let l : length out′ ≡ length (take at out) + (length s + length (drop (at + length s) out)) = ap length (x .same) ∙ simp length-append in
-    omega (arith, l, x .ends, length-append s t, length-take at out, length-drop (at + length s) out)
+    let l : length out′ ≡ length out = ap length (x .same) ∙ length-splice out at s (omega (arith, length-append s t)) in
+    omega (arith, l, x .ends, length-append s t)
 
 -- ---- lengths
 

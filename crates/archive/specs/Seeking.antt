@@ -5,7 +5,7 @@ use mathlib.Core.List.{List, [], _∷_, _++_}
 use Prim.Native.Nat.{ℕ, zero, suc, _+_, _-_, _*_, _≤_, _<_}
 use lib.ListN.{length, take, drop}
 use lib.Dec.{ltb, eqb}
-use Rattle.bits.specs.Bits.{pick}
+use Rattle.bits.specs.Bits.{pick, splice}
 use Rattle.bits.specs.Frame.{bytesFor}
 use Rattle.reader.specs.Read.{readIs}
 use Rattle.reader.specs.declared.Answer.{Answer}
@@ -97,7 +97,7 @@ splicedLength b p size = p .at + entryWidth + backLength b p size
 -- from `at` to `end` the buffer has s, and before and after that what it had
 pub record Laid (out : List ℕ) (at : ℕ) (s : List ℕ) (out′ : List ℕ) (end : ℕ) : Type 0 where
   pub ends : end ≡ at + length s
-  pub same : out′ ≡ take at out ++ (s ++ drop (at + length s) out)
+  pub same : out′ ≡ splice out at s
 
 -- ---- the listing
 

@@ -33,6 +33,6 @@ unfoldable pub bits : List ℕ → List Bool
 bits [] = []
 bits (b ∷ s) = bitsOf 8 b ++ bits s
 
--- these bits replaced from place `at` on, all others as they were
-abbrev pub splice : List Bool → ℕ → List Bool → List Bool
+-- a list with these elements from place `at` on, all others as they were
+abbrev pub splice : {A : Type 0} → List A → ℕ → List A → List A
 splice l at new = take at l ++ (new ++ drop (at + length new) l)

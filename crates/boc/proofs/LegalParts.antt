@@ -1,13 +1,12 @@
 -- What a legal value of a part says of the values it is made of, one law for each way to build a codec. Assumes nothing.
 use mathlib.Core.Path.{_≡_, refl, ap}
-use mathlib.Core.Bool.{true, false}
+use mathlib.Core.Bool.{true, false, and-eq-true-iff}
 use mathlib.Core.List.{List, [], _∷_}
 use Prim.Native.Nat.{ℕ, zero, suc, _^_, _<_}
 use native.Mathlib.Omega.{arith}
 use lib.ListN.{length}
 use lib.Dec.{ltb}
 use Rattle.codec.specs.Codec.{Codec, Legal}
-use Rattle.bits.proofs.Tests.{both}
 use Rattle.codec.specs.Parts.{first-none, narrow, number, is-zero, absent, seq, tested, element, shaped, mark}
 use Rattle.codec.specs.Places.{nil, cons, places}
 use Rattle.boc.proofs.Layouts.{Each}
@@ -15,7 +14,7 @@ use Rattle.boc.proofs.Layouts.{Each}
 pub legal-seq : {A B : Type 0} (c : Codec A) (d : A → Codec B) (p : A × B) → Legal (seq c d) p → Legal c (p .0) × Legal (d (p .0)) (p .1)
 unfolding seq
 legal-seq c d p l =
-    let k = both (c .clean (p .0)) (d (p .0) .clean (p .1)) (l .clean) in
+    let k = and-eq-true-iff (c .clean (p .0)) (d (p .0) .clean (p .1)) .0 (l .clean) in
     let f = first-none (c .fault (p .0)) (d (p .0) .fault (p .1)) (l .faultless) in
     (record { clean = k .0; faultless = f .0 }, record { clean = k .1; faultless = f .1 })
 
@@ -45,7 +44,7 @@ module _ {A : Type 0} {c z : Codec A} (P : A → Type 0) (used : (a : A) → Leg
   head-tail : (x : Codec A) (y : Codec (List A)) (a : A) (l : List A) → Legal (cons x y) (a ∷ l) → Legal x a × Legal y l
   unfolding cons
   head-tail x y a l h =
-      let k = both (x .clean a) (y .clean l) (h .clean) in
+      let k = and-eq-true-iff (x .clean a) (y .clean l) .0 (h .clean) in
       let f = first-none (x .fault a) (y .fault l) (h .faultless) in
       (record { clean = k .0; faultless = f .0 }, record { clean = k .1; faultless = f .1 })
 
