@@ -18,7 +18,7 @@ pub(crate) fn restore(line: &[u8], archive: &[u8]) {
 }
 
 fn restore_to(archive: &[u8], network: u32, ssi: u32, part: u32, room: usize) {
-    let mut out = [165u8; 70000];
+    let mut out = show::full();
     let mut count: usize = 0;
     let end = bits::least(room, 70000);
     let number = boc::boc_restore(archive, network, ssi, part, &mut out[0..end], &mut count);
@@ -37,7 +37,7 @@ fn restored(number: u32, n: BitCount, out: [u8; 70000]) {
 }
 
 pub(crate) fn verify(archive: &[u8]) {
-    let mut out = [165u8; 70000];
+    let mut out = show::full();
     let mut size: usize = 0;
     let number = boc::boc_contents(archive, &mut out, &mut size);
     show::written(number, size, out);

@@ -9,7 +9,7 @@ pub struct Held {
 }
 
 pub(crate) fn nothing() -> Held {
-    let bytes = [165u8; 70000];
+    let bytes = show::full();
     Held { length: 0, bytes }
 }
 
@@ -28,7 +28,7 @@ fn after(number: u32, size: usize, bytes: [u8; 70000], held: Held) -> Held {
 pub(crate) fn empty(line: &[u8], held: Held) -> Held {
     let home = input::number_at(line, 6);
     let room = input::number_at(line, home.next);
-    let mut out = [165u8; 70000];
+    let mut out = show::full();
     let mut size: usize = 0;
     let end = bits::least(room.value as usize, 70000);
     let number = boc::boc_empty(home.value, &mut out[0..end], &mut size);
@@ -61,7 +61,7 @@ pub(crate) fn capture(line: &[u8], held: Held) -> Held {
 fn capture_in(held: Held, pdu: Pdu, room: usize) -> Held {
     let archive = held.bytes;
     let bytes = pdu.bytes;
-    let mut out = [165u8; 70000];
+    let mut out = show::full();
     let mut size: usize = 0;
     let end = bits::least(room, 70000);
     let number = boc::boc_capture(

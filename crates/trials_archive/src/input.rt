@@ -1,5 +1,10 @@
 // Numbers and bytes of a line.
 
+// Zeros, for the text of all lines.
+pub(crate) fn buffer() -> [u8; 262144] {
+    [0; 262144]
+}
+
 // A decimal number, and where the word after it begins.
 pub struct Word {
     pub value: u32,

@@ -20,7 +20,7 @@ mod show;
 use held::Held;
 
 fn main() {
-    let mut text = [0u8; 262144];
+    let mut text = input::buffer();
     let n = io::read_full(0, &mut text);
     run(&text[..n]);
     if n == 262144 {

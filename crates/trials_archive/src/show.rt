@@ -29,11 +29,16 @@ pub(crate) fn written(number: u32, size: usize, out: [u8; 70000]) {
     rest(out, size);
 }
 
+// A buffer to be lent: full of one byte.
+pub(crate) fn full() -> [u8; 70000] {
+    [165; 70000]
+}
+
 // Says so where a byte from a place on is not as it was lent.
 pub(crate) fn rest(out: [u8; 70000], from: usize) {
-    let full = [165u8; 70000];
+    let before = full();
     let at = bits::least(from, 70000);
-    if !check::same(&out[at..], &full[at..]) {
+    if !check::same(&out[at..], &before[at..]) {
         io::write_all(1, b" changed");
     }
 }
