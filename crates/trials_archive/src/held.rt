@@ -1,121 +1,128 @@
-// What a line leaves to those after it, and the calls of `archive` on it.
-use crate::buffer;
-use archive::Archived;
-use archive::Restored;
-use bits::BitCount;
+// The lines that give another archive.
+use crate::input;
+use crate::show;
 
-// The length of the held archive, and the PDU given last.
+// A buffer, and the length of the archive in it.
 pub struct Held {
     pub length: usize,
-    pub pdu: Pdu,
-}
-
-// A bit length, and the bytes given with it.
-pub struct Pdu {
-    pub bits: BitCount,
-    pub count: usize,
-    pub bytes: [u8; 520],
+    pub bytes: [u8; 70000],
 }
 
 pub(crate) fn nothing() -> Held {
-    let bytes = [0u8; 520];
-    let pdu = Pdu {
-        bits: BitCount(0),
-        count: 0,
-        bytes,
-    };
-    Held { length: 0, pdu }
+    let bytes = show::full();
+    Held { length: 0, bytes }
 }
 
-// What is held after an answer: the archive that was written, if one was.
-pub(crate) fn after(
-    answer: Archived,
-    pdu: Pdu,
-    out: &[u8],
-    archive: &mut [u8],
-    length: usize,
-) -> Held {
-    match answer {
-        Archived::Bytes(n) => {
-            buffer::keep(out, archive);
-            Held { length: n, pdu }
-        }
-        Archived::Refused(_) => Held { length, pdu },
+// Prints an answer, and gives back the archive after it.
+fn after(number: u32, size: usize, bytes: [u8; 70000], held: Held) -> Held {
+    show::written(number, size, bytes);
+    if number != 0 {
+        return held;
     }
+    Held {
+        length: size,
+        bytes,
+    }
+}
+
+pub(crate) fn empty(line: &[u8], held: Held) -> Held {
+    let home = input::number_at(line, 6);
+    let room = input::number_at(line, home.next);
+    let mut out = show::full();
+    let mut size: usize = 0;
+    let end = bits::least(room.value as usize, 70000);
+    let number = boc::boc_empty(home.value, &mut out[0..end], &mut size);
+    after(number, size, out, held)
+}
+
+// The PDU given at a place of a line: its bit length in decimal, its bytes in hexadecimal.
+struct Pdu {
+    bits: usize,
+    count: usize,
+    bytes: [u8; 520],
+}
+
+fn pdu_at(line: &[u8], at: usize) -> Pdu {
+    let length = input::number_at(line, at);
+    let mut bytes = [0u8; 520];
+    let count = input::bytes_at(line, length.next, &mut bytes);
+    Pdu {
+        bits: length.value as usize,
+        count,
+        bytes,
+    }
+}
+
+pub(crate) fn capture(line: &[u8], held: Held) -> Held {
+    let room = input::number_at(line, 8);
+    capture_in(held, pdu_at(line, room.next), room.value as usize)
+}
+
+fn capture_in(held: Held, pdu: Pdu, room: usize) -> Held {
+    let archive = held.bytes;
+    let bytes = pdu.bytes;
+    let mut out = show::full();
+    let mut size: usize = 0;
+    let end = bits::least(room, 70000);
+    let number = boc::boc_capture(
+        input::first(&archive, held.length),
+        input::first(&bytes, pdu.count),
+        pdu.bits,
+        &mut out[0..end],
+        &mut size,
+    );
+    after(number, size, out, held)
+}
+
+// Captures a PDU under each SSI from one up to another; a line for each.
+pub(crate) fn many(line: &[u8], held: Held) -> Held {
+    let from = input::number_at(line, 5);
+    let to = input::number_at(line, from.next);
+    let pdu = pdu_at(line, to.next);
+    let mut current = held;
+    let mut ssi = from.value;
+    while ssi < to.value {
+        current = capture_in(current, with_ssi(pdu, ssi), 70000);
+        io::write_all(1, b"\n");
+        ssi += 1;
+    }
+    current
 }
 
 // The same PDU for another SSI, which stands behind SS type, PDU type and range type.
-pub(crate) fn with_ssi(p: Pdu, ssi: u32) -> Pdu {
-    let mut bytes = p.bytes;
+fn with_ssi(pdu: Pdu, ssi: u32) -> Pdu {
+    let mut bytes = pdu.bytes;
     bits::put(&mut bytes, 15, 24, ssi);
-    let bits = p.bits;
     Pdu {
-        bits,
-        count: p.count,
+        bits: pdu.bits,
+        count: pdu.count,
         bytes,
     }
 }
 
-// The answer where a line asks for more bytes than a buffer has: no call is made.
-pub const NO_CALL: u32 = 0;
-
-pub(crate) fn empty(home: u32, out: &mut [u8], room: usize) -> Archived {
-    buffer::fill(out);
-    if out.len() < room {
-        return Archived::Refused(NO_CALL);
+pub(crate) fn overwrite(line: &[u8], held: Held) -> Held {
+    let at = input::number_at(line, 10);
+    let mut bytes = held.bytes;
+    let count = put(line, at.next, &mut bytes, at.value as usize);
+    show::labelled(b"put ", count as u64);
+    Held {
+        length: held.length,
+        bytes,
     }
-    archive::empty(home, &mut out[0..room])
 }
 
-pub(crate) fn capture(
-    archive: &[u8],
-    length: usize,
-    p: Pdu,
-    out: &mut [u8],
-    room: usize,
-) -> Archived {
-    buffer::fill(out);
-    let bytes = p.bytes;
-    let bits = p.bits;
-    capture_first(archive, length, &bytes, p.count, bits, out, room)
+// Puts the bytes that a line has from a place on at a place of a buffer.
+fn put(line: &[u8], from: usize, out: &mut [u8], at: usize) -> usize {
+    let start = bits::least(at, out.len());
+    input::bytes_at(line, from, &mut out[start..])
 }
 
-// Captures the PDU of the first `count` bytes into the archive of the first `length` ones.
-fn capture_first(
-    archive: &[u8],
-    length: usize,
-    s: &[u8],
-    count: usize,
-    n: BitCount,
-    out: &mut [u8],
-    room: usize,
-) -> Archived {
-    if archive.len() < length {
-        return Archived::Refused(NO_CALL);
+pub(crate) fn length(line: &[u8], held: Held) -> Held {
+    let given = input::number_at(line, 7);
+    let bytes = held.bytes;
+    show::labelled(b"was ", held.length as u64);
+    Held {
+        length: given.value as usize,
+        bytes,
     }
-    if s.len() < count {
-        return Archived::Refused(NO_CALL);
-    }
-    if out.len() < room {
-        return Archived::Refused(NO_CALL);
-    }
-    archive::capture(&archive[0..length], &s[0..count], n, &mut out[0..room])
-}
-
-pub(crate) fn restore(
-    archive: &[u8],
-    length: usize,
-    network: u32,
-    ssi: u32,
-    part: u32,
-    out: &mut [u8],
-    room: usize,
-) -> Restored {
-    if archive.len() < length {
-        return Restored::Refused(NO_CALL);
-    }
-    if out.len() < room {
-        return Restored::Refused(NO_CALL);
-    }
-    archive::restore(&archive[0..length], network, ssi, part, &mut out[0..room])
 }

@@ -1,5 +1,4 @@
 -- Each turn goes past the end of a line. Assumes nothing.
-use mathlib.Core.Path.{_≡_}
 use Prim.Native.Nat.{_-_}
 use lib.ListN.{length}
 use borrow.Author.Needs.{needs}
@@ -7,10 +6,10 @@ use Rattle.trials_archive.proofs.run.Statement.{statement}
 use Rattle.trials_archive.proofs.run.Tie as tie
 
 abbrev Inv-loop : tie.InvT-loop
-Inv-loop s archive₀ out₀ at₀ held₀ t7 archive out at held = (length archive ≡ length archive₀) × (length out ≡ length out₀)
+Inv-loop s at₀ last₀ t5 at last = Unit {0}
 
 abbrev μ-loop : tie.MeasureT-loop
-μ-loop s archive₀ out₀ at₀ held₀ t7 archive out at held = length s - at
+μ-loop s at₀ last₀ t5 at last = length s - at
 
 pub run-spec : {M : Type 1} → statement M
 run-spec =
@@ -27,8 +26,6 @@ run-spec =
     (λ c κs. search needs)
     (λ c. search needs)
     (λ c κs. search needs)
-    (λ c. search needs)
-    (λ c. search needs)
     (λ c. search needs)
     (λ c. search needs)
     (λ c. search needs)

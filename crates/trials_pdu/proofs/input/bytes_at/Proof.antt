@@ -1,4 +1,4 @@
--- Each turn fills one place; each place is within the array, and its two digits within the line. Assumes nothing.
+-- Each turn fills one place; each place is within the buffer, and its two digits within the line. Assumes nothing.
 use mathlib.Core.Path.{_≡_}
 use Prim.Native.Nat.{_-_}
 use lib.ListN.{length}
@@ -7,10 +7,10 @@ use Rattle.trials_pdu.proofs.input.bytes_at.Statement.{statement}
 use Rattle.trials_pdu.proofs.input.bytes_at.Tie as tie
 
 abbrev Inv-loop : tie.InvT-loop
-Inv-loop s from bytes₀ count k₀ bytes k = length bytes ≡ length bytes₀
+Inv-loop s from out₀ count k₀ out k = length out ≡ length out₀
 
 abbrev μ-loop : tie.MeasureT-loop
-μ-loop s from bytes₀ count k₀ bytes k = count - k
+μ-loop s from out₀ count k₀ out k = count - k
 
 pub bytes-at-spec : {M : Type 1} → statement M
 bytes-at-spec =
@@ -30,6 +30,7 @@ bytes-at-spec =
     (λ c. search needs)
     (λ c. search needs)
     (λ c κs. search needs)
+    (λ c. search needs)
     (λ c. search needs)
     (λ c. search needs)
     (λ c. search needs)
