@@ -11,7 +11,8 @@ use Rattle.pdu.specs.Accepting.{accepting}
 use Rattle.pdu.proofs.RoundTrip.{accepted-legal, written-read}
 use Rattle.boc.specs.RecordWords.{recordWords}
 use Rattle.boc.specs.Calls.{readWords, writeNumber, writeOut, writeBits}
-use Rattle.boc.proofs.RecordInverse.{Sized, record-long, record-back}
+use Rattle.boc.specs.Sized.{SizedRecord}
+use Rattle.boc.proofs.RecordInverse.{record-long, record-back}
 use Rattle.boc.proofs.LegalRecords.{record-sized}
 use Rattle.bits.specs.Bits.{Bytes}
 
@@ -22,7 +23,7 @@ module _ (s : List ℕ) (n : ℕ) (words : List ℕ) (l : length words ≡ 514) 
   whole : readIs s n ≡ accepting found
   whole = λ i. record { answer = a i; found = found }
 
-  sized : Sized found
+  sized : SizedRecord found
   sized = record-sized found (accepted-legal s n found whole)
 
   left : readWords s n words ≡ recordWords found

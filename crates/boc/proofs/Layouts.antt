@@ -7,6 +7,7 @@ use lib.ListN.{length, take, drop, length-append, length-drop}
 use lib.Seq.{take-add, drop-drop, drop-at, drop-cons, drop-append-add, getD-append-add}
 use Rattle.bits.specs.Bits.{Bytes}
 use Rattle.boc.specs.RecordWords.{word, inTurn, entriesFrom, narrow, narrowed}
+use Rattle.boc.specs.Sized.{Each}
 
 -- ---- parts of words
 
@@ -44,11 +45,6 @@ pub record Layout {A : Type 0} (n : ℕ) (to : A → List ℕ) (from : List ℕ 
   pub long : (x : A) → Fits x → length (to x) ≡ n
   pub back : (x : A) (rest : List ℕ) → Fits x → from (to x ++ rest) ≡ x
   pub forth : (w : List ℕ) → n ≤ length w → Narrow (take n w) → to (from w) ≡ take n w
-
--- what is so of each entry
-abbrev pub Each : {A : Type 0} → (A → Type 0) → List A → Type 0
-Each P [] = Unit
-Each P (x ∷ xs) = P x × Each P xs
 
 -- entries in turn
 module _ {A : Type 0} {n : ℕ} {to : A → List ℕ} {from : List ℕ → A} {Fits : A → Type 0} {Narrow : List ℕ → Type 0}

@@ -19,9 +19,7 @@ use Rattle.grammar.specs.declared.record.Numbers.{Numbers}
 use Rattle.grammar.specs.declared.record.Services.{Services}
 use Rattle.grammar.specs.declared.record.Lists.{Lists}
 use Rattle.grammar.specs.declared.record.Record.{Record}
-use Rattle.boc.proofs.Layouts.{Each}
-use Rattle.boc.proofs.ListInverse.{SizedIdentities, SizedNumber, SizedNumbers}
-use Rattle.boc.proofs.RecordInverse.{Sized}
+use Rattle.boc.specs.Sized.{Each, SizedIdentities, SizedNumber, SizedNumbers, SizedRecord}
 use Rattle.boc.proofs.LegalParts.{legal-seq, legal-shaped, legal-tested, legal-mark, legal-element, legal-absent, legal-places}
 
 abbrev Byte : ℕ → Type 0
@@ -155,7 +153,7 @@ rest-sized : (eleven : Bool) (q : Rest) → Legal (pick eleven interrogate inter
 rest-sized true q h = interrogate-sized q h
 rest-sized false q h = ack-sized q h
 
-pub record-sized : (r : Record) → Legal pdu r → Sized r
+pub record-sized : (r : Record) → Legal pdu r → SizedRecord r
 unfolding pdu
 record-sized r h =
     let users = legal-seq _ _ _ (legal-seq _ _ _ (legal-shaped _ _ _ _ _ _ (legal-mark _ _ _ _ h)) .1) in

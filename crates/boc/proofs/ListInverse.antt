@@ -15,19 +15,8 @@ use Rattle.grammar.specs.declared.record.Services.{Services}
 use Rattle.boc.specs.RecordWords.{word, narrow, narrowed}
 use Rattle.boc.specs.RecordWords.{identityWords, identitiesWords, numberWords, numbersWords, servicesWords}
 use Rattle.boc.specs.RecordWords.{identityFrom, identitiesFrom, numberFrom, numbersFrom, servicesFrom}
-use Rattle.boc.proofs.Layouts.{spelt-word, spelt-then, narrowed-bytes, Layout, Each, entries-long, entries-back, entries-forth}
-
--- ---- what the code's structs hold: every list as long as its array, lengths and digits of numbers bytes
-
-pub record SizedNumber (e : Number) : Type 0 where
-  pub digits : length (e .digits) ≡ 24
-  pub bytes : Bytes (e .length .0 ∷ e .digits)
-
-abbrev pub SizedNumbers : Numbers → Type 0
-SizedNumbers l = (length (l .entries) ≡ 8) × Each SizedNumber (l .entries)
-
-abbrev pub SizedIdentities : Identities → Type 0
-SizedIdentities l = length (l .entries) ≡ 8
+use Rattle.boc.specs.Sized.{Each, SizedNumber, SizedNumbers, SizedIdentities}
+use Rattle.boc.proofs.Layouts.{spelt-word, spelt-then, narrowed-bytes, Layout, entries-long, entries-back, entries-forth}
 
 -- ---- an identity, a number
 

@@ -10,19 +10,10 @@ use Rattle.grammar.specs.declared.record.Identities.{Identities}
 use Rattle.grammar.specs.declared.record.Record.{Record}
 use Rattle.boc.specs.RecordWords.{identitiesWords, numbersWords, servicesWords, listsWords, recordWords}
 use Rattle.boc.specs.RecordWords.{identitiesFrom, numbersFrom, servicesFrom, listsFrom, recordFrom}
+use Rattle.boc.specs.Sized.{SizedIdentities, SizedRecord}
 use Rattle.boc.proofs.Layouts.{drop-after, word-after, spelt-word, spelt-then}
-use Rattle.boc.proofs.ListInverse.{SizedIdentities, SizedNumbers, identities-long, identities-back, identities-forth}
+use Rattle.boc.proofs.ListInverse.{identities-long, identities-back, identities-forth}
 use Rattle.boc.proofs.ListInverse.{numbers-long, numbers-back, numbers-forth, services-back, services-forth}
-
--- every list as long as its array, and the lengths and digits of numbers bytes
-pub record Sized (r : Record) : Type 0 where
-  pub affected : SizedIdentities (r .affected)
-  pub services : length (r .services .list) ≡ 7
-  pub groups : SizedIdentities (r .lists .groups)
-  pub restricted : SizedIdentities (r .lists .restricted)
-  pub exceptions : SizedIdentities (r .lists .exceptions)
-  pub numbers : SizedNumbers (r .lists .numbers)
-  pub excepted : SizedNumbers (r .lists .excepted)
 
 -- ---- the five lists
 
@@ -38,7 +29,7 @@ lists-forth w h b b′ =
 
 -- ---- the record
 
-module _ (r : Record) (f : Sized r) where
+module _ (r : Record) (f : SizedRecord r) where
   lists-long : length (listsWords (r .lists)) ≡ 477
   unfolding listsWords
   lists-long =

@@ -10,22 +10,16 @@ use lib.Seq.{take-all, take-at}
 use lib.Dec.{eqb}
 use Rattle.bits.specs.Bits.{Bytes}
 use Rattle.bits.proofs.Tests.{both}
-use Rattle.barring.specs.Request.{digitsUsed}
 use Rattle.barring.specs.declared.request.Request.{Request}
 use Rattle.boc.specs.RecordWords.{word, narrowed}
 use Rattle.boc.specs.RequestWords.{areDestination, areGroup, areRequest, destinationFrom, groupFrom, requestFrom}
 use Rattle.boc.specs.RequestWords.{destinationWords, groupWords, requestWords}
+use Rattle.boc.specs.Sized.{SizedRequest}
 use Rattle.boc.proofs.Layouts.{drop-after, word-after, spelt-word, spelt-then, narrowed-bytes}
 use Rattle.boc.proofs.RequestParts.{destination-long, destination-back, are-destination, destination-forth}
 use Rattle.boc.proofs.RequestParts.{group-long, group-back, are-group, group-forth}
 
--- what a request of the code is: as many digits as its array has, and they and their count bytes
-pub record Sized (q : Request) : Type 0 where
-  pub digits : length (q .digits) ≡ 24
-  pub bytes : Bytes (q .digits)
-  pub used : digitsUsed (q .destination) < 256
-
-module _ (q : Request) (f : Sized q) where
+module _ (q : Request) (f : SizedRequest q) where
   pub request-long : length (requestWords q) ≡ 34
   unfolding requestWords
   request-long = simp length-append (omega (arith, destination-long (q .destination), f .digits, group-long (q .group)))

@@ -8,15 +8,16 @@ use Rattle.grammar.specs.declared.record.Record.{Record}
 use Rattle.barring.specs.declared.request.Request.{Request}
 use Rattle.boc.specs.RecordWords.{word, recordWords, recordFrom}
 use Rattle.boc.specs.RequestWords.{areRequest, requestWords, requestFrom}
+use Rattle.boc.specs.Sized.{SizedRecord, SizedRequest}
 use Rattle.boc.specs.Calls.{readNumber, readWords, writeNumber, writeOut, writeBits}
 use Rattle.boc.proofs.RecordInverse as records
 use Rattle.boc.proofs.RequestInverse as requests
 use Rattle.bits.specs.Bits.{Bytes}
 
--- ---- records; `Sized` is what the code's arrays and bytes make sure of
+-- ---- records
 
 -- A record has 514 words, and they are read as that record.
-pub record-words : (r : Record) → records.Sized r → (length (recordWords r) ≡ 514) × (recordFrom (recordWords r) ≡ r)
+pub record-words : (r : Record) → SizedRecord r → (length (recordWords r) ≡ 514) × (recordFrom (recordWords r) ≡ r)
 record-words r f = (records.record-long r f, records.record-back r f)
 
 -- 514 words are the words of one record, if the lengths and digits among them are bytes.
@@ -32,7 +33,7 @@ pub record Promise : Type 0 where
 -- ---- requests
 
 -- A request has 34 words; they pass as a request's, and are read as that request.
-pub request-words : (q : Request) → requests.Sized q
+pub request-words : (q : Request) → SizedRequest q
     → (length (requestWords q) ≡ 34) × (areRequest (requestWords q) ≡ true) × (requestFrom (requestWords q) ≡ q)
 request-words q f = (requests.request-long q f, requests.request-are q f, requests.request-back q f)
 
