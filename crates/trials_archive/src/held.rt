@@ -92,7 +92,7 @@ pub(crate) fn many(line: &[u8], held: Held) -> Held {
 // The same PDU for another SSI, which stands behind SS type, PDU type and range type.
 fn with_ssi(pdu: Pdu, ssi: u32) -> Pdu {
     let mut bytes = pdu.bytes;
-    bits::put(&mut bytes, 15, 24, ssi);
+    bits::put(&mut bytes, 15, 24, ssi as u64);
     Pdu {
         bits: pdu.bits,
         count: pdu.count,

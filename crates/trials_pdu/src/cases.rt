@@ -109,7 +109,7 @@ fn answer(kind: u8, i: u32, a: u32, b: u32, last: Last) -> u32 {
 // The answer to n bits of the PDU with an element in its place.
 fn with_element(last: Last, n: usize, at: usize, width: usize, value: u32) -> u32 {
     let mut bytes = last.bytes;
-    bits::put(&mut bytes, at, width, value);
+    bits::put(&mut bytes, at, width, value as u64);
     let length = BitCount(n);
     let reading = calls::read(bytes, length.bytes(), n);
     reading.number

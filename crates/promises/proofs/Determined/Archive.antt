@@ -18,8 +18,8 @@ list-determined = by-equations (λ κs a x v p. (p .0, λ i. (tt, (p .1 i, tt)))
 pub fetch-determined : Determined archive.fetch.Kinds.ps archive.fetch.Kinds.r archive.fetch.Reads.Learnt
 fetch-determined = by-equations (λ κs a x v p. (p, refl))
 
-pub check-determined : Determined archive.checking.check.Kinds.ps archive.checking.check.Kinds.r archive.checking.check.Reads.Learnt
+pub check-determined : Determined archive.check.Kinds.ps archive.check.Kinds.r archive.check.Reads.Learnt
 check-determined = by-equations (λ κs a x v p. (p, refl))
 
-pub home-determined : Determined archive.contents.home.Kinds.ps archive.contents.home.Kinds.r archive.contents.home.Reads.Learnt
+pub home-determined : Determined archive.home.Kinds.ps archive.home.Kinds.r archive.home.Reads.Learnt
 home-determined = by-equations (λ κs a x v p. (p, refl))
