@@ -1,4 +1,4 @@
--- A test of the entries of a list.
+-- What is so of the entries of a list.
 use mathlib.Core.Bool.{Bool, true, false, _&&_, _||_}
 use mathlib.Core.List.{List, [], _∷_}
 
@@ -11,3 +11,8 @@ some f (a ∷ l) = f a || some f l
 unfoldable pub every : {A : Type 0} → (A → Bool) → List A → Bool
 every f [] = true
 every f (a ∷ l) = f a && every f l
+
+-- what is so of every entry
+abbrev pub Each : {A : Type 0} → (A → Type 0) → List A → Type 0
+Each P [] = Unit
+Each P (x ∷ xs) = P x × Each P xs

@@ -6,8 +6,8 @@ use native.Mathlib.Omega.{arith}
 use lib.ListN.{length, take, drop, length-append, length-drop}
 use lib.Seq.{take-add, drop-drop, drop-at, drop-cons, drop-append-add, getD-append-add}
 use Rattle.bits.specs.Bits.{Bytes}
+use Rattle.bits.specs.Lists.{Each}
 use Rattle.boc.specs.RecordWords.{word, inTurn, entriesFrom, narrow, narrowed}
-use Rattle.boc.specs.Sized.{Each}
 
 -- ---- parts of words
 

@@ -7,6 +7,7 @@ use native.Mathlib.Omega.{arith}
 use lib.ListN.{length}
 use lib.Dec.{eqb}
 use Rattle.bits.specs.Bits.{pick, Bytes}
+use Rattle.bits.specs.Lists.{Each}
 use Rattle.codec.specs.Codec.{Legal}
 use Rattle.codec.specs.Parts.{absent}
 use Rattle.grammar.specs.SiteSheet.{entriesOf}
@@ -19,8 +20,8 @@ use Rattle.grammar.specs.declared.record.Numbers.{Numbers}
 use Rattle.grammar.specs.declared.record.Services.{Services}
 use Rattle.grammar.specs.declared.record.Lists.{Lists}
 use Rattle.grammar.specs.declared.record.Record.{Record}
-use Rattle.boc.specs.Sized.{Each, SizedIdentities, SizedNumber, SizedNumbers, SizedRecord}
-use Rattle.boc.proofs.LegalParts.{legal-seq, legal-shaped, legal-tested, legal-mark, legal-element, legal-absent, legal-places}
+use Rattle.boc.specs.Sized.{SizedIdentities, SizedNumber, SizedNumbers, SizedRecord}
+use Rattle.codec.proofs.Legality.{legal-seq, legal-shaped, legal-tested, legal-mark, legal-element, legal-absent, legal-places}
 
 abbrev Byte : ℕ → Type 0
 Byte d = d < 256

@@ -6,6 +6,5 @@ pub mod ListInverse
 pub mod RecordInverse
 pub mod RequestParts
 pub mod RequestInverse
-pub mod LegalParts
 pub mod LegalRecords
 pub mod Again

@@ -7,6 +7,7 @@ use lib.ListN.{length, take, drop, length-drop}
 use lib.Seq.{take-add, take-at, getD-take}
 use Rattle.bits.specs.Bits.{Bytes}
 use Rattle.bits.proofs.Bytes.{bytes-parts}
+use Rattle.bits.specs.Lists.{Each}
 use Rattle.grammar.specs.declared.record.Identity.{Identity}
 use Rattle.grammar.specs.declared.record.Identities.{Identities}
 use Rattle.grammar.specs.declared.record.Number.{Number}
@@ -15,7 +16,7 @@ use Rattle.grammar.specs.declared.record.Services.{Services}
 use Rattle.boc.specs.RecordWords.{word, narrow, narrowed}
 use Rattle.boc.specs.RecordWords.{identityWords, identitiesWords, numberWords, numbersWords, servicesWords}
 use Rattle.boc.specs.RecordWords.{identityFrom, identitiesFrom, numberFrom, numbersFrom, servicesFrom}
-use Rattle.boc.specs.Sized.{Each, SizedNumber, SizedNumbers, SizedIdentities}
+use Rattle.boc.specs.Sized.{SizedNumber, SizedNumbers, SizedIdentities}
 use Rattle.boc.proofs.Layouts.{spelt-word, spelt-then, narrowed-bytes, Layout, entries-long, entries-back, entries-forth}
 
 -- ---- an identity, a number

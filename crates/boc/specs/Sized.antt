@@ -1,20 +1,16 @@
 -- What the arrays and bytes of the code's structs make sure of: every list is as long as its array, and lengths and digits of numbers are bytes.
 use mathlib.Core.Path.{_≡_}
-use mathlib.Core.List.{List, [], _∷_}
+use mathlib.Core.List.{_∷_}
 use Prim.Native.Nat.{_<_}
 use lib.ListN.{length}
 use Rattle.bits.specs.Bits.{Bytes}
+use Rattle.bits.specs.Lists.{Each}
 use Rattle.grammar.specs.declared.record.Identities.{Identities}
 use Rattle.grammar.specs.declared.record.Number.{Number}
 use Rattle.grammar.specs.declared.record.Numbers.{Numbers}
 use Rattle.grammar.specs.declared.record.Record.{Record}
 use Rattle.barring.specs.Request.{digitsUsed}
 use Rattle.barring.specs.declared.request.Request.{Request}
-
--- what is so of each entry
-abbrev pub Each : {A : Type 0} → (A → Type 0) → List A → Type 0
-Each P [] = Unit
-Each P (x ∷ xs) = P x × Each P xs
 
 pub record SizedNumber (e : Number) : Type 0 where
   pub digits : length (e .digits) ≡ 24

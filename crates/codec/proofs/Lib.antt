@@ -4,4 +4,6 @@ pub mod Onward
 pub mod Filling
 pub mod Windows
 pub mod Kept
+pub mod Sizes
+pub mod Legality
 pub mod Stopping

@@ -1,4 +1,4 @@
-// The site sheet's codes: range types, digits, services. Each code has its meaning or is refused.
+// The codes of a PDU's elements, by the site sheet and the standard's tables: each has its meaning or is refused.
 ghost use mathlib.Core.Path.{_≡_};
 ghost use Prim.Native.Nat.{_<_};
 ghost use Rattle.codec.specs.Parts.{only};

@@ -12,12 +12,10 @@ use Rattle.reader.specs.declared.Answer.{Answer}
 use Rattle.reader.specs.declared.Answer.the-variants.{Accepted, Refused}
 use Rattle.reader.specs.declared.Reading.{Reading}
 
--- the paper's number of an answer: 0 for an accepted PDU, otherwise the refusal number
+-- document 01's number of an answer: 0 for an accepted PDU, otherwise the refusal number
 abbrev pub refusalOf : Answer → ℕ
 refusalOf Accepted = 0
 refusalOf (Refused n) = n
-
--- ---- the answer
 
 abbrev pub refusing : ℕ → Reading
 refusing n = record { answer = Refused n; found = zeroRecord }

@@ -10,7 +10,7 @@ use Rattle.codec.specs.Codec.{Codec, first}
 use Rattle.codec.specs.Parts.{numberFault, isZero, number, absent, element, seq, tested, shaped}
 use Rattle.tally.specs.Tally.{Tallies}
 use Rattle.tally.specs.declared.Tally.{Tally}
-use Rattle.grammar.proofs.Sizes.{Within}
+use Rattle.codec.proofs.Sizes.{Within}
 
 pub first-zero : (n : ℕ) → first n 0 ≡ n
 first-zero zero = refl

@@ -16,7 +16,7 @@ use Rattle.codec.specs.Parts.{seq}
 use Rattle.codec.specs.Places.{nil, cons, places}
 use Rattle.tally.specs.Tally.{Tallies}
 use Rattle.tally.specs.declared.Tally.{Tally}
-use Rattle.grammar.proofs.Sizes.{Within}
+use Rattle.codec.proofs.Sizes.{Within}
 use Rattle.tally.proofs.Parts.{first-zero, then, within}
 
 module _ {A : Type 0} (c z : Codec A) where

@@ -15,7 +15,7 @@ use Rattle.grammar.specs.Grammar.{identities}
 use Rattle.writer.specs.Writing.{Room, Puts}
 use Rattle.grammar.specs.declared.site.Listing.{Listing}
 use Rattle.grammar.specs.declared.record.Identities.{Identities}
-use Rattle.grammar.proofs.Sizes.{Within}
+use Rattle.codec.proofs.Sizes.{Within}
 
 -- the buffer stays as long as it is
 kept : {A : Type 0} {c : Codec A} {a : A} {s t : List ℕ} {at m : ℕ} → at + length (c .print a) ≤ 8 * length s → Puts c a s t at m → length t ≡ length s

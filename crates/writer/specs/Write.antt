@@ -27,12 +27,12 @@ lengthOf r = length (pdu .print r)
 unfoldable pub writeRefusal : Record → ℕ → ℕ
 writeRefusal r room = first (recordRefusal r) (pick (leb (bytesFor (lengthOf r)) room) 0 8)
 
--- the paper's number of an answer: 0 for success, otherwise the refusal number
+-- document 01's number of an answer: 0 for success, otherwise the refusal number
 abbrev pub writtenNumber : Written → ℕ
 writtenNumber (Bits n) = 0
 writtenNumber (Refused k) = k
 
--- the paper's answer of a refusal number, 0 for none
+-- the answer with a refusal number, 0 for none: then it is the length
 abbrev pub written : ℕ → ℕ → Written
 written bits zero = Bits (record { 0 = bits })
 written bits (suc n) = Refused (suc n)

@@ -34,7 +34,7 @@ pub fn write(r: Record, out: &mut [u8]) -> Written
     answer
 }
 
-// The answer for a buffer of `room` bytes: 3 for a PDU type that we do not read or for what must be zero; then the first fault; then 8.
+// The answer for a buffer of `room` bytes: 3 for a PDU type that we do not read or for what must be zero and is not; then the first fault; then 8.
 fn checked(r: Record, room: usize) -> Written
     ensures { λ w. ⌜ w ≡ written (lengthOf r) (writeRefusal r room) ⌝ }
 {

@@ -5,7 +5,7 @@ use borrow.Author.Needs.{needs}
 use Rattle.grammar.specs.SiteSheet.{rangeRefusal}
 use Rattle.grammar.specs.Grammar.{identity, noIdentity, identities}
 use Rattle.grammar.specs.declared.site.Row.{Row}
-use Rattle.grammar.proofs.Sizes.{size-element}
+use Rattle.codec.proofs.Sizes.{size-element}
 use Rattle.tally.proofs.Parts.{refusing, then, shape, test, within}
 use Rattle.tally.proofs.Places.{used}
 use Rattle.tally.proofs.tally_identities.Statement.{statement}

@@ -3,7 +3,7 @@ use native.Mathlib.Omega.{arith}
 use borrow.Author.Needs.{needs}
 use borrow.Author.Tests.{eq-eqb, ne-eqb}
 use Rattle.grammar.specs.Grammar.{identity, extension}
-use Rattle.grammar.proofs.Sizes.{size-element}
+use Rattle.codec.proofs.Sizes.{size-element}
 use Rattle.tally.proofs.Parts.{numbered, then, shape, within}
 use Rattle.tally.proofs.tally_identity.Statement.{statement}
 use Rattle.tally.proofs.tally_identity.Tie as tie

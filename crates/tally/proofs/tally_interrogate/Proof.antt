@@ -3,7 +3,8 @@ use native.Mathlib.Omega.{arith}
 use borrow.Author.Needs.{needs}
 use Rattle.grammar.specs.SiteSheet.{askedRefusal}
 use Rattle.grammar.specs.Grammar.{interrogate}
-use Rattle.grammar.proofs.Sizes.{size-element, size-absent, size-noServices}
+use Rattle.codec.proofs.Sizes.{size-element, size-absent}
+use Rattle.grammar.proofs.Sizes.{size-noServices}
 use Rattle.tally.proofs.Parts.{refusing, then, within}
 use Rattle.tally.proofs.tally_interrogate.Statement.{statement}
 use Rattle.tally.proofs.tally_interrogate.Tie as tie

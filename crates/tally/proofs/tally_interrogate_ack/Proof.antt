@@ -3,7 +3,8 @@ use native.Mathlib.Omega.{arith}
 use borrow.Author.Needs.{needs}
 use Rattle.grammar.specs.SiteSheet.{resultRefusal}
 use Rattle.grammar.specs.Grammar.{interrogateAck}
-use Rattle.grammar.proofs.Sizes.{size-element, size-absent, size-services}
+use Rattle.codec.proofs.Sizes.{size-element, size-absent}
+use Rattle.grammar.proofs.Sizes.{size-services}
 use Rattle.tally.proofs.Parts.{refusing, numbered, then, within}
 use Rattle.tally.proofs.tally_interrogate_ack.Statement.{statement}
 use Rattle.tally.proofs.tally_interrogate_ack.Tie as tie

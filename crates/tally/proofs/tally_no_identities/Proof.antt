@@ -2,7 +2,7 @@
 use native.Mathlib.Omega.{arith}
 use borrow.Author.Needs.{needs}
 use Rattle.grammar.specs.Grammar.{identity, noIdentity, noIdentities}
-use Rattle.grammar.proofs.Sizes.{size-absent}
+use Rattle.codec.proofs.Sizes.{size-absent}
 use Rattle.tally.proofs.Parts.{then, shape, within}
 use Rattle.tally.proofs.Places.{unused}
 use Rattle.tally.proofs.tally_no_identities.Statement.{statement}

@@ -4,7 +4,7 @@ use borrow.Author.Needs.{needs}
 use Rattle.codec.specs.Parts.{absent, element}
 use Rattle.grammar.specs.SiteSheet.{serviceRefusal}
 use Rattle.grammar.specs.Grammar.{noServices}
-use Rattle.grammar.proofs.Sizes.{size-absent}
+use Rattle.codec.proofs.Sizes.{size-absent}
 use Rattle.tally.proofs.Parts.{then, shape, within}
 use Rattle.tally.proofs.Places.{unused}
 use Rattle.tally.proofs.tally_no_services.Statement.{statement}

@@ -4,7 +4,7 @@ use borrow.Author.Needs.{needs}
 use Rattle.codec.specs.Parts.{absent, element}
 use Rattle.grammar.specs.SiteSheet.{lengthRefusal, digitRefusal}
 use Rattle.grammar.specs.Grammar.{external, noExternal}
-use Rattle.grammar.proofs.Sizes.{size-element, size-absent}
+use Rattle.codec.proofs.Sizes.{size-element, size-absent}
 use Rattle.tally.proofs.Parts.{refusing, then, shape, within}
 use Rattle.tally.proofs.Places.{unused}
 use Rattle.tally.proofs.tally_number_place.Statement.{statement}

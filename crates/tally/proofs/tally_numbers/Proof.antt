@@ -6,7 +6,7 @@ use Rattle.grammar.specs.SiteSheet.{rangeRefusal}
 use Rattle.grammar.specs.Grammar.{external, noExternal, externals}
 use Rattle.grammar.specs.declared.site.Listing.the-variants.{Numbers}
 use Rattle.grammar.specs.declared.site.Row.{Row}
-use Rattle.grammar.proofs.Sizes.{size-element}
+use Rattle.codec.proofs.Sizes.{size-element}
 use Rattle.tally.proofs.Parts.{refusing, then, shape, within}
 use Rattle.tally.proofs.Places.{used}
 use Rattle.tally.proofs.tally_numbers.Statement.{statement}

@@ -7,7 +7,8 @@ use Rattle.codec.specs.Parts.{mark, only}
 use Rattle.grammar.specs.SiteSheet.{ssType, kindRefusal}
 use Rattle.grammar.specs.Grammar.{pdu}
 use Rattle.grammar.specs.declared.site.Listing.the-variants.{Users}
-use Rattle.grammar.proofs.Sizes.{size-element, size-identities}
+use Rattle.codec.proofs.Sizes.{size-element}
+use Rattle.grammar.proofs.Sizes.{size-identities}
 use Rattle.tally.proofs.Parts.{refusing, then, shape, within}
 use Rattle.tally.proofs.tally_record.Statement.{statement}
 use Rattle.tally.proofs.tally_record.Tie as tie

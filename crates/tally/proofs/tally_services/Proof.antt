@@ -3,7 +3,7 @@ use native.Mathlib.Omega.{arith}
 use borrow.Author.Needs.{needs}
 use Rattle.grammar.specs.SiteSheet.{countRefusal}
 use Rattle.grammar.specs.Grammar.{services}
-use Rattle.grammar.proofs.Sizes.{size-element}
+use Rattle.codec.proofs.Sizes.{size-element}
 use Rattle.tally.proofs.Parts.{refusing, then, shape, within}
 use Rattle.tally.proofs.tally_services.Statement.{statement}
 use Rattle.tally.proofs.tally_services.Tie as tie

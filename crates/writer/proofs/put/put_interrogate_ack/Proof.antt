@@ -3,7 +3,7 @@ use native.Mathlib.Omega.{arith}
 use borrow.Author.Needs.{needs}
 use Rattle.grammar.specs.SiteSheet.{resultRefusal}
 use Rattle.grammar.specs.Grammar.{interrogateAck}
-use Rattle.grammar.proofs.Sizes.{size-absent}
+use Rattle.codec.proofs.Sizes.{size-absent}
 use Rattle.writer.proofs.Puts.{room-first, room-next, room-element, put-then, put-element, put-none}
 use Rattle.writer.proofs.put.put_interrogate_ack.Statement.{statement}
 use Rattle.writer.proofs.put.put_interrogate_ack.Tie as tie

@@ -4,7 +4,8 @@ use borrow.Author.Needs.{needs}
 use borrow.Author.Tests.{eq-eqb, ne-eqb}
 use Rattle.grammar.specs.SiteSheet.{askedRefusal}
 use Rattle.grammar.specs.Grammar.{interrogate}
-use Rattle.grammar.proofs.Sizes.{size-seq, size-absent, size-noServices, size-noPart}
+use Rattle.codec.proofs.Sizes.{size-seq, size-absent}
+use Rattle.grammar.proofs.Sizes.{size-noServices, size-noPart}
 use Rattle.writer.proofs.Puts.{room-first, room-element, put-then, put-element, put-none}
 use Rattle.writer.proofs.put.put_rest.Statement.{statement}
 use Rattle.writer.proofs.put.put_rest.Tie as tie

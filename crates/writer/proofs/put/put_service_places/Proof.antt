@@ -6,7 +6,7 @@ use borrow.Author.Needs.{needs}
 use lib.ListN.{length}
 use Rattle.codec.specs.Parts.{absent, element}
 use Rattle.grammar.specs.SiteSheet.{serviceRefusal}
-use Rattle.grammar.proofs.Sizes.{size-absent}
+use Rattle.codec.proofs.Sizes.{size-absent}
 use Rattle.writer.proofs.Puts.{room-element, put-element}
 use Rattle.writer.proofs.PutsPlaces.{Putting, putting-start, putting-room, putting-next, putting-done, putting-full}
 use Rattle.writer.proofs.put.put_service_places.Statement.{statement}

@@ -6,10 +6,10 @@ use Prim.Native.Nat.{ℕ, zero, suc, _^_, _<_}
 use native.Mathlib.Omega.{arith}
 use lib.ListN.{length}
 use lib.Dec.{ltb}
+use Rattle.bits.specs.Lists.{Each}
 use Rattle.codec.specs.Codec.{Codec, Legal}
 use Rattle.codec.specs.Parts.{first-none, narrow, number, is-zero, absent, seq, tested, element, shaped, mark}
 use Rattle.codec.specs.Places.{nil, cons, places}
-use Rattle.boc.specs.Sized.{Each}
 
 pub legal-seq : {A B : Type 0} (c : Codec A) (d : A → Codec B) (p : A × B) → Legal (seq c d) p → Legal c (p .0) × Legal (d (p .0)) (p .1)
 unfolding seq
