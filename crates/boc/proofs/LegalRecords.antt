@@ -8,11 +8,11 @@ use lib.ListN.{length}
 use lib.Dec.{eqb}
 use Rattle.bits.specs.Bits.{pick, Bytes}
 use Rattle.bits.specs.Lists.{Each}
-use Rattle.codec.specs.Codec.{Legal}
-use Rattle.codec.specs.Parts.{absent}
+use Rattle.codec.specs.Codec.{Codec, Legal}
+use Rattle.codec.specs.Parts.{absent, seq}
 use Rattle.grammar.specs.SiteSheet.{entriesOf}
 use Rattle.grammar.specs.Grammar.{identities, noIdentities, external, noExternal, externals, noExternals, services, noServices}
-use Rattle.grammar.specs.Grammar.{identityPart, numberPart, noPart, Rest, interrogate, interrogateAck, fromRecord, pdu}
+use Rattle.grammar.specs.Grammar.{identityPart, numberPart, noPart, Rest, interrogate, interrogateAck, fromLists, fromRecord, pdu}
 use Rattle.grammar.specs.declared.site.Listing.{Listing}
 use Rattle.grammar.specs.declared.record.Identities.{Identities}
 use Rattle.grammar.specs.declared.record.Number.{Number}
@@ -20,7 +20,7 @@ use Rattle.grammar.specs.declared.record.Numbers.{Numbers}
 use Rattle.grammar.specs.declared.record.Services.{Services}
 use Rattle.grammar.specs.declared.record.Lists.{Lists}
 use Rattle.grammar.specs.declared.record.Record.{Record}
-use Rattle.boc.specs.Sized.{SizedIdentities, SizedNumber, SizedNumbers, SizedRecord}
+use Rattle.boc.specs.Sized.{SizedIdentities, SizedNumber, SizedNumbers, SizedLists, SizedRecord}
 use Rattle.codec.proofs.Legality.{legal-seq, legal-shaped, legal-tested, legal-mark, legal-element, legal-absent, legal-places}
 
 abbrev Byte : ℕ → Type 0
@@ -78,61 +78,33 @@ no-services-sized s h = legal-places (λ e. Unit) (λ e x. tt) (λ e x. tt) 7 0 
 
 -- ---- the five lists, by the result
 
-record SizedLists (l : Lists) : Type 0 where
-  groups : SizedIdentities (l .groups)
-  restricted : SizedIdentities (l .restricted)
-  exceptions : SizedIdentities (l .exceptions)
-  numbers : SizedNumbers (l .numbers)
-  excepted : SizedNumbers (l .excepted)
-
-identity-part-sized : (l : Lists) → Legal identityPart l → SizedLists l
-unfolding identityPart
-identity-part-sized l h =
-    let g = legal-seq _ _ _ (legal-shaped _ _ _ _ _ _ h) in
+-- each list by a part whose legal values are sized
+lists-sized : {g r x : Codec Identities} {n y : Codec Numbers} → ((l : Identities) → Legal g l → SizedIdentities l)
+    → ((l : Identities) → Legal r l → SizedIdentities l) → ((l : Identities) → Legal x l → SizedIdentities l)
+    → ((l : Numbers) → Legal n l → SizedNumbers l) → ((l : Numbers) → Legal y l → SizedNumbers l)
+    → (l : Lists) → Legal (seq g (λ a. seq r (λ b. seq x (λ c. seq n (λ d. y))))) (fromLists l) → SizedLists l
+lists-sized groups restricted exceptions numbers excepted l h =
+    let g = legal-seq _ _ _ h in
     let r = legal-seq _ _ _ (g .1) in
     let x = legal-seq _ _ _ (r .1) in
     let n = legal-seq _ _ _ (x .1) in
     record {
-      groups = identities-sized _ _ (g .0);
-      restricted = identities-sized _ _ (r .0);
-      exceptions = identities-sized _ _ (x .0);
-      numbers = no-externals-sized _ (n .0);
-      excepted = no-externals-sized _ (n .1);
-    }
-
-number-part-sized : (l : Lists) → Legal numberPart l → SizedLists l
-unfolding numberPart
-number-part-sized l h =
-    let g = legal-seq _ _ _ (legal-shaped _ _ _ _ _ _ h) in
-    let r = legal-seq _ _ _ (g .1) in
-    let x = legal-seq _ _ _ (r .1) in
-    let n = legal-seq _ _ _ (x .1) in
-    record {
-      groups = identities-sized _ _ (g .0);
-      restricted = no-identities-sized _ (r .0);
-      exceptions = no-identities-sized _ (x .0);
-      numbers = externals-sized _ (n .0);
-      excepted = externals-sized _ (n .1);
+      groups = groups _ (g .0);
+      restricted = restricted _ (r .0);
+      exceptions = exceptions _ (x .0);
+      numbers = numbers _ (n .0);
+      excepted = excepted _ (n .1);
     }
 
 no-part-sized : (l : Lists) → Legal noPart l → SizedLists l
 unfolding noPart
-no-part-sized l h =
-    let g = legal-seq _ _ _ (legal-shaped _ _ _ _ _ _ h) in
-    let r = legal-seq _ _ _ (g .1) in
-    let x = legal-seq _ _ _ (r .1) in
-    let n = legal-seq _ _ _ (x .1) in
-    record {
-      groups = no-identities-sized _ (g .0);
-      restricted = no-identities-sized _ (r .0);
-      exceptions = no-identities-sized _ (x .0);
-      numbers = no-externals-sized _ (n .0);
-      excepted = no-externals-sized _ (n .1);
-    }
+no-part-sized l h = lists-sized no-identities-sized no-identities-sized no-identities-sized no-externals-sized no-externals-sized l (legal-shaped _ _ _ _ _ _ h)
 
 part-sized : (one two : Bool) (l : Lists) → Legal (pick one identityPart (pick two numberPart noPart)) l → SizedLists l
-part-sized true two l h = identity-part-sized l h
-part-sized false true l h = number-part-sized l h
+unfolding identityPart numberPart
+part-sized true two l h =
+    lists-sized (identities-sized _) (identities-sized _) (identities-sized _) no-externals-sized no-externals-sized l (legal-shaped _ _ _ _ _ _ h)
+part-sized false true l h = lists-sized (identities-sized _) no-identities-sized no-identities-sized externals-sized externals-sized l (legal-shaped _ _ _ _ _ _ h)
 part-sized false false l h = no-part-sized l h
 
 -- ---- the record
@@ -159,13 +131,4 @@ unfolding pdu
 record-sized r h =
     let users = legal-seq _ _ _ (legal-seq _ _ _ (legal-shaped _ _ _ _ _ _ (legal-mark _ _ _ _ h)) .1) in
     let rest = rest-sized (eqb (r .kind) 11) (fromRecord r .1 .1) (users .1) in
-    let l = rest .1 in
-    record {
-      affected = identities-sized _ _ (users .0);
-      services = rest .0;
-      groups = l .groups;
-      restricted = l .restricted;
-      exceptions = l .exceptions;
-      numbers = l .numbers;
-      excepted = l .excepted;
-    }
+    record { affected = identities-sized _ _ (users .0); services = rest .0; lists = rest .1 }

@@ -34,11 +34,11 @@ module _ (r : Record) (f : SizedRecord r) where
   unfolding listsWords
   lists-long =
       let l = r .lists in
-      let g = identities-long (l .groups) (f .groups) in
-      let e = identities-long (l .restricted) (f .restricted) in
-      let x = identities-long (l .exceptions) (f .exceptions) in
-      let n = numbers-long (l .numbers) (f .numbers) in
-      let y = numbers-long (l .excepted) (f .excepted) in
+      let g = identities-long (l .groups) (f .lists .groups) in
+      let e = identities-long (l .restricted) (f .lists .restricted) in
+      let x = identities-long (l .exceptions) (f .lists .exceptions) in
+      let n = numbers-long (l .numbers) (f .lists .numbers) in
+      let y = numbers-long (l .excepted) (f .lists .excepted) in
       simp length-append (omega arith)
 
   lists-back : listsFrom (listsWords (r .lists)) ≡ r .lists
@@ -53,16 +53,16 @@ module _ (r : Record) (f : SizedRecord r) where
       let past : (s : Identities) → SizedIdentities s → (q : List ℕ) (k : ℕ) → drop (25 + k) (identitiesWords s ++ q) ≡ drop k q =
       λ s z q k. drop-after (identitiesWords s) q 25 k (identities-long s z)
       in
-      let e : (k : ℕ) → drop (25 + k) w ≡ drop k from-e = past (l .groups) (f .groups) from-e in
-      let x : (k : ℕ) → drop (25 + k) from-e ≡ drop k from-x = past (l .restricted) (f .restricted) from-x in
-      let n : (k : ℕ) → drop (25 + k) from-x ≡ drop k from-n = past (l .exceptions) (f .exceptions) from-n in
-      let last : drop 201 from-n ≡ y = drop-after (numbersWords (l .numbers)) y 201 0 (numbers-long (l .numbers) (f .numbers)) in
+      let e : (k : ℕ) → drop (25 + k) w ≡ drop k from-e = past (l .groups) (f .lists .groups) from-e in
+      let x : (k : ℕ) → drop (25 + k) from-e ≡ drop k from-x = past (l .restricted) (f .lists .restricted) from-x in
+      let n : (k : ℕ) → drop (25 + k) from-x ≡ drop k from-n = past (l .exceptions) (f .lists .exceptions) from-n in
+      let last : drop 201 from-n ≡ y = drop-after (numbersWords (l .numbers)) y 201 0 (numbers-long (l .numbers) (f .lists .numbers)) in
       λ i. record {
-        groups = identities-back (l .groups) (f .groups) from-e i;
-        restricted = (ap identitiesFrom (e 0) ∙ identities-back (l .restricted) (f .restricted) from-x) i;
-        exceptions = (ap identitiesFrom (e 25 ∙ x 0) ∙ identities-back (l .exceptions) (f .exceptions) from-n) i;
-        numbers = (ap numbersFrom (e 50 ∙ x 25 ∙ n 0) ∙ numbers-back (l .numbers) (f .numbers) y) i;
-        excepted = (ap numbersFrom (e 251 ∙ x 226 ∙ n 201 ∙ last ∙ sym (append-nil y)) ∙ numbers-back (l .excepted) (f .excepted) []) i;
+        groups = identities-back (l .groups) (f .lists .groups) from-e i;
+        restricted = (ap identitiesFrom (e 0) ∙ identities-back (l .restricted) (f .lists .restricted) from-x) i;
+        exceptions = (ap identitiesFrom (e 25 ∙ x 0) ∙ identities-back (l .exceptions) (f .lists .exceptions) from-n) i;
+        numbers = (ap numbersFrom (e 50 ∙ x 25 ∙ n 0) ∙ numbers-back (l .numbers) (f .lists .numbers) y) i;
+        excepted = (ap numbersFrom (e 251 ∙ x 226 ∙ n 201 ∙ last ∙ sym (append-nil y)) ∙ numbers-back (l .excepted) (f .lists .excepted) []) i;
       }
 
   pub record-long : length (recordWords r) ≡ 514

@@ -8,6 +8,7 @@ use Rattle.bits.specs.Lists.{Each}
 use Rattle.grammar.specs.declared.record.Identities.{Identities}
 use Rattle.grammar.specs.declared.record.Number.{Number}
 use Rattle.grammar.specs.declared.record.Numbers.{Numbers}
+use Rattle.grammar.specs.declared.record.Lists.{Lists}
 use Rattle.grammar.specs.declared.record.Record.{Record}
 use Rattle.barring.specs.Request.{digitsUsed}
 use Rattle.barring.specs.declared.request.Request.{Request}
@@ -22,14 +23,17 @@ SizedNumbers l = (length (l .entries) ≡ 8) × Each SizedNumber (l .entries)
 abbrev pub SizedIdentities : Identities → Type 0
 SizedIdentities l = length (l .entries) ≡ 8
 
+pub record SizedLists (l : Lists) : Type 0 where
+  pub groups : SizedIdentities (l .groups)
+  pub restricted : SizedIdentities (l .restricted)
+  pub exceptions : SizedIdentities (l .exceptions)
+  pub numbers : SizedNumbers (l .numbers)
+  pub excepted : SizedNumbers (l .excepted)
+
 pub record SizedRecord (r : Record) : Type 0 where
   pub affected : SizedIdentities (r .affected)
   pub services : length (r .services .list) ≡ 7
-  pub groups : SizedIdentities (r .lists .groups)
-  pub restricted : SizedIdentities (r .lists .restricted)
-  pub exceptions : SizedIdentities (r .lists .exceptions)
-  pub numbers : SizedNumbers (r .lists .numbers)
-  pub excepted : SizedNumbers (r .lists .excepted)
+  pub lists : SizedLists (r .lists)
 
 pub record SizedRequest (q : Request) : Type 0 where
   pub digits : length (q .digits) ≡ 24

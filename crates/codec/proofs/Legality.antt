@@ -1,22 +1,27 @@
 -- What a legal value of a part says of the values it is made of, one law for each way to build a codec. Assumes nothing.
 use mathlib.Core.Path.{_≡_, refl, ap}
-use mathlib.Core.Bool.{true, false, and-eq-true-iff}
+use mathlib.Core.Bool.{true, false, _&&_, and-eq-true-iff}
 use mathlib.Core.List.{List, [], _∷_}
 use Prim.Native.Nat.{ℕ, zero, suc, _^_, _<_}
 use native.Mathlib.Omega.{arith}
 use lib.ListN.{length}
 use lib.Dec.{ltb}
 use Rattle.bits.specs.Lists.{Each}
-use Rattle.codec.specs.Codec.{Codec, Legal}
+use Rattle.codec.specs.Codec.{Codec, Legal, first}
 use Rattle.codec.specs.Parts.{first-none, narrow, number, is-zero, absent, seq, tested, element, shaped, mark}
 use Rattle.codec.specs.Places.{nil, cons, places}
 
+-- two parts that are clean and faultless together are legal, each
+each-legal : {A B : Type 0} (c : Codec A) (d : Codec B) (a : A) (b : B) → c .clean a && d .clean b ≡ true → first (c .fault a) (d .fault b) ≡ 0
+    → Legal c a × Legal d b
+each-legal c d a b clean faultless =
+    let k = and-eq-true-iff (c .clean a) (d .clean b) .0 clean in
+    let f = first-none (c .fault a) (d .fault b) faultless in
+    (record { clean = k .0; faultless = f .0 }, record { clean = k .1; faultless = f .1 })
+
 pub legal-seq : {A B : Type 0} (c : Codec A) (d : A → Codec B) (p : A × B) → Legal (seq c d) p → Legal c (p .0) × Legal (d (p .0)) (p .1)
 unfolding seq
-legal-seq c d p l =
-    let k = and-eq-true-iff (c .clean (p .0)) (d (p .0) .clean (p .1)) .0 (l .clean) in
-    let f = first-none (c .fault (p .0)) (d (p .0) .fault (p .1)) (l .faultless) in
-    (record { clean = k .0; faultless = f .0 }, record { clean = k .1; faultless = f .1 })
+legal-seq c d p l = each-legal c (d (p .0)) (p .0) (p .1) (l .clean) (l .faultless)
 
 pub legal-shaped : {A B : Type 0} (c : Codec A) (to : A → B) (from : B → A) (there : (a : A) → c .clean a ≡ true → c .fault a ≡ 0 → from (to a) ≡ a)
     (back : (b : B) → to (from b) ≡ b) (b : B) → Legal (shaped c to from there back) b → Legal c (from b)
@@ -43,10 +48,7 @@ legal-absent v l = is-zero v (l .clean)
 module _ {A : Type 0} {c z : Codec A} (P : A → Type 0) (used : (a : A) → Legal c a → P a) (unused : (a : A) → Legal z a → P a) where
   head-tail : (x : Codec A) (y : Codec (List A)) (a : A) (l : List A) → Legal (cons x y) (a ∷ l) → Legal x a × Legal y l
   unfolding cons
-  head-tail x y a l h =
-      let k = and-eq-true-iff (x .clean a) (y .clean l) .0 (h .clean) in
-      let f = first-none (x .fault a) (y .fault l) (h .faultless) in
-      (record { clean = k .0; faultless = f .0 }, record { clean = k .1; faultless = f .1 })
+  head-tail x y a l h = each-legal x y a l (h .clean) (h .faultless)
 
   pub legal-places : (m n : ℕ) (l : List A) → Legal (places c z m n) l → (length l ≡ m) × Each P l
   unfolding places nil cons
