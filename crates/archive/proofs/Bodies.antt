@@ -9,16 +9,16 @@ use lib.Dec.{leb, eqb}
 use borrow.Author.Tests.{leb-true}
 use Rattle.bits.specs.Bits.{pick}
 use Rattle.bits.proofs.Tests.{differ, both}
-use Rattle.reader.specs.Read.{readIs}
 use Rattle.grammar.specs.declared.record.Identity.{Identity}
 use Rattle.grammar.specs.declared.record.Record.{Record}
+use Rattle.grammar.specs.Grammar.{networkOf}
+use Rattle.reader.specs.Read.{readIs}
 use Rattle.reader.specs.declared.Answer.{Answer}
 use Rattle.reader.specs.declared.Answer.the-variants.{Accepted, Refused}
 use Rattle.pdu.proofs.Accepted.{accepted-framed, accepted-small}
-use Rattle.archive.specs.Model.{Held, bodySize}
-use Rattle.grammar.specs.Grammar.{networkOf}
 use Rattle.judging.specs.Judge.{isAccepted, mayHold, userOf, judgedIs}
 use Rattle.judging.specs.declared.Judged.the-variants.{Part, Other}
+use Rattle.archive.specs.Model.{Held, bodySize}
 use Rattle.archive.specs.Filing.{entryFor, filingOf, agrees, bodyAgrees}
 use Rattle.archive.specs.Seeking.{EntryFits, filingFor}
 use Rattle.archive.specs.declared.contents.Entry.{Entry}

@@ -13,8 +13,8 @@ use Rattle.bits.proofs.Tests.{both}
 use Rattle.reader.specs.Read.{readIs}
 use Rattle.reader.specs.declared.Answer.{Answer}
 use Rattle.reader.specs.declared.Answer.the-variants as reader
-use Rattle.archive.specs.Model.{Archive, bytesOf, lengthOf, withinLimits}
 use Rattle.judging.specs.Judge.{mayHold}
+use Rattle.archive.specs.Model.{Archive, bytesOf, lengthOf, withinLimits}
 use Rattle.archive.specs.Filing.{wellFormed}
 use Rattle.archive.specs.Reading.{reading, isArchive}
 use Rattle.archive.specs.Keeping.{heldFor, captured, ifAccepted, placed, captureIs, captureOut}

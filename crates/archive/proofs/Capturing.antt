@@ -10,8 +10,8 @@ use Rattle.bits.proofs.Tests.{and-false, both⁻¹}
 use Rattle.reader.specs.Read.{readIs}
 use Rattle.reader.specs.declared.Answer.{Answer}
 use Rattle.reader.specs.declared.Answer.the-variants as reader
-use Rattle.archive.specs.Model.{bytesOf, Archive, lengthOf, withinLimits}
 use Rattle.judging.specs.Judge.{isAccepted, mayHold}
+use Rattle.archive.specs.Model.{bytesOf, Archive, lengthOf, withinLimits}
 use Rattle.archive.specs.Filing.{entryFor, filingOf}
 use Rattle.archive.specs.Reading.{homeOf, reading, isArchive}
 use Rattle.archive.specs.Keeping.{leaves, heldFor, captured, ifAccepted, placed, captureIs, captureOut}

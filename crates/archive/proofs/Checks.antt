@@ -8,12 +8,12 @@ use native.Mathlib.Nat.{not-suc-le-zero}
 use lib.ListN.{length}
 use lib.Dec.{ltb, leb, eqb}
 use borrow.Author.Tests.{leb-true, ltb-true, eqb-true, lt-ltb, le-ltb, ne-eqb}
+use Rattle.bits.specs.Bits.{Bytes}
+use Rattle.bits.proofs.Tests.{and-false, both}
 use Rattle.archive.specs.Model.{Held, keyOf, headerWidth, entryWidth, sizes, withinLimits}
 use Rattle.archive.specs.Filing.{bodyAgrees, keepsRules, wellFormed}
 use Rattle.archive.specs.Reading.{number3, countOf, sizeAt, heldAt, heldFrom, bodiesAt, heldIn, reading, isArchive}
 use Rattle.archive.proofs.Walks.{number3-small, heldFrom-next, length-heldFrom, sizes-next}
-use Rattle.bits.specs.Bits.{Bytes}
-use Rattle.bits.proofs.Tests.{and-false, both}
 
 -- ---- entry by entry
 

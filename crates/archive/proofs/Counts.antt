@@ -11,8 +11,8 @@ use Rattle.bits.specs.Bits.{pick}
 use Rattle.bits.proofs.Tests.{both}
 use Rattle.reader.specs.Read.{readIs}
 use Rattle.reader.specs.declared.Answer.the-variants as reader
-use Rattle.archive.specs.Model.{Held, keyOf, Rising, no-key, next-key, headerWidth, lengthOf}
 use Rattle.judging.specs.Judge.{mayHold}
+use Rattle.archive.specs.Model.{Held, keyOf, Rising, no-key, next-key, headerWidth, lengthOf}
 use Rattle.archive.specs.Filing.{keepsRules, wellFormed}
 use Rattle.archive.specs.Reading.{countOf, bodiesAt, heldIn, reading, isArchive, Counted}
 use Rattle.archive.specs.Keeping.{put, heldFor, captured, placed, captureIs}

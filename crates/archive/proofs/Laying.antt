@@ -1,5 +1,5 @@
--- Bytes laid out in a buffer, one part after the other. Assumes nothing.
-use mathlib.Core.Path.{_≡_, refl, ap, ap₂, _∙_}
+-- Bytes copied to a buffer: by a loop, by a part that is lent on, at its front; and how long the parts of a capture are. Assumes nothing.
+use mathlib.Core.Path.{_≡_, refl, ap, _∙_}
 use mathlib.Core.List.{List, [], _∷_, _++_, append-nil}
 use Prim.Native.Nat.{ℕ, zero, suc, _+_, _-_, _≤_, _<_}
 use native.Mathlib.Omega.{arith}
@@ -7,11 +7,10 @@ use native.Mathlib.Nat.{le-of-suc-le-suc, not-suc-le-zero, zero-add, add-sub-can
 use native.Mathlib.Numerals.{add-one}
 use lib.ListN.{length, getD, take, drop, set, length-append, length-take, length-drop, drop-of-length-le}
 use lib.Seq.{take-all, drop-drop}
-use Rattle.bits.specs.Bits.{splice}
-use Rattle.bits.proofs.Splices.{splice-splice}
+use Rattle.bits.specs.Laying.{Laid}
 use Rattle.archive.specs.Model.{headerWidth, entryWidth, headerBytes, entryBytes}
 use Rattle.archive.specs.Keeping.{over}
-use Rattle.archive.specs.Seeking.{nextAt, restAt, Within, frontOf, backOf, spliced, splicedLength, Laid}
+use Rattle.archive.specs.Seeking.{nextAt, restAt, Within, frontOf, backOf, spliced, splicedLength}
 use Rattle.archive.specs.declared.checking.Place.{Place}
 use Rattle.archive.specs.declared.contents.Entry.{Entry}
 
@@ -50,13 +49,6 @@ length-spliced b p count e body w =
     let l₂ : length (take (length b - restAt p) (drop (restAt p) b)) ≡ length b - restAt p = length-part b (restAt p) (length b - restAt p) (omega (arith, w .bodies)) in
     let l₃ = length-front b (p .at) count e (w .first) (omega (arith, w .contents, w .bodies)) in
     simp (length-append, l₁, l₂, l₃) (omega arith)
-
--- one part after the other
-pub then : {out out′ out″ s t : List ℕ} {at m end : ℕ} → at ≤ length out → Laid out at s out′ m → Laid out′ m t out″ end → Laid out at (s ++ t) out″ end
-then {out} {s = s} {t = t} {at = at} h x y = record {
-  ends = omega (arith, y .ends, x .ends, length-append s t);
-  same = y .same ∙ ap₂ (λ (l : List ℕ) (k : ℕ). splice l k t) (x .same) (x .ends) ∙ splice-splice out at s t h;
-}
 
 -- at the front of a buffer
 pub at-front : {out s out′ : List ℕ} {end : ℕ} → Laid out 0 s out′ end → (end ≡ length s) × (out′ ≡ over s out)

@@ -5,39 +5,17 @@ use mathlib.Core.List.{List, [], _∷_, _++_}
 use Prim.Native.Nat.{ℕ, zero, suc, _+_, _-_, _≤_, _<_}
 use native.Mathlib.Omega.{arith}
 use native.Mathlib.Nat.{not-suc-le-zero}
-use native.Mathlib.Numerals.{add-one}
-use lib.ListN.{length, set, length-append}
-use lib.Seq.{set-split}
+use lib.ListN.{length, length-append}
 use lib.Dec.{leb}
 use borrow.Author.Tests.{leb-true}
 use Rattle.bits.specs.Bits.{pick}
-use Rattle.bits.proofs.Splices.{length-splice, splice-nil}
 use Rattle.archive.specs.Model.{headerWidth, entryWidth}
 use Rattle.archive.specs.Reading.{homeOf, countOf, entryAt, sizeAt, heldFrom, bodiesAt, reading, isArchive}
-use Rattle.archive.specs.Seeking.{Laid, linesFrom}
+use Rattle.archive.specs.Seeking.{linesFrom}
 use Rattle.archive.specs.Listing.{decimal, item, firstLine, line, lines, listing, listIs}
 use Rattle.archive.specs.declared.contents.Entry.{Entry}
 use Rattle.archive.specs.declared.listing.Listed.the-variants.{Bytes, Refused}
 use Rattle.archive.proofs.Walks.{home-is, length-heldFrom}
-
--- ---- laid out
-
--- one byte
-pub one : (out : List ℕ) (at x : ℕ) → at < length out → Laid out at (x ∷ []) (set out at x) (at + 1)
-one out at x h = record { ends = refl; same = rw (add-one, set-split out at x h) }
-
--- no byte
-pub none : (out : List ℕ) (at : ℕ) → Laid out at [] out at
-none out at = record { ends = omega arith; same = sym (splice-nil out at) }
-
--- room for a part, and for what follows it
-pub first-fits : (s t : List ℕ) (at : ℕ) {n : ℕ} → at + length (s ++ t) ≤ n → at + length s ≤ n
-first-fits s t at h = omega (arith, length-append s t)
-
-pub rest-fits : {out out′ s : List ℕ} {at m : ℕ} (t : List ℕ) → at + length (s ++ t) ≤ length out → Laid out at s out′ m → m + length t ≤ length out′
-rest-fits {out} {out′} {s} {at} {m} t h x =
-    let l : length out′ ≡ length out = ap length (x .same) ∙ length-splice out at s (omega (arith, length-append s t)) in
-    omega (arith, l, x .ends, length-append s t)
 
 -- ---- lengths
 

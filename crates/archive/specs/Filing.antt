@@ -6,8 +6,8 @@ use lib.ListN.{length}
 use lib.Dec.{ltb, eqb}
 use Rattle.bits.specs.Bits.{pick}
 use Rattle.grammar.specs.Grammar.{networkOf}
-use Rattle.reader.specs.Read.{readIs}
 use Rattle.grammar.specs.declared.record.Record.{Record}
+use Rattle.reader.specs.Read.{readIs}
 use Rattle.judging.specs.Judge.{isAccepted, mayHold, userOf}
 use Rattle.archive.specs.Model.{Held, Archive, keyOf, lengthOf, withinLimits}
 use Rattle.archive.specs.declared.contents.Entry.{Entry}

@@ -8,8 +8,8 @@ use Rattle.bits.specs.Bits.{pick}
 use Rattle.reader.specs.Read.{readIs}
 use Rattle.reader.specs.declared.Answer.{Answer}
 use Rattle.reader.specs.declared.Answer.the-variants as reader
-use Rattle.archive.specs.Model.{Held, Archive, keyOf, headerWidth, bytesOf, lengthOf, withinLimits}
 use Rattle.judging.specs.Judge.{mayHold}
+use Rattle.archive.specs.Model.{Held, Archive, keyOf, headerWidth, bytesOf, lengthOf, withinLimits}
 use Rattle.archive.specs.Filing.{entryFor}
 use Rattle.archive.specs.Reading.{reading, isArchive}
 use Rattle.archive.specs.declared.Archived.{Archived}

@@ -1,11 +1,10 @@
 -- What private functions give: a PDU's filing; where a key stands in an archive's bytes; the bytes of a capture as parts of the old archive
 -- around the new entry and body; the lines of a listing.
-use mathlib.Core.Path.{_≡_}
 use mathlib.Core.List.{List, [], _∷_, _++_}
 use Prim.Native.Nat.{ℕ, zero, suc, _+_, _-_, _*_, _≤_, _<_}
 use lib.ListN.{length, take, drop}
 use lib.Dec.{ltb, eqb}
-use Rattle.bits.specs.Bits.{pick, splice}
+use Rattle.bits.specs.Bits.{pick}
 use Rattle.bits.specs.Frame.{bytesFor}
 use Rattle.reader.specs.Read.{readIs}
 use Rattle.reader.specs.declared.Answer.{Answer}
@@ -91,13 +90,6 @@ backLength b p size = p .off - nextAt p + size + (length b - restAt p)
 
 abbrev pub splicedLength : List ℕ → Place → ℕ → ℕ
 splicedLength b p size = p .at + entryWidth + backLength b p size
-
--- ---- laid out in a buffer
-
--- from `at` to `end` the buffer has s, and before and after that what it had
-pub record Laid (out : List ℕ) (at : ℕ) (s : List ℕ) (out′ : List ℕ) (end : ℕ) : Type 0 where
-  pub ends : end ≡ at + length s
-  pub same : out′ ≡ splice out at s
 
 -- ---- the listing
 

@@ -11,6 +11,12 @@ use Rattle.bits.specs.Frame.{bytesFor}
 use Rattle.bits.proofs.Tests.{both}
 use Rattle.bits.specs.declared.BitCount.{BitCount}
 use Rattle.reader.specs.Read.{readIs}
+use Rattle.rules.specs.Request.{requestRefusal, isUser}
+use Rattle.rules.specs.Rule.{ruling}
+use Rattle.rules.specs.declared.request.Destination.{Destination}
+use Rattle.rules.specs.declared.request.Destination.the-variants.{Identity, Number}
+use Rattle.rules.specs.declared.request.Request.{Request}
+use Rattle.rules.specs.declared.Decision.the-variants.{NotHeld, Refused}
 use Rattle.archive.specs.Reading.{homeOf, reading, isArchive}
 use Rattle.archive.specs.Restoring.{inRange, fetchIs}
 use Rattle.archive.specs.declared.Fetched.{Fetched}
@@ -18,13 +24,7 @@ use Rattle.archive.specs.declared.Fetched.the-variants.{Body, NoArchive}
 use Rattle.archive.specs.declared.Fetched.the-variants as fetched
 use Rattle.archive.proofs.Lookup.{Right, BodyIs, fetch-right, fetch-none}
 use Rattle.archive.proofs.Capturing.{home-read}
-use Rattle.barring.specs.Request.{requestRefusal, isUser}
-use Rattle.barring.specs.Rule.{ruling}
 use Rattle.barring.specs.Decide.{partFor, judgedBy, partIn, decideIs}
-use Rattle.barring.specs.declared.request.Destination.{Destination}
-use Rattle.barring.specs.declared.request.Destination.the-variants.{Identity, Number}
-use Rattle.barring.specs.declared.request.Request.{Request}
-use Rattle.barring.specs.declared.Decision.the-variants.{NotHeld, Refused}
 
 user-first : (a b c d e f : Bool) → pick {A = ℕ} (a && b && c && d && e && f) 0 9 ≡ 0 → a ≡ true
 user-first true b c d e f h = refl

@@ -9,18 +9,18 @@ use native.Mathlib.Omega.{arith}
 use lib.ListN.{length, take}
 use Rattle.bits.specs.declared.BitCount.{BitCount}
 use Rattle.reader.specs.Read.{readIs}
+use Rattle.rules.specs.Request.{requestRefusal}
+use Rattle.rules.specs.Rule.{ruling}
+use Rattle.rules.specs.declared.request.Request.{Request}
+use Rattle.rules.specs.declared.Decision.{Decision}
+use Rattle.rules.specs.declared.Decision.the-variants.{Allowed, NotHeld}
 use Rattle.archive.specs.Model.{Held}
 use Rattle.archive.specs.Reading.{reading, isArchive}
 use Rattle.archive.specs.Keeping.{emptyIs, emptyOut}
 use Rattle.archive.specs.History.{Offer, afterAll, lastAccepted}
 use Rattle.archive.specs.declared.Archived.the-variants.{Bytes}
 use Rattle.archive.proofs.History.{Matches, kept}
-use Rattle.barring.specs.Request.{requestRefusal}
-use Rattle.barring.specs.Rule.{ruling}
 use Rattle.barring.specs.Decide.{partFor, judgedBy, partIn, decideIs}
-use Rattle.barring.specs.declared.request.Request.{Request}
-use Rattle.barring.specs.declared.Decision.{Decision}
-use Rattle.barring.specs.declared.Decision.the-variants.{Allowed, NotHeld}
 use Rattle.barring.proofs.Decided.{request-ranged, decide-held}
 
 -- what the last PDU accepted says of the call

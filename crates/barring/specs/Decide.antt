@@ -5,16 +5,16 @@ use mathlib.Core.Option.{Option, none, some}
 use lib.Dec.{eqb}
 use Rattle.bits.specs.Bits.{pick}
 use Rattle.reader.specs.Read.{readIs}
+use Rattle.rules.specs.Request.{requestRefusal}
+use Rattle.rules.specs.Rule.{ruling}
+use Rattle.rules.specs.declared.request.Destination.{Destination}
+use Rattle.rules.specs.declared.request.Destination.the-variants.{Identity, Number}
+use Rattle.rules.specs.declared.request.Request.{Request}
+use Rattle.rules.specs.declared.Decision.{Decision}
+use Rattle.rules.specs.declared.Decision.the-variants.{NotHeld, Refused}
 use Rattle.archive.specs.Model.{Held, keyFor}
 use Rattle.archive.specs.Reading.{reading, isArchive}
 use Rattle.archive.specs.Restoring.{lookup}
-use Rattle.barring.specs.Request.{requestRefusal}
-use Rattle.barring.specs.Rule.{ruling}
-use Rattle.barring.specs.declared.request.Destination.{Destination}
-use Rattle.barring.specs.declared.request.Destination.the-variants.{Identity, Number}
-use Rattle.barring.specs.declared.request.Request.{Request}
-use Rattle.barring.specs.declared.Decision.{Decision}
-use Rattle.barring.specs.declared.Decision.the-variants.{NotHeld, Refused}
 
 -- an identity is judged by the user's identity part, an external number by the number part
 unfoldable pub partFor : Destination → ℕ

@@ -1,7 +1,7 @@
 -- The numbers of a decision.
 use Prim.Native.Nat.{ℕ}
-use Rattle.barring.specs.declared.Decision.{Decision}
-use Rattle.barring.specs.declared.Decision.the-variants.{Allowed, Barred, NotHeld, Refused}
+use Rattle.rules.specs.declared.Decision.{Decision}
+use Rattle.rules.specs.declared.Decision.the-variants.{Allowed, Barred, NotHeld, Refused}
 
 -- the refusal number, 0 for none
 abbrev pub decidedNumber : Decision → ℕ

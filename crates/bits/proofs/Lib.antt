@@ -4,6 +4,7 @@ pub mod Table
 pub mod Numbers
 pub mod Bytes
 pub mod Splices
+pub mod Laying
 pub mod Shares
 pub mod Stores
 pub mod Loads

@@ -4,17 +4,17 @@ use mathlib.Core.List.{List, _++_}
 use Prim.Native.Nat.{ℕ, _≤_}
 use borrow.Author.Tests.{eq-eqb}
 use lib.ListN.{length, drop}
+use Rattle.bits.specs.Bits.{Bytes}
 use Rattle.grammar.specs.declared.record.Record.{Record}
 use Rattle.reader.specs.Read.{readIs}
 use Rattle.reader.specs.declared.Answer.the-variants.{Accepted}
 use Rattle.pdu.specs.Accepting.{accepting}
 use Rattle.pdu.proofs.RoundTrip.{accepted-legal, written-read}
-use Rattle.boc.specs.RecordWords.{recordWords}
+use Rattle.words.specs.RecordWords.{recordWords}
+use Rattle.words.specs.Sized.{SizedRecord}
+use Rattle.words.proofs.RecordInverse.{record-long, record-back}
+use Rattle.words.proofs.LegalRecords.{record-sized}
 use Rattle.boc.specs.Calls.{readWords, writeNumber, writeOut, writeBits}
-use Rattle.boc.specs.Sized.{SizedRecord}
-use Rattle.boc.proofs.RecordInverse.{record-long, record-back}
-use Rattle.boc.proofs.LegalRecords.{record-sized}
-use Rattle.bits.specs.Bits.{Bytes}
 
 module _ (s : List ℕ) (n : ℕ) (words : List ℕ) (l : length words ≡ 514) (a : readIs s n .answer ≡ Accepted) where
   abbrev found : Record

@@ -1,10 +1,2 @@
-pub mod Putting
-pub mod Filling
 pub mod Answering
-pub mod Layouts
-pub mod ListInverse
-pub mod RecordInverse
-pub mod RequestParts
-pub mod RequestInverse
-pub mod LegalRecords
 pub mod Again

@@ -1,9 +1,7 @@
 -- What each call returns, 0 or the refusal number, and what it leaves behind its pointers: a refusal leaves all of it as it was.
 use Prim.Native.Nat.{ℕ}
 use mathlib.Core.List.{List}
-use mathlib.Core.Bool.{Bool, _&&_}
 use lib.ListN.{length}
-use lib.Dec.{eqb}
 use Rattle.bits.specs.Bits.{pick}
 use Rattle.reader.specs.Read.{readIs, refusalOf}
 use Rattle.reader.specs.declared.Answer.{Answer}
@@ -11,25 +9,22 @@ use Rattle.reader.specs.declared.Answer.the-variants as answer
 use Rattle.writer.specs.Write.{writtenNumber, writeIs, outIs}
 use Rattle.writer.specs.declared.Written.{Written}
 use Rattle.writer.specs.declared.Written.the-variants as written
+use Rattle.rules.specs.declared.Decision.{Decision}
+use Rattle.rules.specs.declared.Decision.the-variants as decided
 use Rattle.archive.specs.declared.Archived.{Archived}
 use Rattle.archive.specs.declared.Archived.the-variants as archived
 use Rattle.archive.specs.declared.Restored.{Restored}
 use Rattle.archive.specs.declared.Restored.the-variants as restored
 use Rattle.archive.specs.declared.listing.Listed.{Listed}
 use Rattle.archive.specs.declared.listing.Listed.the-variants as listed
+use Rattle.words.specs.RecordWords.{areRecord, recordWords, recordFrom}
+use Rattle.words.specs.RequestWords.{isRequest, requestFrom}
 use Rattle.barring.specs.Decide.{decideIs}
 use Rattle.barring.specs.Decision.{decidedNumber, verdictOf}
-use Rattle.barring.specs.declared.Decision.{Decision}
-use Rattle.barring.specs.declared.Decision.the-variants as decided
-use Rattle.boc.specs.RecordWords.{recordWords, recordFrom}
-use Rattle.boc.specs.RequestWords.{areRequest, requestFrom}
 
 -- ---- boc_read
 
 -- a slice of words of another length than a record's gives 9, before anything else
-abbrev pub areRecord : ℕ → Bool
-areRecord words = eqb words 514
-
 unfoldable pub readNumber : List ℕ → ℕ → ℕ → ℕ
 readNumber s n words = pick (areRecord words) (refusalOf (readIs s n .answer)) 9
 
@@ -77,9 +72,6 @@ decidedVerdict decided.NotHeld old = verdictOf decided.NotHeld
 decidedVerdict (decided.Refused k) old = old
 
 -- 34 words that are a request's, otherwise 9
-abbrev pub isRequest : List ℕ → Bool
-isRequest words = eqb (length words) 34 && areRequest words
-
 unfoldable pub decideNumber : List ℕ → List ℕ → ℕ
 decideNumber b words = pick (isRequest words) (decidedNumber (decideIs b (requestFrom words))) 9
 

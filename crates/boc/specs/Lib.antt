@@ -1,6 +1,2 @@
-pub mod RecordWords
-pub mod RequestWords
-pub mod Sized
-pub mod Putting
 pub mod Calls
 pub mod Examples

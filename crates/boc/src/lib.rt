@@ -1,8 +1,5 @@
 // The public calls for C: each returns 0 or the refusal number; what it answers besides goes through a pointer to one number,
 // which a refusal leaves alone. A slice of words of another length than it should have gives 9, before anything else.
-mod record_words;
-mod request_words;
-
 use archive::Archived;
 use archive::Restored;
 use archive::listing;
@@ -11,14 +8,14 @@ use barring::Decision;
 use bits::BitCount;
 use pdu::Answer;
 use pdu::Written;
-use record_words::RECORD_WORDS;
-use request_words::REQUEST_WORDS;
+use words::record;
+use words::request;
 ghost use mathlib.Core.Path.{_≡_};
 ghost use lib.ListN.{length};
-ghost use Rattle.boc.specs.Calls.{readNumber, readWords, writeNumber, writeOut, writeBits, archivedLength, restoredLength, decideNumber, decision, listedLength};
 ghost use Rattle.archive.specs.Keeping.{archivedNumber, emptyIs, emptyOut, captureIs, captureOut};
 ghost use Rattle.archive.specs.Restoring.{restoredNumber, restoreIs, restoreOut};
 ghost use Rattle.archive.specs.Listing.{listedNumber, listIs, listOut};
+ghost use Rattle.boc.specs.Calls.{readNumber, readWords, writeNumber, writeOut, writeBits, archivedLength, restoredLength, decideNumber, decision, listedLength};
 
 // Reads the PDU of `count` bits in `bytes`; its record goes to 514 words.
 #[no_mangle]
@@ -26,7 +23,7 @@ pub extern "C" fn boc_read(bytes: &[u8], count: usize, words: &mut [u32]) -> u32
     ensures { λ r. ⌜ r ≡ readNumber (now (bytes .entry)) count (length (now (words .entry))) ⌝ }
     ensures { λ _. ⌜ now (words .exit) ≡ readWords (now (bytes .entry)) count (now (words .entry)) ⌝ }
 {
-    if words.len() != RECORD_WORDS {
+    if words.len() != record::RECORD_WORDS {
         return 9;
     }
     let reading = pdu::read(bytes, BitCount(count));
@@ -34,7 +31,7 @@ pub extern "C" fn boc_read(bytes: &[u8], count: usize, words: &mut [u32]) -> u32
     let found = reading.found;
     match answer {
         Answer::Accepted => {
-            record_words::put_record(words, found);
+            record::put_record(words, found);
             0
         },
         Answer::Refused(number) => number,
@@ -48,10 +45,11 @@ pub extern "C" fn boc_write(words: &[u32], out: &mut [u8], count: &mut usize) ->
     ensures { λ _. ⌜ now (out .exit) ≡ writeOut (now (words .entry)) (now (out .entry)) ⌝ }
     ensures { λ _. ⌜ now (count .exit) ≡ writeBits (now (words .entry)) (now (out .entry)) (now (count .entry)) ⌝ }
 {
-    if words.len() != RECORD_WORDS {
+    let given = record::record_from(words);
+    if !given.given {
         return 9;
     }
-    match pdu::write(record_words::record_from(words), out) {
+    match pdu::write(given.found, out) {
         Written::Bits(length) => {
             *count = length.0;
             0
@@ -127,13 +125,11 @@ pub extern "C" fn boc_decide(held: &[u8], words: &[u32], verdict: &mut u32) -> u
     ensures { λ r. ⌜ r ≡ decideNumber (now (held .entry)) (now (words .entry)) ⌝ }
     ensures { λ _. ⌜ now (verdict .exit) ≡ decision (now (held .entry)) (now (words .entry)) (now (verdict .entry)) ⌝ }
 {
-    if words.len() != REQUEST_WORDS {
+    let given = request::request_from(words);
+    if !given.given {
         return 9;
     }
-    if !request_words::are_request(words) {
-        return 9;
-    }
-    match barring::decide(held, request_words::request_from(words)) {
+    match barring::decide(held, given.asked) {
         Decision::Barred(cause) => {
             *verdict = cause;
             0

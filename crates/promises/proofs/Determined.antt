@@ -6,6 +6,8 @@ pub mod Reader
 pub mod Tally
 pub mod Writer
 pub mod Judging
+pub mod Rules
 pub mod Archive
+pub mod Words
 pub mod Barring
 pub mod Boc

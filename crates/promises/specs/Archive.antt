@@ -8,8 +8,8 @@ use Rattle.bits.specs.Bits.{Bytes}
 use Rattle.bits.proofs.Tests.{differ, false-unless}
 use Rattle.reader.specs.Read.{readIs}
 use Rattle.reader.specs.declared.Answer.the-variants.{Accepted}
-use Rattle.archive.specs.Model.{Archive, bytesOf}
 use Rattle.judging.specs.Judge.{mayHold}
+use Rattle.archive.specs.Model.{Archive, bytesOf}
 use Rattle.archive.specs.Filing.{entryFor, bodyAgrees, wellFormed}
 use Rattle.archive.specs.Reading.{reading, isArchive, Counted}
 use Rattle.archive.specs.declared.contents.Entry.{Entry}

@@ -8,6 +8,10 @@ use Prim.Native.Nat.{ℕ, _≤_}
 use lib.ListN.{length, take}
 use Rattle.bits.specs.Frame.{bytesFor}
 use Rattle.reader.specs.Read.{readIs}
+use Rattle.rules.specs.Request.{requestRefusal}
+use Rattle.rules.specs.Rule.{ruling}
+use Rattle.rules.specs.declared.request.Request.{Request}
+use Rattle.rules.specs.declared.Decision.the-variants.{Allowed, NotHeld}
 use Rattle.archive.specs.Reading.{isArchive}
 use Rattle.archive.specs.Keeping.{over, emptyIs, emptyOut}
 use Rattle.archive.specs.Restoring.{inRange, restoreIs, restoreOut}
@@ -15,11 +19,7 @@ use Rattle.archive.specs.History.{Offer, afterAll, lastAccepted}
 use Rattle.archive.specs.declared.Archived.the-variants.{Bytes}
 use Rattle.archive.specs.declared.Restored.the-variants.{Bits, Refused}
 use Rattle.archive.proofs.History as history
-use Rattle.barring.specs.Request.{requestRefusal}
-use Rattle.barring.specs.Rule.{ruling}
 use Rattle.barring.specs.Decide.{partFor, partIn, decideIs}
-use Rattle.barring.specs.declared.request.Request.{Request}
-use Rattle.barring.specs.declared.Decision.the-variants.{Allowed, NotHeld}
 use Rattle.barring.proofs.History as deciding
 
 -- An empty archive of a home network, of which `empty` wrote m bytes; and PDUs offered one after another, each with the buffer lent for it.

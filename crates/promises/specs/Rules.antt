@@ -3,11 +3,11 @@ use mathlib.Core.Path.{_≡_}
 use mathlib.Core.Bool.{true, false}
 use Prim.Native.Nat.{ℕ}
 use Rattle.grammar.specs.declared.record.Record.{Record}
-use Rattle.barring.specs.Matching.{covered}
-use Rattle.barring.specs.Rule.{isExcepted, ruling, outsideGroup}
-use Rattle.barring.specs.declared.request.Request.{Request}
-use Rattle.barring.specs.declared.Decision.the-variants.{Allowed, Barred}
-use Rattle.barring.proofs.Rules as rules
+use Rattle.rules.specs.Matching.{covered}
+use Rattle.rules.specs.Rule.{isExcepted, ruling, outsideGroup}
+use Rattle.rules.specs.declared.request.Request.{Request}
+use Rattle.rules.specs.declared.Decision.the-variants.{Allowed, Barred}
+use Rattle.rules.proofs.Rules as rules
 
 module _ (home : ℕ) (part : Record) (q : Request) where
   -- A service that the part does not cover is never barred.

@@ -4,15 +4,15 @@ use mathlib.Core.Bool.{true}
 use mathlib.Core.List.{List, _++_}
 use Prim.Native.Nat.{ℕ, _≤_, _<_}
 use lib.ListN.{length, take, drop}
-use Rattle.grammar.specs.declared.record.Record.{Record}
-use Rattle.barring.specs.declared.request.Request.{Request}
-use Rattle.boc.specs.RecordWords.{word, recordWords, recordFrom}
-use Rattle.boc.specs.RequestWords.{areRequest, requestWords, requestFrom}
-use Rattle.boc.specs.Sized.{SizedRecord, SizedRequest}
-use Rattle.boc.specs.Calls.{readNumber, readWords, writeNumber, writeOut, writeBits}
-use Rattle.boc.proofs.RecordInverse as records
-use Rattle.boc.proofs.RequestInverse as requests
 use Rattle.bits.specs.Bits.{Bytes}
+use Rattle.grammar.specs.declared.record.Record.{Record}
+use Rattle.rules.specs.declared.request.Request.{Request}
+use Rattle.words.specs.RecordWords.{word, recordWords, recordFrom}
+use Rattle.words.specs.RequestWords.{areRequest, requestWords, requestFrom}
+use Rattle.words.specs.Sized.{SizedRecord, SizedRequest}
+use Rattle.words.proofs.RecordInverse as records
+use Rattle.words.proofs.RequestInverse as requests
+use Rattle.boc.specs.Calls.{readNumber, readWords, writeNumber, writeOut, writeBits}
 
 -- ---- records
 

@@ -13,8 +13,8 @@ use Rattle.codec.specs.Whole.{wholeParse}
 use Rattle.codec.specs.Reading.{Answer, got, refused, andNext, answer, readAt}
 use Rattle.codec.proofs.Reading.{whole-at}
 use Rattle.grammar.specs.Grammar.{pdu}
-use Rattle.reader.specs.Read.{refusing, answered, readIs}
 use Rattle.grammar.specs.declared.record.Record.{Record}
+use Rattle.reader.specs.Read.{refusing, answered, readIs}
 use Rattle.reader.specs.declared.Answer.the-variants.{Accepted}
 use Rattle.reader.specs.declared.Reading.{Reading}
 

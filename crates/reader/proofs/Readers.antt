@@ -7,21 +7,21 @@ use Rattle.codec.specs.Reading.{Answer}
 use Rattle.codec.proofs.Onward.{placed, placed-answer}
 use Rattle.grammar.specs.Grammar.{zeroIdentity}
 use Rattle.grammar.specs.Zero.{zeroIdentities, zeroNumber, zeroNumbers, zeroServices, zeroLists, zeroRecord}
-use Rattle.reader.specs.Reader.{identityIs, entriesIs, identitiesIs, digitsIs, externalIs, numberEntriesIs, numbersIs, serviceListIs, servicesIs, listsIs, recordIs}
 use Rattle.grammar.specs.declared.record.Identity.{Identity}
 use Rattle.grammar.specs.declared.record.Identities.{Identities}
 use Rattle.grammar.specs.declared.record.Number.{Number}
 use Rattle.grammar.specs.declared.record.Numbers.{Numbers}
 use Rattle.grammar.specs.declared.record.Services.{Services}
+use Rattle.grammar.specs.declared.record.Lists.{Lists}
+use Rattle.grammar.specs.declared.record.Record.{Record}
+use Rattle.reader.specs.Reader.{identityIs, entriesIs, identitiesIs, digitsIs, externalIs, numberEntriesIs, numbersIs, serviceListIs, servicesIs, listsIs, recordIs}
 use Rattle.reader.specs.declared.numbers.DigitsRead.{DigitsRead}
 use Rattle.reader.specs.declared.numbers.ExternalRead.{ExternalRead}
 use Rattle.reader.specs.declared.numbers.NumberEntriesRead.{NumberEntriesRead}
 use Rattle.reader.specs.declared.numbers.NumbersRead.{NumbersRead}
 use Rattle.reader.specs.declared.services.ServiceListRead.{ServiceListRead}
 use Rattle.reader.specs.declared.services.ServicesRead.{ServicesRead}
-use Rattle.grammar.specs.declared.record.Lists.{Lists}
 use Rattle.reader.specs.declared.lists.ListsRead.{ListsRead}
-use Rattle.grammar.specs.declared.record.Record.{Record}
 use Rattle.reader.specs.declared.record.RecordRead.{RecordRead}
 use Rattle.reader.specs.declared.identities.IdentityRead.{IdentityRead}
 use Rattle.reader.specs.declared.identities.EntriesRead.{EntriesRead}

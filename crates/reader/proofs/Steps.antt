@@ -11,12 +11,12 @@ use Rattle.codec.proofs.Filling.{places-rest}
 use Rattle.grammar.specs.SiteSheet.{ssType, entriesOf, rangeRefusal, digitRefusal, serviceRefusal, kindRefusal, resultRefusal, askedRefusal, countRefusal, lengthRefusal}
 use Rattle.grammar.specs.Grammar.{extension, identity, noIdentity, zeroIdentity, rangeEnds, secondEnd, identities, noIdentities, external, noExternal, externals, noExternals, services, noServices, identityPart, numberPart, noPart, partOf, interrogate, interrogateAck, restOf, pdu}
 use Rattle.grammar.specs.Zero.{zeroIdentities, zeroNumber, zeroNumbers, zeroServices, zeroLists}
-use Rattle.reader.specs.Reader.{recordAt}
 use Rattle.grammar.specs.declared.record.Identities.{Identities}
 use Rattle.grammar.specs.declared.record.Numbers.{Numbers}
 use Rattle.grammar.specs.declared.record.Lists.{Lists}
 use Rattle.grammar.specs.declared.site.Listing.{Listing}
 use Rattle.grammar.specs.declared.site.Listing.the-variants as of
+use Rattle.reader.specs.Reader.{recordAt}
 
 module _ (s : List Bool) (at : ℕ) where
   pub identity-at : readAt identity s at ≡ andNext (readAt (number 24) s at) (λ ssi at₁. andNext (readAt (number 1) s at₁) (λ present at₂.

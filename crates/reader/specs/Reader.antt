@@ -18,14 +18,14 @@ use Rattle.grammar.specs.declared.record.Identities.{Identities}
 use Rattle.grammar.specs.declared.record.Number.{Number}
 use Rattle.grammar.specs.declared.record.Numbers.{Numbers}
 use Rattle.grammar.specs.declared.record.Services.{Services}
+use Rattle.grammar.specs.declared.record.Lists.{Lists}
+use Rattle.grammar.specs.declared.record.Record.{Record}
 use Rattle.reader.specs.declared.numbers.DigitsRead.{DigitsRead}
 use Rattle.reader.specs.declared.numbers.ExternalRead.{ExternalRead}
 use Rattle.reader.specs.declared.numbers.NumberEntriesRead.{NumberEntriesRead}
 use Rattle.reader.specs.declared.numbers.NumbersRead.{NumbersRead}
 use Rattle.reader.specs.declared.services.ServiceListRead.{ServiceListRead}
 use Rattle.reader.specs.declared.services.ServicesRead.{ServicesRead}
-use Rattle.grammar.specs.declared.record.Lists.{Lists}
-use Rattle.grammar.specs.declared.record.Record.{Record}
 use Rattle.reader.specs.declared.lists.ListsRead.{ListsRead}
 use Rattle.reader.specs.declared.record.RecordRead.{RecordRead}
 use Rattle.reader.specs.declared.identities.IdentityRead.{IdentityRead}

@@ -15,7 +15,6 @@ ghost use Rattle.bits.specs.Frame.{bitsIn};
 ghost use Rattle.codec.specs.Places.{places};
 ghost use Rattle.codec.specs.Reading.{got, from, readAt, numberIs};
 ghost use Rattle.grammar.specs.Grammar.{extension, identity, noIdentity, zeroIdentity, identities};
-ghost use Rattle.grammar.specs.Zero.{zeroIdentities};
 ghost use Rattle.reader.specs.Reader.{identityIs, entriesIs, EndsFit, endsIs, identitiesIs};
 
 pub struct IdentityRead {
@@ -255,19 +254,5 @@ fn kept_identities(end: Reached, value: Identities) -> IdentitiesRead
     IdentitiesRead {
         reached: end,
         value,
-    }
-}
-
-pub(crate) fn no_identities() -> Identities
-    ensures { λ r. ⌜ r ≡ zeroIdentities ⌝ }
-{
-    let none = Identity {
-        ssi: 0,
-        present: 0,
-        extension: 0,
-    };
-    Identities {
-        code: 0,
-        entries: [none; 8],
     }
 }

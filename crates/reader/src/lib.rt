@@ -11,7 +11,7 @@ use bits::BitCount;
 use bits::Cursor;
 use codec::Reached;
 use grammar::record::Record;
-use record::no_record;
+use grammar::zero::zero_record;
 use record::record_of;
 ghost use mathlib.Core.Path.{_≡_};
 ghost use Rattle.reader.specs.Read.{refusing, readIs};
@@ -55,7 +55,7 @@ pub fn read(s: &[u8], n: BitCount) -> Reading
 fn refused(number: u32) -> Reading
     ensures { λ r. ⌜ r ≡ refusing number ⌝ }
 {
-    let found = no_record();
+    let found = zero_record();
     Reading {
         answer: Answer::Refused(number),
         found,

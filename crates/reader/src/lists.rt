@@ -1,17 +1,17 @@
 // Reading the lists that an interrogation result provides.
 use crate::identities::identities_of;
-use crate::identities::no_identities;
-use crate::numbers::no_numbers;
 use crate::numbers::numbers_of;
 use bits::BitCount;
 use codec::Reached;
 use grammar::record::Lists;
 use grammar::site::Listing;
+use grammar::zero::zero_identities;
+use grammar::zero::zero_lists;
+use grammar::zero::zero_numbers;
 ghost use mathlib.Core.Path.{_≡_};
 ghost use Rattle.bits.specs.Frame.{bitsIn};
 ghost use Rattle.codec.specs.Reading.{got, from, readAt};
 ghost use Rattle.grammar.specs.Grammar.{identityPart, numberPart, partOf};
-ghost use Rattle.grammar.specs.Zero.{zeroLists};
 ghost use Rattle.reader.specs.Reader.{listsIs};
 
 pub struct ListsRead {
@@ -32,7 +32,7 @@ fn identity_part(s: &[u8], n: BitCount, start: Reached) -> ListsRead
     let groups = first.value;
     let restricted = second.value;
     let exceptions = third.value;
-    let none = no_numbers();
+    let none = zero_numbers();
     kept_lists(
         end,
         Lists {
@@ -58,7 +58,7 @@ fn number_part(s: &[u8], n: BitCount, start: Reached) -> ListsRead
     let groups = first.value;
     let numbers = second.value;
     let excepted = third.value;
-    let none = no_identities();
+    let none = zero_identities();
     kept_lists(
         end,
         Lists {
@@ -79,7 +79,7 @@ pub(crate) fn lists_of(s: &[u8], n: BitCount, start: Reached, result: u32) -> Li
         1 => identity_part(s, n, start),
         2 => number_part(s, n, start),
         _ => {
-            let none = no_lists();
+            let none = zero_lists();
             kept_lists(start, none)
         }
     }
@@ -91,25 +91,11 @@ fn kept_lists(end: Reached, value: Lists) -> ListsRead
     let Reached::At(_) = end else {
         return ListsRead {
             reached: end,
-            value: no_lists(),
+            value: zero_lists(),
         };
     };
     ListsRead {
         reached: end,
         value,
-    }
-}
-
-pub(crate) fn no_lists() -> Lists
-    ensures { λ r. ⌜ r ≡ zeroLists ⌝ }
-{
-    let identities = no_identities();
-    let numbers = no_numbers();
-    Lists {
-        groups: identities,
-        restricted: identities,
-        exceptions: identities,
-        numbers,
-        excepted: numbers,
     }
 }

@@ -17,7 +17,6 @@ ghost use Rattle.codec.specs.Places.{places};
 ghost use Rattle.codec.specs.Reading.{got, from, readAt};
 ghost use Rattle.grammar.specs.SiteSheet.{digitRefusal};
 ghost use Rattle.grammar.specs.Grammar.{external, noExternal, externals};
-ghost use Rattle.grammar.specs.Zero.{zeroNumbers};
 ghost use Rattle.reader.specs.Reader.{digitsIs, twelveAt, digitIn, Spread, externalIs, numberEntriesIs, numbersIs};
 
 pub struct DigitsRead {
@@ -247,18 +246,5 @@ fn kept_numbers(end: Reached, value: Numbers) -> NumbersRead
     NumbersRead {
         reached: end,
         value,
-    }
-}
-
-pub(crate) fn no_numbers() -> Numbers
-    ensures { λ r. ⌜ r ≡ zeroNumbers ⌝ }
-{
-    let none = Number {
-        length: DigitCount(0),
-        digits: [0u8; 24],
-    };
-    Numbers {
-        code: 0,
-        entries: [none; 8],
     }
 }

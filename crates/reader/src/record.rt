@@ -1,10 +1,7 @@
 // Reading the whole record: what comes first in each PDU, then what its type says.
 use crate::elements::bounded;
 use crate::identities::identities_of;
-use crate::identities::no_identities;
 use crate::lists::lists_of;
-use crate::lists::no_lists;
-use crate::services::no_services;
 use crate::services::services_of;
 use bits::BitCount;
 use codec::Reached;
@@ -12,11 +9,13 @@ use grammar::record::Identities;
 use grammar::record::Record;
 use grammar::site;
 use grammar::site::Listing;
+use grammar::zero::zero_lists;
+use grammar::zero::zero_record;
+use grammar::zero::zero_services;
 ghost use mathlib.Core.Path.{_≡_};
 ghost use Rattle.bits.specs.Frame.{bitsIn};
 ghost use Rattle.codec.specs.Reading.{got, from, readAt};
 ghost use Rattle.grammar.specs.Grammar.{interrogate, interrogateAck, pdu};
-ghost use Rattle.grammar.specs.Zero.{zeroRecord};
 ghost use Rattle.reader.specs.Reader.{recordAt, recordIs};
 
 pub struct RecordRead {
@@ -55,8 +54,8 @@ fn interrogate_of(
 {
     let asked = bounded(s, n, start, 2, 1, 3);
     let end = asked.reached;
-    let services = no_services();
-    let lists = no_lists();
+    let services = zero_services();
+    let lists = zero_lists();
     kept_record(
         end,
         Record {
@@ -112,28 +111,11 @@ fn kept_record(end: Reached, value: Record) -> RecordRead
     let Reached::At(_) = end else {
         return RecordRead {
             reached: end,
-            value: no_record(),
+            value: zero_record(),
         };
     };
     RecordRead {
         reached: end,
         value,
-    }
-}
-
-pub(crate) fn no_record() -> Record
-    ensures { λ r. ⌜ r ≡ zeroRecord ⌝ }
-{
-    let affected = no_identities();
-    let services = no_services();
-    let lists = no_lists();
-    Record {
-        kind: 0,
-        affected,
-        asked: 0,
-        result: 0,
-        delivery: 0,
-        services,
-        lists,
     }
 }

@@ -12,7 +12,6 @@ ghost use Rattle.codec.specs.Places.{places};
 ghost use Rattle.codec.specs.Reading.{got, from, readAt};
 ghost use Rattle.grammar.specs.SiteSheet.{serviceRefusal};
 ghost use Rattle.grammar.specs.Grammar.{services};
-ghost use Rattle.grammar.specs.Zero.{zeroServices};
 ghost use Rattle.reader.specs.Reader.{serviceListIs, servicesIs};
 
 pub struct ServiceListRead {
@@ -92,14 +91,5 @@ fn kept_services(end: Reached, value: Services) -> ServicesRead
     ServicesRead {
         reached: end,
         value,
-    }
-}
-
-pub(crate) fn no_services() -> Services
-    ensures { λ r. ⌜ r ≡ zeroServices ⌝ }
-{
-    Services {
-        count: 0,
-        list: [0u32; 7],
     }
 }

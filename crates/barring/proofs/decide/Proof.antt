@@ -3,8 +3,8 @@ use mathlib.Core.Path.{_≡_, sym, ap, _∙_}
 use borrow.Author.Needs.{needs}
 use borrow.Author.Tests.{ne-eqb}
 use denote.Ref.{now}
+use Rattle.rules.specs.Request.{requestRefusal}
 use Rattle.archive.specs.Restoring.{fetchIs}
-use Rattle.barring.specs.Request.{requestRefusal}
 use Rattle.barring.specs.Decide.{partFor, decideIs}
 use Rattle.barring.proofs.Decided.{body-within, decide-body, decide-missing, decide-damaged}
 use Rattle.barring.proofs.decide.Statement.{statement}

@@ -1,7 +1,7 @@
 -- The answer passed on. Assumes nothing.
 use borrow.Author.Needs.{needs}
-use Rattle.boc.specs.Calls.{archivedLength}
 use Rattle.archive.specs.Keeping.{archivedNumber}
+use Rattle.boc.specs.Calls.{archivedLength}
 use Rattle.boc.proofs.Answering.{passed}
 use Rattle.boc.proofs.boc_capture.Statement.{statement}
 use Rattle.boc.proofs.boc_capture.Tie as tie

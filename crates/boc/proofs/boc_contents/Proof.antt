@@ -1,7 +1,7 @@
 -- The answer passed on. Assumes nothing.
 use borrow.Author.Needs.{needs}
-use Rattle.boc.specs.Calls.{listedLength}
 use Rattle.archive.specs.Listing.{listedNumber}
+use Rattle.boc.specs.Calls.{listedLength}
 use Rattle.boc.proofs.Answering.{passed}
 use Rattle.boc.proofs.boc_contents.Statement.{statement}
 use Rattle.boc.proofs.boc_contents.Tie as tie

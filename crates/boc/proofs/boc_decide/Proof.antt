@@ -1,72 +1,75 @@
--- A request's 34 words or 9; then the decision passed on. Assumes nothing.
+-- The request of 34 words or 9; then the decision passed on. Assumes nothing.
 use mathlib.Core.Path.{_≡_, sym, ap, _∙_}
 use mathlib.Core.Bool.{true}
+use mathlib.Core.List.{List}
+use Prim.Native.Nat.{ℕ}
 use borrow.Author.Needs.{needs}
-use borrow.Author.Tests.{eq-eqb, ne-eqb, not-true, not-false}
+use borrow.Author.Tests.{not-true, not-false}
 use denote.Ref.{now}
+use Rattle.words.specs.RequestWords.{isRequest, requestFrom}
+use Rattle.words.specs.declared.request.GivenRequest.{GivenRequest}
+use Rattle.words.proofs.Given.{request-given, request-asked}
 use Rattle.barring.specs.Decide.{decideIs}
-use Rattle.boc.specs.RequestWords.{requestFrom}
-use Rattle.boc.specs.Calls.{isRequest, decidedVerdict, decideNumber, decision}
 use Rattle.barring.specs.Decision.{decidedNumber}
+use Rattle.boc.specs.Calls.{decidedVerdict, decideNumber, decision}
 use Rattle.boc.proofs.Answering.{answered}
 use Rattle.boc.proofs.boc_decide.Statement.{statement}
 use Rattle.boc.proofs.boc_decide.Tie as tie
 
+abbrev words-of : tie.After-request-from → List ℕ
+words-of c = now (c .before .before .before .args .words)
+
+given : (c : tie.After-request-from) → c .request-from .result .given ≡ isRequest (words-of c)
+given c = ap (λ (g : GivenRequest). g .given) (c .request-from .ensures) ∙ request-given (words-of c)
+
 returns : tie.Need-returns
 unfolding decideNumber decision
-returns c = let e = ne-eqb _ _ (c .if1 .taken) in (rw e, rw e)
-
-returns-2 : tie.Need-returns-2
-unfolding decideNumber decision
-returns-2 c =
-    let l = eq-eqb _ _ (c .before .before .if1 .left) in
-    let e = sym (c .before .are-request .ensures) ∙ not-true _ (c .if2 .taken) in
-    (rw (l, e), rw (l, e))
+returns c = let e = sym (given (c .before .before)) ∙ not-true _ (c .if1 .taken) in (rw e, rw e)
 
 -- the words are a request's
-whole : (c : tie.After-decide) → isRequest (now (c .before .before .before .before .before .before .before .args .words)) ≡ true
-whole c =
-    let test = c .before .before in
-    rw (eq-eqb _ _ (test .before .before .if1 .left)) (sym (test .before .are-request .ensures) ∙ not-false _ (test .if2 .left))
+abbrev from-of : tie.After-decide → tie.After-request-from
+from-of c = c .before .before .before
+
+whole : (c : tie.After-decide) → isRequest (words-of (from-of c)) ≡ true
+whole c = sym (given (from-of c)) ∙ not-false _ (c .before .if1 .left)
 
 -- what the decision is
 answer : (c : tie.After-decide) →
-    let a = c .before .before .before .before .before .before .before .args in
+    let a = from-of c .before .before .before .args in
     c .decide .result ≡ decideIs (now (a .held)) (requestFrom (now (a .words)))
 answer c =
-    let a = c .before .before .before .before .before .before .before .args in
-    c .decide .ensures ∙ ap (decideIs (now (a .held))) (c .before .request-from .ensures)
+    let from = from-of c in
+    let q = ap (λ (g : GivenRequest). g .asked) (from .request-from .ensures) ∙ request-asked (words-of from) (whole c) in
+    c .decide .ensures ∙ ap (decideIs (now (from .before .before .before .args .held))) q
+
+returns-2 : tie.Need-returns-2
+unfolding decideNumber decision
+returns-2 c = let d = c .before .before .before in rw (whole d) (answered decidedNumber decidedVerdict _ (answer d) (c .before .cause .given .1))
 
 returns-3 : tie.Need-returns-3
 unfolding decideNumber decision
-returns-3 c = let d = c .before .before .before in rw (whole d) (answered decidedNumber decidedVerdict _ (answer d) (c .before .cause .given .1))
+returns-3 c = let d = c .before .before in rw (whole d) (answered decidedNumber decidedVerdict _ (answer d) (c .enum-told .given .1))
 
 returns-4 : tie.Need-returns-4
 unfolding decideNumber decision
-returns-4 c = let d = c .before .before in rw (whole d) (answered decidedNumber decidedVerdict _ (answer d) (c .enum-told .given .1))
+returns-4 c = let d = c .before .before in rw (whole d) (answered decidedNumber decidedVerdict _ (answer d) (c .enum-told2 .given .1))
 
 returns-5 : tie.Need-returns-5
 unfolding decideNumber decision
-returns-5 c = let d = c .before .before in rw (whole d) (answered decidedNumber decidedVerdict _ (answer d) (c .enum-told2 .given .1))
-
-returns-6 : tie.Need-returns-6
-unfolding decideNumber decision
-returns-6 c = let d = c .before .before .before in rw (whole d) (answered decidedNumber decidedVerdict _ (answer d) (c .before .number .given .1))
+returns-5 c = let d = c .before .before .before in rw (whole d) (answered decidedNumber decidedVerdict _ (answer d) (c .before .number .given .1))
 
 pub boc-decide-spec : {M : Type 1} → statement M
 boc-decide-spec =
     tie.close
     (tie.spec
+    (λ c κs. search needs)
     returns
     (λ c κs. search needs)
+    (λ c. search needs)
+    (λ c. search needs)
+    (λ c. search needs)
+    (λ c. search needs)
     returns-2
-    (λ c κs. search needs)
-    (λ c κs. search needs)
-    (λ c. search needs)
-    (λ c. search needs)
-    (λ c. search needs)
-    (λ c. search needs)
     returns-3
     returns-4
-    returns-5
-    returns-6)
+    returns-5)

@@ -5,9 +5,10 @@ use borrow.Author.Needs.{needs}
 use borrow.Author.Tests.{eq-eqb, ne-eqb}
 use denote.Ref.{now}
 use lib.ListN.{length}
+use Rattle.grammar.specs.declared.record.Record.{Record}
 use Rattle.reader.specs.declared.Reading.{Reading}
-use Rattle.boc.specs.RecordWords.{recordWords}
-use Rattle.boc.specs.Calls.{areRecord, readNumber, readWords}
+use Rattle.words.specs.RecordWords.{areRecord, recordWords, putRecord}
+use Rattle.boc.specs.Calls.{readNumber, readWords}
 use Rattle.boc.proofs.boc_read.Statement.{statement}
 use Rattle.boc.proofs.boc_read.Tie as tie
 
@@ -21,6 +22,10 @@ returns c =
 whole : (c : tie.Else1) → areRecord (length (now (c .before .before .before .args .words))) ≡ true
 whole c = eq-eqb _ _ (c .if1 .left)
 
+filled : (c : tie.Else1) (r : Record) → putRecord r (now (c .before .before .before .args .words)) ≡ recordWords r
+unfolding putRecord
+filled c r = rw (whole c)
+
 returns-2 : tie.Need-returns-2
 unfolding readNumber readWords
 returns-2 c =
@@ -29,7 +34,8 @@ returns-2 c =
     let read = told .before .before .before in
     let r = read .read .ensures in
     let e = ap (λ (x : Reading). x .answer) (sym r) ∙ told .enum-told .given .1 in
-    (rw (whole (read .before), e), rw (whole (read .before), e) (put .put-record .ensures ∙ ap (λ (x : Reading). recordWords (x .found)) r))
+    let left = put .put-record .ensures ∙ filled (read .before) (read .read .result .found) ∙ ap (λ (x : Reading). recordWords (x .found)) r in
+    (rw (whole (read .before), e), rw (whole (read .before), e) left)
 
 returns-3 : tie.Need-returns-3
 unfolding readNumber readWords

@@ -1,7 +1,7 @@
 -- The answer passed on. Assumes nothing.
 use borrow.Author.Needs.{needs}
-use Rattle.boc.specs.Calls.{restoredLength}
 use Rattle.archive.specs.Restoring.{restoredNumber}
+use Rattle.boc.specs.Calls.{restoredLength}
 use Rattle.boc.proofs.Answering.{passed}
 use Rattle.boc.proofs.boc_restore.Statement.{statement}
 use Rattle.boc.proofs.boc_restore.Tie as tie

@@ -1,34 +1,48 @@
--- 514 words or 9; then the writer's answer passed on. Assumes nothing.
-use mathlib.Core.Path.{_≡_, ap, _∙_}
+-- The record of 514 words or 9; then the writer's answer passed on. Assumes nothing.
+use mathlib.Core.Path.{_≡_, sym, ap, _∙_}
 use mathlib.Core.Bool.{true}
+use mathlib.Core.List.{List}
+use Prim.Native.Nat.{ℕ}
 use borrow.Author.Needs.{needs}
-use borrow.Author.Tests.{eq-eqb, ne-eqb}
+use borrow.Author.Tests.{not-true, not-false}
 use denote.Ref.{now}
 use lib.ListN.{length}
 use Rattle.grammar.specs.declared.record.Record.{Record}
 use Rattle.writer.specs.Write.{writeIs, outIs, writtenNumber}
-use Rattle.boc.specs.RecordWords.{recordFrom}
-use Rattle.boc.specs.Calls.{areRecord, writtenLength, writeNumber, writeOut, writeBits}
+use Rattle.words.specs.RecordWords.{areRecord, recordFrom}
+use Rattle.words.specs.declared.record.GivenRecord.{GivenRecord}
+use Rattle.words.proofs.Given.{record-given, record-found}
+use Rattle.boc.specs.Calls.{writtenLength, writeNumber, writeOut, writeBits}
 use Rattle.boc.proofs.Answering.{passed}
 use Rattle.boc.proofs.boc_write.Statement.{statement}
 use Rattle.boc.proofs.boc_write.Tie as tie
 
+abbrev words-of : tie.After-record-from → List ℕ
+words-of c = now (c .before .before .before .args .words)
+
+given : (c : tie.After-record-from) → c .record-from .result .given ≡ areRecord (length (words-of c))
+given c = ap (λ (g : GivenRecord). g .given) (c .record-from .ensures) ∙ record-given (words-of c)
+
 returns : tie.Need-returns
 unfolding writeNumber writeOut writeBits
-returns c = let e = ne-eqb _ _ (c .if1 .taken) in (rw e, (rw e, rw e))
+returns c = let e = sym (given (c .before .before)) ∙ not-true _ (c .if1 .taken) in (rw e, (rw e, rw e))
 
 -- there are 514 words
-whole : (c : tie.After-write) → areRecord (length (now (c .before .before .before .before .before .before .args .words))) ≡ true
-whole c = eq-eqb _ _ (c .before .before .before .if1 .left)
+abbrev from-of : tie.After-write → tie.After-record-from
+from-of c = c .before .before .before .before
+
+whole : (c : tie.After-write) → areRecord (length (words-of (from-of c))) ≡ true
+whole c = sym (given (from-of c)) ∙ not-false _ (c .before .before .if1 .left)
 
 -- what the writer answers and leaves, for their record
 answer : (c : tie.After-write) →
-    let a = c .before .before .before .before .before .before .args in
+    let a = from-of c .before .before .before .args in
     let r = recordFrom (now (a .words)) in
     (c .write .result ≡ writeIs r (now (a .out))) × (c .write .last .1 .0 ≡ outIs r (now (a .out)))
 answer c =
-    let out = now (c .before .before .before .before .before .before .args .out) in
-    let r = c .before .before .record-from .ensures in
+    let from = from-of c in
+    let out = now (from .before .before .before .args .out) in
+    let r = ap (λ (g : GivenRecord). g .found) (from .record-from .ensures) ∙ record-found (words-of from) (whole c) in
     (c .write .ensures .0 ∙ ap (λ (x : Record). writeIs x out) r, c .write .ensures .1 ∙ ap (λ (x : Record). outIs x out) r)
 
 returns-2 : tie.Need-returns-2
@@ -47,8 +61,8 @@ pub boc-write-spec : {M : Type 1} → statement M
 boc-write-spec =
     tie.close
     (tie.spec
-    returns
     (λ c κs. search needs)
+    returns
     (λ c κs. search needs)
     (λ c. search needs)
     (λ c. search needs)

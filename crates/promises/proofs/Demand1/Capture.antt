@@ -12,8 +12,8 @@ use Rattle.bits.proofs.Tests.{differ, false-unless, both, both⁻¹}
 use Rattle.reader.specs.Read.{refusalOf, readIs}
 use Rattle.reader.specs.declared.Answer.{Answer}
 use Rattle.reader.specs.declared.Answer.the-variants as reader
-use Rattle.archive.specs.Model.{Held, keyOf, lengthOf}
 use Rattle.judging.specs.Judge.{mayHold}
+use Rattle.archive.specs.Model.{Held, keyOf, lengthOf}
 use Rattle.archive.specs.Reading.{reading, isArchive}
 use Rattle.archive.specs.Keeping.{archivedNumber, heldFor, captured, captureIs}
 use Rattle.archive.specs.Restoring.{lookup}

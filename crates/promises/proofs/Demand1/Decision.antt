@@ -12,16 +12,16 @@ use Rattle.bits.proofs.Tests.{differ, false-unless, both}
 use Rattle.bits.specs.Lists.{every}
 use Rattle.grammar.specs.declared.record.Record.{Record}
 use Rattle.reader.specs.Read.{readIs}
+use Rattle.rules.specs.Request.{isUser, isService, isDestination, isGroup, isDigit, isUnused, digitsUsed, requestRefusal}
+use Rattle.rules.specs.Rule.{ruling, ruled, isExcepted, isRestricted, isOutside, bothEmpty}
+use Rattle.rules.specs.Matching.{covered}
+use Rattle.rules.specs.declared.request.Request.{Request}
+use Rattle.rules.specs.declared.Decision.{Decision}
+use Rattle.rules.specs.declared.Decision.the-variants.{Allowed, Barred, Refused}
 use Rattle.archive.specs.Model.{Held}
 use Rattle.archive.specs.Reading.{reading, isArchive}
-use Rattle.barring.specs.Request.{isUser, isService, isDestination, isGroup, isDigit, isUnused, digitsUsed, requestRefusal}
-use Rattle.barring.specs.Rule.{ruling, ruled, isExcepted, isRestricted, isOutside, bothEmpty}
-use Rattle.barring.specs.Matching.{covered}
 use Rattle.barring.specs.Decide.{judgedBy, partIn, decideIs}
 use Rattle.barring.specs.Decision.{decidedNumber, verdictOf}
-use Rattle.barring.specs.declared.request.Request.{Request}
-use Rattle.barring.specs.declared.Decision.{Decision}
-use Rattle.barring.specs.declared.Decision.the-variants.{Allowed, Barred, Refused}
 use Rattle.promises.specs.Answers.{OneOf}
 use Rattle.promises.specs.Demand1.Decision.{number, Ranged, Given, success, unranged, damaged, Verdict, outside-group, restricted-service, restricted-address, allowed, not-held, Promise}
 use Rattle.promises.proofs.Tables.{exactly}

@@ -1,7 +1,7 @@
 -- Each public function of `archive` has one possible outcome.
 use mathlib.Core.Path.{refl}
-use Rattle.promises.specs.Determined.{Determined, by-equations}
 use Rattle.archive.proofs as archive
+use Rattle.promises.specs.Determined.{Determined, by-equations}
 
 pub empty-determined : Determined archive.empty.Kinds.ps archive.empty.Kinds.r archive.empty.Reads.Learnt
 empty-determined = by-equations (λ κs a x v p. (p .0, λ i. (tt, (p .1 i, tt))))

@@ -1,9 +1,9 @@
 -- Each public function of `bits` has one possible outcome.
 use mathlib.Core.Path.{refl, sym, _∙_}
-use Rattle.promises.specs.Determined.{Determined, by-equations}
 use Rattle.bits.proofs as bits
 use Rattle.bits.specs.Bits.{Bytes}
 use Rattle.bits.proofs.Bytes.{bits-inj}
+use Rattle.promises.specs.Determined.{Determined, by-equations}
 
 pub bits-determined : Determined bits.DigitCount.bits.Kinds.ps bits.DigitCount.bits.Kinds.r bits.DigitCount.bits.Reads.Learnt
 bits-determined = by-equations (λ κs a x v p. (λ i. record { 0 = p i }, refl))

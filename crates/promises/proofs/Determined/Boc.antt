@@ -1,6 +1,6 @@
 -- Each of the seven calls for C has one possible outcome: the number it returns, the buffer, and the number behind its pointer.
-use Rattle.promises.specs.Determined.{Determined, by-equations}
 use Rattle.boc.proofs as boc
+use Rattle.promises.specs.Determined.{Determined, by-equations}
 
 pub boc-read-determined : Determined boc.boc_read.Kinds.ps boc.boc_read.Kinds.r boc.boc_read.Reads.Learnt
 boc-read-determined = by-equations (λ κs a x v p. (p .0, λ i. (tt, (tt, (p .1 i, tt)))))

@@ -1,7 +1,7 @@
 -- Each public function of `grammar` has one possible outcome.
 use mathlib.Core.Path.{refl}
-use Rattle.promises.specs.Determined.{Determined, by-equations}
 use Rattle.grammar.proofs as grammar
+use Rattle.promises.specs.Determined.{Determined, by-equations}
 
 pub ss-refusal-determined : Determined grammar.site.ss_refusal.Kinds.ps grammar.site.ss_refusal.Kinds.r grammar.site.ss_refusal.Reads.Learnt
 ss-refusal-determined = by-equations (λ κs a x v p. (p, refl))
@@ -44,3 +44,18 @@ network-of-determined = by-equations (λ κs a x v p. (p, refl))
 
 pub are-digits-determined : Determined grammar.site.are_digits.Kinds.ps grammar.site.are_digits.Kinds.r grammar.site.are_digits.Reads.Learnt
 are-digits-determined = by-equations (λ κs a x v p. (p, refl))
+
+pub zero-identities-determined : Determined grammar.zero.zero_identities.Kinds.ps grammar.zero.zero_identities.Kinds.r grammar.zero.zero_identities.Reads.Learnt
+zero-identities-determined = by-equations (λ κs a x v p. (p, refl))
+
+pub zero-numbers-determined : Determined grammar.zero.zero_numbers.Kinds.ps grammar.zero.zero_numbers.Kinds.r grammar.zero.zero_numbers.Reads.Learnt
+zero-numbers-determined = by-equations (λ κs a x v p. (p, refl))
+
+pub zero-services-determined : Determined grammar.zero.zero_services.Kinds.ps grammar.zero.zero_services.Kinds.r grammar.zero.zero_services.Reads.Learnt
+zero-services-determined = by-equations (λ κs a x v p. (p, refl))
+
+pub zero-lists-determined : Determined grammar.zero.zero_lists.Kinds.ps grammar.zero.zero_lists.Kinds.r grammar.zero.zero_lists.Reads.Learnt
+zero-lists-determined = by-equations (λ κs a x v p. (p, refl))
+
+pub zero-record-determined : Determined grammar.zero.zero_record.Kinds.ps grammar.zero.zero_record.Kinds.r grammar.zero.zero_record.Reads.Learnt
+zero-record-determined = by-equations (λ κs a x v p. (p, refl))

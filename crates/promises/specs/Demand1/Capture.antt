@@ -7,8 +7,8 @@ use Prim.Native.Nat.{ℕ, _≤_, _<_}
 use lib.ListN.{length, replicate}
 use Rattle.reader.specs.Read.{readIs}
 use Rattle.reader.specs.declared.Answer.the-variants as reader
-use Rattle.archive.specs.Model.{keyOf, bytesOf, lengthOf}
 use Rattle.judging.specs.Judge.{mayHold}
+use Rattle.archive.specs.Model.{keyOf, bytesOf, lengthOf}
 use Rattle.archive.specs.Reading.{reading, isArchive}
 use Rattle.archive.specs.Keeping.{archivedNumber, over, heldFor, captured, captureIs, captureOut}
 use Rattle.archive.specs.Restoring.{lookup}

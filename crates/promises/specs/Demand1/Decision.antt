@@ -5,16 +5,16 @@ use mathlib.Core.List.{List, [], _∷_}
 use Prim.Native.Nat.{ℕ}
 use lib.ListN.{take, drop, replicate}
 use Rattle.bits.specs.Lists.{every}
+use Rattle.rules.specs.Request.{isUser, isService, isDestination, isGroup, isDigit, isUnused, digitsUsed, requests}
+use Rattle.rules.specs.Profiles.{speech}
+use Rattle.rules.specs.declared.request.Group.the-variants.{NoGroup}
+use Rattle.rules.specs.declared.request.Request.{Request}
+use Rattle.rules.specs.declared.Decision.{Decision}
+use Rattle.rules.specs.declared.Decision.the-variants.{Allowed, Barred, NotHeld}
 use Rattle.archive.specs.Reading.{isArchive}
 use Rattle.archive.specs.Examples.{calls}
-use Rattle.barring.specs.Request.{isUser, isService, isDestination, isGroup, isDigit, isUnused, digitsUsed, requests}
 use Rattle.barring.specs.Decide.{decideIs}
 use Rattle.barring.specs.Decision.{decidedNumber, verdictOf}
-use Rattle.barring.specs.Profiles.{speech}
-use Rattle.barring.specs.declared.request.Group.the-variants.{NoGroup}
-use Rattle.barring.specs.declared.request.Request.{Request}
-use Rattle.barring.specs.declared.Decision.{Decision}
-use Rattle.barring.specs.declared.Decision.the-variants.{Allowed, Barred, NotHeld}
 use Rattle.promises.specs.Answers.{Exactly}
 
 abbrev pub number : List ℕ → Request → ℕ

@@ -2,7 +2,8 @@
 use native.Mathlib.Omega.{arith}
 use borrow.Author.Needs.{needs}
 use denote.Ref.{now}
-use Rattle.archive.proofs.Laying.{length-front, then}
+use Rattle.bits.proofs.Laying.{then}
+use Rattle.archive.proofs.Laying.{length-front}
 use Rattle.archive.proofs.copying.splice.Statement.{statement}
 use Rattle.archive.proofs.copying.splice.Tie as tie
 

@@ -4,8 +4,8 @@ use native.Mathlib.Omega.{arith}
 use borrow.Author.Needs.{needs}
 use borrow.Fn.Kinds.{In}
 use borrow.Fn.PlainCycle.{Measures, is, falls, and}
+use Rattle.bits.proofs.Laying.{then}
 use Rattle.archive.proofs.Decimal.{decimal-one, decimal-more, length-more}
-use Rattle.archive.proofs.Laying.{then}
 use Rattle.archive.proofs.listing.write_number.Reads as write-number
 use Rattle.archive.proofs.listing.write_number.Kinds as kinds
 use Rattle.archive.proofs.listing.+write_number.Lts-write_number as lts

@@ -1,7 +1,7 @@
 -- One store. Assumes nothing.
 use borrow.Author.Needs.{needs}
 use denote.Ref.{now}
-use Rattle.archive.proofs.Lines.{one}
+use Rattle.bits.proofs.Laying.{one}
 use Rattle.archive.proofs.listing.write_byte.Statement.{statement}
 use Rattle.archive.proofs.listing.write_byte.Tie as tie
 

@@ -5,9 +5,9 @@ use native.Mathlib.Omega.{arith}
 use borrow.Author.Needs.{needs}
 use denote.Ref.{now}
 use lib.ListN.{length}
+use Rattle.bits.proofs.Laying.{then, first-fits, rest-fits}
 use Rattle.archive.specs.Listing.{homeWord, entriesWord, lineEnd, item, firstLine}
-use Rattle.archive.proofs.Laying.{then}
-use Rattle.archive.proofs.Lines.{length-first, first-fits, rest-fits}
+use Rattle.archive.proofs.Lines.{length-first}
 use Rattle.archive.proofs.listing.write_first.Statement.{statement}
 use Rattle.archive.proofs.listing.write_first.Tie as tie
 

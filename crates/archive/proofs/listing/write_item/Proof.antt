@@ -2,9 +2,8 @@
 use native.Mathlib.Omega.{arith}
 use borrow.Author.Needs.{needs}
 use denote.Ref.{now}
+use Rattle.bits.proofs.Laying.{then, first-fits, rest-fits}
 use Rattle.archive.specs.Listing.{item, decimal}
-use Rattle.archive.proofs.Laying.{then}
-use Rattle.archive.proofs.Lines.{first-fits, rest-fits}
 use Rattle.archive.proofs.listing.write_item.Statement.{statement}
 use Rattle.archive.proofs.listing.write_item.Tie as tie
 

@@ -4,10 +4,9 @@ use Prim.Native.Nat.{ℕ, _+_, _≤_}
 use native.Mathlib.Omega.{arith}
 use borrow.Author.Needs.{needs}
 use lib.ListN.{length}
+use Rattle.bits.proofs.Laying.{then, first-fits, rest-fits}
 use Rattle.archive.specs.Listing.{space, partWord, bitsWord, lineEnd, item, line}
 use Rattle.archive.specs.declared.contents.Entry.{Entry}
-use Rattle.archive.proofs.Laying.{then}
-use Rattle.archive.proofs.Lines.{first-fits, rest-fits}
 use Rattle.archive.proofs.listing.write_line.Statement.{statement}
 use Rattle.archive.proofs.listing.write_line.Tie as tie
 

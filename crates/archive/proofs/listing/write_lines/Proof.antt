@@ -5,12 +5,13 @@ use Prim.Native.Nat.{ℕ, _+_, _-_, _*_, _≤_}
 use native.Mathlib.Omega.{arith}
 use denote.Ref.{now}
 use lib.ListN.{length}
+use Rattle.bits.specs.Laying.{Laid}
+use Rattle.bits.proofs.Laying.{then, none, first-fits, rest-fits}
 use Rattle.archive.specs.Reading.{countOf}
-use Rattle.archive.specs.Seeking.{Laid, linesFrom}
+use Rattle.archive.specs.Seeking.{linesFrom}
 use Rattle.archive.specs.Listing.{line}
 use Rattle.archive.specs.declared.contents.Entry.{Entry}
-use Rattle.archive.proofs.Laying.{then}
-use Rattle.archive.proofs.Lines.{none, first-fits, rest-fits, linesFrom-next, linesFrom-none}
+use Rattle.archive.proofs.Lines.{linesFrom-next, linesFrom-none}
 use Rattle.archive.proofs.listing.write_lines.Statement.{statement}
 use Rattle.archive.proofs.listing.write_lines.Tie as tie
 

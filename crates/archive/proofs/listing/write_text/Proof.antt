@@ -6,12 +6,12 @@ use native.Mathlib.Omega.{arith}
 use borrow.Author.Needs.{needs}
 use denote.Ref.{now}
 use lib.ListN.{length}
+use Rattle.bits.proofs.Laying.{then, first-fits, rest-fits}
 use Rattle.archive.specs.Reading.{countOf, reading}
 use Rattle.archive.specs.Listing.{firstLine, listing}
 use Rattle.archive.specs.Seeking.{linesFrom}
 use Rattle.archive.proofs.Checks.{sound}
-use Rattle.archive.proofs.Laying.{then}
-use Rattle.archive.proofs.Lines.{first-fits, rest-fits, listing-read}
+use Rattle.archive.proofs.Lines.{listing-read}
 use Rattle.archive.proofs.listing.write_text.Statement.{statement}
 use Rattle.archive.proofs.listing.write_text.Tie as tie
 

@@ -14,8 +14,8 @@ use Rattle.codec.specs.declared.Reached.{Reached}
 use Rattle.codec.specs.declared.Reached.the-variants.{At, Refused}
 use Rattle.grammar.specs.Grammar.{zeroIdentity, endsRefusal, rangeEnds, secondEnd}
 use Rattle.grammar.proofs.Codes.{not-nine}
-use Rattle.reader.specs.Reader.{entriesIs, endsIs, EndsFit}
 use Rattle.grammar.specs.declared.record.Identity.{Identity}
+use Rattle.reader.specs.Reader.{entriesIs, endsIs, EndsFit}
 use Rattle.reader.specs.declared.identities.EntriesRead.{EntriesRead}
 use Rattle.reader.proofs.identities.checked_ends.Statement.{statement}
 use Rattle.reader.proofs.identities.checked_ends.Tie as tie

@@ -16,10 +16,10 @@ use Rattle.codec.proofs.Onward.{placed, from-same, go-on, number-read, tested-e
 use Rattle.codec.proofs.Filling.{first-print}
 use Rattle.grammar.specs.SiteSheet.{rangeType, rowOf, entriesOf}
 use Rattle.grammar.specs.Grammar.{identity, noIdentity, zeroIdentity, rangeEnds, secondEnd}
-use Rattle.reader.specs.Reader.{EndsFit, entriesIs, endsIs, identitiesIs}
 use Rattle.grammar.specs.declared.record.Identity.{Identity}
 use Rattle.grammar.specs.declared.site.Row.{Row}
 use Rattle.grammar.proofs.Codes.{entriesOf-le}
+use Rattle.reader.specs.Reader.{EndsFit, entriesIs, endsIs, identitiesIs}
 use Rattle.reader.proofs.Steps.{identities-at}
 use Rattle.reader.proofs.Readers.{entries-read}
 use Rattle.reader.proofs.identities.identities_of.Statement.{statement}

@@ -3,9 +3,9 @@ use mathlib.Core.Path.{sym, ap, _∙_}
 use borrow.Author.Needs.{needs}
 use Rattle.codec.specs.Reading.{got, from}
 use Rattle.codec.proofs.Onward.{from-same, go-on}
-use Rattle.reader.specs.Reader.{listsIs}
 use Rattle.grammar.specs.declared.record.Numbers.{Numbers}
 use Rattle.grammar.specs.declared.record.Lists.{Lists}
+use Rattle.reader.specs.Reader.{listsIs}
 use Rattle.reader.proofs.Steps.{identityPart-at}
 use Rattle.reader.proofs.Readers.{identities-read}
 use Rattle.reader.proofs.lists.identity_part.Statement.{statement}
@@ -25,7 +25,7 @@ returns c =
       excepted = none;
     } in
     c .kept-lists .ensures
-    ∙ ap (λ (none : Numbers). listsIs (from (third .identities-of3 .result .reached) (λ at. got (lists none) at))) (c .before .no-numbers .ensures)
+    ∙ ap (λ (none : Numbers). listsIs (from (third .identities-of3 .result .reached) (λ at. got (lists none) at))) (c .before .zero-numbers .ensures)
     ∙ sym (ap listsIs
     (from-same _ _ _ (identityPart-at _)
     ∙ go-on _ _ _ _ _ (identities-read _ (first .identities-of .ensures))

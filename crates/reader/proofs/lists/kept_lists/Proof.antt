@@ -7,7 +7,7 @@ use Rattle.reader.proofs.lists.kept_lists.Tie as tie
 
 returns : tie.Need-returns
 unfolding from listsIs
-returns c = rw (c .before .enum-told2 .given .1, c .no-lists .ensures)
+returns c = rw (c .before .enum-told2 .given .1, c .zero-lists .ensures)
 
 returns-2 : tie.Need-returns-2
 unfolding from listsIs

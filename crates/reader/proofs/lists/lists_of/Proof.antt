@@ -5,8 +5,8 @@ use native.Mathlib.Omega.{arith}
 use borrow.Author.Tests.{ne-eqb}
 use Rattle.codec.specs.Reading.{got, from}
 use Rattle.codec.proofs.Onward.{from-same}
-use Rattle.reader.specs.Reader.{listsIs}
 use Rattle.grammar.specs.declared.record.Lists.{Lists}
+use Rattle.reader.specs.Reader.{listsIs}
 use Rattle.reader.proofs.Steps.{noPart-at}
 use Rattle.reader.proofs.lists.lists_of.Statement.{statement}
 use Rattle.reader.proofs.lists.lists_of.Tie as tie
@@ -22,7 +22,7 @@ returns-3 c =
     let a = c .before .before .before .before .args in
     rw (ne-eqb (a .result) 1 (omega arith), ne-eqb (a .result) 2 (omega arith))
     (c .kept-lists .ensures
-    ∙ ap (λ (none : Lists). listsIs (from (a .start) (λ at. got none at))) (c .before .no-lists .ensures)
+    ∙ ap (λ (none : Lists). listsIs (from (a .start) (λ at. got none at))) (c .before .zero-lists .ensures)
     ∙ sym (ap listsIs (from-same _ _ _ (noPart-at _))))
 
 pub lists-of-spec : {M : Type 1} → statement M

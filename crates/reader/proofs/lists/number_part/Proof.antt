@@ -3,9 +3,9 @@ use mathlib.Core.Path.{sym, ap, _∙_}
 use borrow.Author.Needs.{needs}
 use Rattle.codec.specs.Reading.{got, from}
 use Rattle.codec.proofs.Onward.{from-same, go-on}
-use Rattle.reader.specs.Reader.{listsIs}
 use Rattle.grammar.specs.declared.record.Identities.{Identities}
 use Rattle.grammar.specs.declared.record.Lists.{Lists}
+use Rattle.reader.specs.Reader.{listsIs}
 use Rattle.reader.proofs.Steps.{numberPart-at}
 use Rattle.reader.proofs.Readers.{identities-read, numbers-read}
 use Rattle.reader.proofs.lists.number_part.Statement.{statement}
@@ -25,7 +25,7 @@ returns c =
       excepted = third .numbers-of2 .result .value;
     } in
     c .kept-lists .ensures
-    ∙ ap (λ (none : Identities). listsIs (from (third .numbers-of2 .result .reached) (λ at. got (lists none) at))) (c .before .no-identities .ensures)
+    ∙ ap (λ (none : Identities). listsIs (from (third .numbers-of2 .result .reached) (λ at. got (lists none) at))) (c .before .zero-identities .ensures)
     ∙ sym (ap listsIs
     (from-same _ _ _ (numberPart-at _)
     ∙ go-on _ _ _ _ _ (identities-read _ (first .identities-of .ensures))

@@ -5,8 +5,8 @@ use native.Mathlib.Omega.{arith}
 use borrow.Author.Needs.{needs}
 use Rattle.codec.proofs.Onward.{from-same, go-on, number-read, element-bound}
 use Rattle.grammar.specs.SiteSheet.{lengthRefusal}
-use Rattle.reader.specs.Reader.{externalIs}
 use Rattle.grammar.proofs.Codes.{between-le}
+use Rattle.reader.specs.Reader.{externalIs}
 use Rattle.reader.proofs.Steps.{external-at}
 use Rattle.reader.proofs.Readers.{digits-read}
 use Rattle.reader.proofs.numbers.external_of.Statement.{statement}

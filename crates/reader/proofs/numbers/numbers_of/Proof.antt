@@ -10,9 +10,9 @@ use Rattle.codec.specs.Reading.{readAt, from, elementOf}
 use Rattle.codec.proofs.Onward.{from-same, go-on, number-read, tested-element}
 use Rattle.grammar.specs.SiteSheet.{entriesOf}
 use Rattle.grammar.specs.Grammar.{external, noExternal}
-use Rattle.reader.specs.Reader.{numberEntriesIs, numbersIs}
 use Rattle.grammar.specs.declared.site.Row.{Row}
 use Rattle.grammar.proofs.Codes.{entriesOf-le}
+use Rattle.reader.specs.Reader.{numberEntriesIs, numbersIs}
 use Rattle.reader.proofs.Steps.{externals-at}
 use Rattle.reader.proofs.Readers.{number-entries-read}
 use Rattle.reader.proofs.numbers.numbers_of.Statement.{statement}

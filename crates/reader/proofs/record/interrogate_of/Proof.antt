@@ -3,10 +3,10 @@ use mathlib.Core.Path.{sym, ap, ap₂, _∙_}
 use borrow.Author.Needs.{needs}
 use Rattle.codec.specs.Reading.{got, from}
 use Rattle.codec.proofs.Onward.{from-same, go-on, number-read}
-use Rattle.reader.specs.Reader.{recordIs}
 use Rattle.grammar.specs.declared.record.Services.{Services}
 use Rattle.grammar.specs.declared.record.Lists.{Lists}
 use Rattle.grammar.specs.declared.record.Record.{Record}
+use Rattle.reader.specs.Reader.{recordIs}
 use Rattle.reader.proofs.Steps.{interrogate-at}
 use Rattle.reader.proofs.record.interrogate_of.Statement.{statement}
 use Rattle.reader.proofs.record.interrogate_of.Tie as tie
@@ -19,7 +19,7 @@ returns c =
     λ services lists. record { kind = a .kind; affected = a .affected; asked = b .bounded .result .value; result = 0; delivery = 0; services = services; lists = lists } in
     c .kept-record .ensures
     ∙ ap₂ (λ (services : Services) (lists : Lists). recordIs (from (b .bounded .result .reached) (λ at. got (held services lists) at)))
-    (c .before .before .no-services .ensures) (c .before .no-lists .ensures)
+    (c .before .before .zero-services .ensures) (c .before .zero-lists .ensures)
     ∙ sym (ap recordIs (from-same _ _ _ (interrogate-at _ _ _) ∙ go-on _ _ _ _ _ (number-read _ (b .bounded .ensures))))
 
 pub interrogate-of-spec : {M : Type 1} → statement M

@@ -7,7 +7,7 @@ use Rattle.reader.proofs.record.kept_record.Tie as tie
 
 returns : tie.Need-returns
 unfolding from recordIs
-returns c = rw (c .before .enum-told2 .given .1, c .no-record .ensures)
+returns c = rw (c .before .enum-told2 .given .1, c .zero-record .ensures)
 
 returns-2 : tie.Need-returns-2
 unfolding from recordIs

@@ -1,0 +1,9 @@
+pub mod Putting
+pub mod Filling
+pub mod Layouts
+pub mod ListInverse
+pub mod RecordInverse
+pub mod RequestParts
+pub mod RequestInverse
+pub mod LegalRecords
+pub mod Given

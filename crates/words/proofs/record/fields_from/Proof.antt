@@ -1,0 +1,35 @@
+-- Each part from its place on. Assumes nothing.
+use borrow.Author.Needs.{needs}
+use denote.Ref.{now}
+use Rattle.words.specs.RecordWords.{word, recordFrom}
+use Rattle.words.proofs.record.fields_from.Statement.{statement}
+use Rattle.words.proofs.record.fields_from.Tie as tie
+
+returns : tie.Need-returns
+unfolding recordFrom
+returns c =
+    let services = c .before in
+    let affected = services .before .before .before .before in
+    let w = now (affected .before .before .before .args .words) in
+    λ i. record {
+      kind = word w 0;
+      affected = affected .identities-from .ensures i;
+      asked = word w 26;
+      result = word w 27;
+      delivery = word w 28;
+      services = services .services-from .ensures i;
+      lists = c .lists-from .ensures i;
+    }
+
+pub fields-from-spec : {M : Type 1} → statement M
+fields-from-spec =
+    tie.close
+    (tie.spec
+    (λ c. search needs)
+    (λ c κs. search needs)
+    (λ c. search needs)
+    (λ c. search needs)
+    (λ c. search needs)
+    (λ c κs. search needs)
+    (λ c κs. search needs)
+    returns)

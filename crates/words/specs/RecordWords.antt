@@ -1,0 +1,118 @@
+-- A record as words of 32 bits, in this order: PDU type; affected users; interrogation type, result, delivery status;
+-- number of services and 7 services; groups, restricted, exceptions; restricted numbers and exceptions to them.
+use Prim.Native.Nat.{ℕ, zero, suc, min}
+use mathlib.Core.Bool.{Bool, true, false}
+use mathlib.Core.List.{List, [], _∷_, _++_}
+use lib.ListN.{length, take, drop, getD}
+use lib.Dec.{eqb}
+use Rattle.bits.specs.Bits.{pick}
+use Rattle.grammar.specs.Zero.{zeroRecord}
+use Rattle.grammar.specs.declared.record.Identity.{Identity}
+use Rattle.grammar.specs.declared.record.Identities.{Identities}
+use Rattle.grammar.specs.declared.record.Number.{Number}
+use Rattle.grammar.specs.declared.record.Numbers.{Numbers}
+use Rattle.grammar.specs.declared.record.Services.{Services}
+use Rattle.grammar.specs.declared.record.Lists.{Lists}
+use Rattle.grammar.specs.declared.record.Record.{Record}
+use Rattle.words.specs.declared.record.GivenRecord.{GivenRecord}
+
+-- ---- to words
+
+-- the words of each entry, one entry after the other
+unfoldable pub inTurn : {A : Type 0} → (A → List ℕ) → List A → List ℕ
+inTurn f [] = []
+inTurn f (x ∷ xs) = f x ++ inTurn f xs
+
+unfoldable pub identityWords : Identity → List ℕ
+identityWords e = e .ssi ∷ e .present ∷ e .extension ∷ []
+
+unfoldable pub identitiesWords : Identities → List ℕ
+identitiesWords l = l .code ∷ inTurn identityWords (l .entries)
+
+unfoldable pub numberWords : Number → List ℕ
+numberWords e = e .length .0 ∷ e .digits
+
+unfoldable pub numbersWords : Numbers → List ℕ
+numbersWords l = l .code ∷ inTurn numberWords (l .entries)
+
+unfoldable pub servicesWords : Services → List ℕ
+servicesWords l = l .count ∷ l .list
+
+unfoldable pub listsWords : Lists → List ℕ
+listsWords l =
+    identitiesWords (l .groups) ++ (identitiesWords (l .restricted) ++ (identitiesWords (l .exceptions)
+    ++ (numbersWords (l .numbers) ++ numbersWords (l .excepted))))
+
+unfoldable pub recordWords : Record → List ℕ
+recordWords r =
+    r .kind ∷ identitiesWords (r .affected)
+    ++ (r .asked ∷ r .result ∷ r .delivery ∷ servicesWords (r .services) ++ listsWords (r .lists))
+
+-- ---- from words
+
+abbrev pub word : List ℕ → ℕ → ℕ
+word w i = getD w i 0
+
+-- so many entries of so many words each
+unfoldable pub entriesFrom : {A : Type 0} → (List ℕ → A) → ℕ → ℕ → List ℕ → List A
+entriesFrom f width zero w = []
+entriesFrom f width (suc n) w = f w ∷ entriesFrom f width n (drop width w)
+
+-- a length and a digit are bytes in a record; a wider word becomes 255, which is refused as either
+abbrev pub narrow : ℕ → ℕ
+narrow w = min w 255
+
+unfoldable pub narrowed : List ℕ → List ℕ
+narrowed [] = []
+narrowed (w ∷ ws) = narrow w ∷ narrowed ws
+
+unfoldable pub identityFrom : List ℕ → Identity
+identityFrom w = record { ssi = word w 0; present = word w 1; extension = word w 2 }
+
+unfoldable pub identitiesFrom : List ℕ → Identities
+identitiesFrom w = record { code = word w 0; entries = entriesFrom identityFrom 3 8 (drop 1 w) }
+
+unfoldable pub numberFrom : List ℕ → Number
+numberFrom w = record { length = record { 0 = narrow (word w 0) }; digits = narrowed (take 24 (drop 1 w)) }
+
+unfoldable pub numbersFrom : List ℕ → Numbers
+numbersFrom w = record { code = word w 0; entries = entriesFrom numberFrom 25 8 (drop 1 w) }
+
+unfoldable pub servicesFrom : List ℕ → Services
+servicesFrom w = record { count = word w 0; list = take 7 (drop 1 w) }
+
+unfoldable pub listsFrom : List ℕ → Lists
+listsFrom w = record {
+  groups = identitiesFrom w;
+  restricted = identitiesFrom (drop 25 w);
+  exceptions = identitiesFrom (drop 50 w);
+  numbers = numbersFrom (drop 75 w);
+  excepted = numbersFrom (drop 276 w);
+}
+
+unfoldable pub recordFrom : List ℕ → Record
+recordFrom w = record {
+  kind = word w 0;
+  affected = identitiesFrom (drop 1 w);
+  asked = word w 26;
+  result = word w 27;
+  delivery = word w 28;
+  services = servicesFrom (drop 29 w);
+  lists = listsFrom (drop 37 w);
+}
+
+-- ---- a slice of words: 514 are a record's; another number of them gives no record and is left alone
+
+abbrev pub areRecord : ℕ → Bool
+areRecord words = eqb words 514
+
+unfoldable pub putRecord : Record → List ℕ → List ℕ
+putRecord r words = pick (areRecord (length words)) (recordWords r) words
+
+unfoldable pub givenRecord : List ℕ → GivenRecord
+givenRecord words = pick (areRecord (length words)) (record { given = true; found = recordFrom words }) (record { given = false; found = zeroRecord })
+
+-- `unfolding records` opens all of it
+unfoldable pub records : Unit {0}
+unfolding inTurn identityWords identitiesWords numberWords numbersWords servicesWords listsWords recordWords entriesFrom narrowed identityFrom identitiesFrom numberFrom numbersFrom servicesFrom listsFrom recordFrom
+records = tt

@@ -1,0 +1,295 @@
+// A record as 514 words: PDU type; affected users; interrogation type, result, delivery status; services; the five lists.
+use bits::DigitCount;
+use grammar::record::Identities;
+use grammar::record::Identity;
+use grammar::record::Lists;
+use grammar::record::Number;
+use grammar::record::Numbers;
+use grammar::record::Record;
+use grammar::record::Services;
+use grammar::zero::zero_record;
+ghost use mathlib.Core.Path.{_≡_};
+ghost use mathlib.Core.List.{_∷_, []};
+ghost use Prim.Native.Nat.{_+_, _≤_, _<_};
+ghost use lib.ListN.{length, take, drop};
+ghost use Rattle.words.specs.Putting.{Put};
+ghost use Rattle.words.specs.RecordWords.{identityWords, identitiesWords, numberWords, numbersWords, servicesWords, listsWords};
+ghost use Rattle.words.specs.RecordWords.{recordWords, narrow, narrowed, identityFrom, identitiesFrom, numberFrom, numbersFrom};
+ghost use Rattle.words.specs.RecordWords.{servicesFrom, listsFrom, recordFrom, givenRecord, putRecord};
+
+pub const RECORD_WORDS: usize = 514;
+
+// Whether words are a record's, and that record. Beside other words all of it is zero.
+pub struct GivenRecord {
+    pub given: bool,
+    pub found: Record,
+}
+
+// ---- to words; each writer returns the place after what it writes
+
+fn put_word(words: &mut [u32], at: usize, word: u32) -> usize
+    requires { ⌜ at < length (now words) ⌝ }
+    ensures { λ r. ⌜ Put (now (words .entry)) at (word ∷ []) 1 (now (words .exit)) r ⌝ }
+{
+    words[at] = word;
+    at + 1
+}
+
+fn put_identity(words: &mut [u32], at: usize, e: Identity) -> usize
+    requires { ⌜ at + 3 ≤ length (now words) ⌝ }
+    ensures { λ r. ⌜ Put (now (words .entry)) at (identityWords e) 3 (now (words .exit)) r ⌝ }
+{
+    let present_at = put_word(words, at, e.ssi);
+    let extension_at = put_word(words, present_at, e.present);
+    put_word(words, extension_at, e.extension)
+}
+
+fn put_identities(words: &mut [u32], at: usize, list: Identities) -> usize
+    requires { ⌜ at + 25 ≤ length (now words) ⌝ }
+    ensures { λ r. ⌜ Put (now (words .entry)) at (identitiesWords list) 25 (now (words .exit)) r ⌝ }
+{
+    let entries = list.entries;
+    let mut next = put_word(words, at, list.code);
+    let mut i: usize = 0;
+    while i < 8 {
+        next = put_identity(words, next, entries[i]);
+        i += 1;
+    }
+    next
+}
+
+fn put_number(words: &mut [u32], at: usize, e: Number) -> usize
+    requires { ⌜ at + 25 ≤ length (now words) ⌝ }
+    ensures { λ r. ⌜ Put (now (words .entry)) at (numberWords e) 25 (now (words .exit)) r ⌝ }
+{
+    let digits = e.digits;
+    let mut next = put_word(words, at, e.length.0 as u32);
+    let mut i: usize = 0;
+    while i < 24 {
+        next = put_word(words, next, digits[i] as u32);
+        i += 1;
+    }
+    next
+}
+
+fn put_numbers(words: &mut [u32], at: usize, list: Numbers) -> usize
+    requires { ⌜ at + 201 ≤ length (now words) ⌝ }
+    ensures { λ r. ⌜ Put (now (words .entry)) at (numbersWords list) 201 (now (words .exit)) r ⌝ }
+{
+    let entries = list.entries;
+    let mut next = put_word(words, at, list.code);
+    let mut i: usize = 0;
+    while i < 8 {
+        next = put_number(words, next, entries[i]);
+        i += 1;
+    }
+    next
+}
+
+fn put_services(words: &mut [u32], at: usize, services: Services) -> usize
+    requires { ⌜ at + 8 ≤ length (now words) ⌝ }
+    ensures { λ r. ⌜ Put (now (words .entry)) at (servicesWords services) 8 (now (words .exit)) r ⌝ }
+{
+    let list = services.list;
+    let mut next = put_word(words, at, services.count);
+    let mut i: usize = 0;
+    while i < 7 {
+        next = put_word(words, next, list[i]);
+        i += 1;
+    }
+    next
+}
+
+fn put_lists(words: &mut [u32], at: usize, lists: Lists) -> usize
+    requires { ⌜ at + 477 ≤ length (now words) ⌝ }
+    ensures { λ r. ⌜ Put (now (words .entry)) at (listsWords lists) 477 (now (words .exit)) r ⌝ }
+{
+    let groups = lists.groups;
+    let restricted = lists.restricted;
+    let exceptions = lists.exceptions;
+    let numbers = lists.numbers;
+    let excepted = lists.excepted;
+    let restricted_at = put_identities(words, at, groups);
+    let exceptions_at = put_identities(words, restricted_at, restricted);
+    let numbers_at = put_identities(words, exceptions_at, exceptions);
+    let excepted_at = put_numbers(words, numbers_at, numbers);
+    put_numbers(words, excepted_at, excepted)
+}
+
+fn put_fields(words: &mut [u32], found: Record)
+    requires { ⌜ length (now words) ≡ 514 ⌝ }
+    ensures { λ _. ⌜ now (words .exit) ≡ recordWords found ⌝ }
+{
+    let affected = found.affected;
+    let services = found.services;
+    let lists = found.lists;
+    let affected_at = put_word(words, 0, found.kind);
+    let asked_at = put_identities(words, affected_at, affected);
+    let result_at = put_word(words, asked_at, found.asked);
+    let delivery_at = put_word(words, result_at, found.result);
+    let services_at = put_word(words, delivery_at, found.delivery);
+    let lists_at = put_services(words, services_at, services);
+    put_lists(words, lists_at, lists);
+}
+
+// The words of a record in place of those that were there, if there are as many.
+pub fn put_record(words: &mut [u32], found: Record)
+    ensures { λ _. ⌜ now (words .exit) ≡ putRecord found (now (words .entry)) ⌝ }
+{
+    if words.len() == RECORD_WORDS {
+        put_fields(words, found);
+    }
+}
+
+// ---- from words
+
+// A word as a byte; one that is wider becomes 255, which its element refuses.
+pub(crate) fn narrow_word(word: u32) -> u8
+    ensures { λ r. ⌜ r ≡ narrow word ⌝ }
+{
+    if 255 < word {
+        return 255;
+    }
+    word as u8
+}
+
+fn identity_from(words: &[u32], at: usize) -> Identity
+    requires { ⌜ at + 3 ≤ length (now words) ⌝ }
+    ensures { λ r. ⌜ r ≡ identityFrom (drop at (now (words .entry))) ⌝ }
+{
+    Identity {
+        ssi: words[at],
+        present: words[at + 1],
+        extension: words[at + 2],
+    }
+}
+
+fn identities_from(words: &[u32], at: usize) -> Identities
+    requires { ⌜ at + 25 ≤ length (now words) ⌝ }
+    ensures { λ r. ⌜ r ≡ identitiesFrom (drop at (now (words .entry))) ⌝ }
+{
+    let none = Identity {
+        ssi: 0,
+        present: 0,
+        extension: 0,
+    };
+    let mut held = [none; 8];
+    let mut from = at + 1;
+    let mut i: usize = 0;
+    while i < 8 {
+        held[i] = identity_from(words, from);
+        from += 3;
+        i += 1;
+    }
+    Identities {
+        code: words[at],
+        entries: held,
+    }
+}
+
+// The 24 digits from a place on.
+pub(crate) fn digits_from(words: &[u32], at: usize) -> [u8; 24]
+    requires { ⌜ at + 24 ≤ length (now words) ⌝ }
+    ensures { λ r. ⌜ r ≡ narrowed (take 24 (drop at (now (words .entry)))) ⌝ }
+{
+    let mut held = [0u8; 24];
+    let mut i: usize = 0;
+    while i < 24 {
+        held[i] = narrow_word(words[at + i]);
+        i += 1;
+    }
+    held
+}
+
+fn number_from(words: &[u32], at: usize) -> Number
+    requires { ⌜ at + 25 ≤ length (now words) ⌝ }
+    ensures { λ r. ⌜ r ≡ numberFrom (drop at (now (words .entry))) ⌝ }
+{
+    Number {
+        length: DigitCount(narrow_word(words[at])),
+        digits: digits_from(words, at + 1),
+    }
+}
+
+fn numbers_from(words: &[u32], at: usize) -> Numbers
+    requires { ⌜ at + 201 ≤ length (now words) ⌝ }
+    ensures { λ r. ⌜ r ≡ numbersFrom (drop at (now (words .entry))) ⌝ }
+{
+    let none = Number {
+        length: DigitCount(0),
+        digits: [0u8; 24],
+    };
+    let mut held = [none; 8];
+    let mut from = at + 1;
+    let mut i: usize = 0;
+    while i < 8 {
+        held[i] = number_from(words, from);
+        from += 25;
+        i += 1;
+    }
+    Numbers {
+        code: words[at],
+        entries: held,
+    }
+}
+
+fn services_from(words: &[u32], at: usize) -> Services
+    requires { ⌜ at + 8 ≤ length (now words) ⌝ }
+    ensures { λ r. ⌜ r ≡ servicesFrom (drop at (now (words .entry))) ⌝ }
+{
+    let mut held = [0u32; 7];
+    let first = at + 1;
+    let mut i: usize = 0;
+    while i < 7 {
+        held[i] = words[first + i];
+        i += 1;
+    }
+    Services {
+        count: words[at],
+        list: held,
+    }
+}
+
+fn lists_from(words: &[u32], at: usize) -> Lists
+    requires { ⌜ at + 477 ≤ length (now words) ⌝ }
+    ensures { λ r. ⌜ r ≡ listsFrom (drop at (now (words .entry))) ⌝ }
+{
+    Lists {
+        groups: identities_from(words, at),
+        restricted: identities_from(words, at + 25),
+        exceptions: identities_from(words, at + 50),
+        numbers: numbers_from(words, at + 75),
+        excepted: numbers_from(words, at + 276),
+    }
+}
+
+fn fields_from(words: &[u32]) -> Record
+    requires { ⌜ length (now words) ≡ 514 ⌝ }
+    ensures { λ r. ⌜ r ≡ recordFrom (now (words .entry)) ⌝ }
+{
+    Record {
+        kind: words[0],
+        affected: identities_from(words, 1),
+        asked: words[26],
+        result: words[27],
+        delivery: words[28],
+        services: services_from(words, 29),
+        lists: lists_from(words, 37),
+    }
+}
+
+// The record of 514 words.
+pub fn record_from(words: &[u32]) -> GivenRecord
+    ensures { λ r. ⌜ r ≡ givenRecord (now (words .entry)) ⌝ }
+{
+    if words.len() != RECORD_WORDS {
+        return GivenRecord {
+            given: false,
+            found: zero_record(),
+        };
+    }
+    GivenRecord {
+        given: true,
+        found: fields_from(words),
+    }
+}
