@@ -23,7 +23,7 @@ pub element-short : (l : List Bool) (at w : ℕ) → length l < at + w → eleme
 unfolding elementAt
 element-short l at w h = rw (lt-leb (at + w) (length l) h)
 
-pub take-element : (s : List ℕ) (n at w : ℕ) → 1 ≤ w → w ≤ 32 → takeAt s n at w ≡ elementAt (bitsIn n s) at w
+take-element : (s : List ℕ) (n at w : ℕ) → 1 ≤ w → w ≤ 32 → takeAt s n at w ≡ elementAt (bitsIn n s) at w
 unfolding takeAt
 take-element s n at w l h = rw (le-leb 1 w l, le-leb w 32 h)
 

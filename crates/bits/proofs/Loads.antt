@@ -13,7 +13,7 @@ use Rattle.bits.proofs.Numbers.{length-bitsOf, value-append, value-bits
 use Rattle.bits.proofs.Bytes.{length-bits, bits-append}
 
 -- one more byte
-pub value-byte : (t : List ℕ) (i : ℕ) → i < length t → getD t i 0 < 256
+value-byte : (t : List ℕ) (i : ℕ) → i < length t → getD t i 0 < 256
     → value (bits (take (i + 1) t)) ≡ value (bits (take i t)) * 256 + getD t i 0
 unfolding bits
 value-byte t i h byte =

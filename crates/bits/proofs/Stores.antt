@@ -57,7 +57,7 @@ module _ (x r n k f : ℕ) (lt : f < 2 ^ n) where
       ∙ append-assoc (bitsOf r (x / 2 ^ (n + k))) (bitsOf n f) (bitsOf k x)
 
   -- to put the number back with its field replaced is to put the field
-  pub splice-within : (a c : List Bool) (at : ℕ) → length a ≡ at
+  splice-within : (a c : List Bool) (at : ℕ) → length a ≡ at
       → splice (a ++ (bitsOf (r + (n + k)) x ++ c)) at (bitsOf (r + (n + k)) (within x n k f))
       ≡ splice (a ++ (bitsOf (r + (n + k)) x ++ c)) (at + r) (bitsOf n f)
   splice-within a c at e =

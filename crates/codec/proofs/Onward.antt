@@ -85,7 +85,7 @@ tested-element w refuse s p {read} {k} e f =
 
 -- ---- the value of an element that was read
 
-pub element-small : (w : ℕ) (refuse : ℕ → ℕ) (s : List Bool) (at v at′ : ℕ) → readAt (element w refuse) s at ≡ got v at′ → (v < 2 ^ w) × (refuse v ≡ 0)
+element-small : (w : ℕ) (refuse : ℕ → ℕ) (s : List Bool) (at v at′ : ℕ) → readAt (element w refuse) s at ≡ got v at′ → (v < 2 ^ w) × (refuse v ≡ 0)
 unfolding element tested number
 element-small w refuse s at v at′ e =
     let h = first-none (numberFault w v) (refuse v) (readAt-legal (element w refuse) s at v at′ e .0 .faultless) in

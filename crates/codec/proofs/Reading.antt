@@ -25,7 +25,7 @@ pub andNext-assoc : {A B C : Type 0} (o : Answer A) (j : A → ℕ → Answer B)
 andNext-assoc (got a at) j k = refl
 andNext-assoc (refused n p) j k = refl
 
-pub next-got : {A : Type 0} (o : Answer A) → andNext o (λ a at. got a at) ≡ o
+next-got : {A : Type 0} (o : Answer A) → andNext o (λ a at. got a at) ≡ o
 next-got (got a at) = refl
 next-got (refused n p) = refl
 

@@ -49,7 +49,7 @@ pub size-pick : {A : Type 0} (t : Bool) {c d : Codec A} {n : ℕ} → Within n c
 size-pick true h k = h
 size-pick false h k = k
 
-pub size-cons : {A : Type 0} (c : Codec A) (d : Codec (List A)) (k n : ℕ) → Within k c → Within n d → Within (k + n) (cons c d)
+size-cons : {A : Type 0} (c : Codec A) (d : Codec (List A)) (k n : ℕ) → Within k c → Within n d → Within (k + n) (cons c d)
 unfolding cons
 size-cons c d k n h hd = record { size = λ l. elim l [ [] ↦ omega arith | a ∷ t ↦ omega (arith, h .size a, hd .size t, length-append (c .print a) (d .print t)) ] }
 

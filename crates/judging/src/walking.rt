@@ -1,5 +1,6 @@
 // Walks over the parts of a PDU of n bits in s: each gives the place after its part, or says that the part is not legal.
 // Nothing is kept of what a part holds.
+use bits::DigitCount;
 use grammar::site;
 ghost use mathlib.Core.Path.{_≡_};
 ghost use Prim.Native.Nat.{_+_, _-_, _*_, _/_, _%_, _^_, _≤_, _<_};
@@ -152,26 +153,27 @@ fn pass_services(s: &[u8], n: usize, start: usize) -> Walked
 }
 
 // The digits of an external number, which follow its length: 13 in the window that has the length, and the rest in the next.
-fn pass_digits(s: &[u8], n: usize, start: usize, window: u64, count: usize) -> Walked
-    requires { ⌜ Inside (now s) n start × (start + 5 ≤ n) × (count ≤ 24) × (window ≡ windowAt (now s) start) ⌝ }
-    ensures { λ r. ⌜ r ≡ walk (places (element 4 digitRefusal) absent 24 count) (bitsIn n (now (s .entry))) (start + 5) ⌝ }
+fn pass_digits(s: &[u8], n: usize, start: usize, window: u64, count: DigitCount) -> Walked
+    requires { ⌜ Inside (now s) n start × (start + 5 ≤ n) × (count .0 ≤ 24) × (window ≡ windowAt (now s) start) ⌝ }
+    ensures { λ r. ⌜ r ≡ walk (places (element 4 digitRefusal) absent 24 (count .0)) (bitsIn n (now (s .entry))) (start + 5) ⌝ }
 {
-    if n - start < 5 + 4 * count {
+    let size = count.bits().0;
+    if n - start < 5 + size {
         return Walked::Off;
     }
-    if count <= 13 {
-        if !site::are_digits(inner(window, 5, 4 * count)) {
+    if count.0 <= 13 {
+        if !site::are_digits(inner(window, 5, size)) {
             return Walked::Off;
         }
-        return Walked::At(start + 5 + 4 * count);
+        return Walked::At(start + 5 + size);
     }
     if !site::are_digits(inner(window, 5, 52)) {
         return Walked::Off;
     }
-    if !site::are_digits(inner(bits::window(s, start + 57), 0, 4 * count - 52)) {
+    if !site::are_digits(inner(bits::window(s, start + 57), 0, size - 52)) {
         return Walked::Off;
     }
-    Walked::At(start + 5 + 4 * count)
+    Walked::At(start + 5 + size)
 }
 
 // An external number: its length and its digits.
@@ -190,7 +192,7 @@ fn pass_external(s: &[u8], n: usize, start: usize) -> Walked
     if 24 < count {
         return Walked::Off;
     }
-    pass_digits(s, n, start, window, count)
+    pass_digits(s, n, start, window, DigitCount(count as u8))
 }
 
 // So many external numbers.

@@ -59,15 +59,15 @@ module _ (s : List Bool) (at : ℕ) where
 -- ---- lists and services that the PDU does not carry
 
 module _ (s : List Bool) (at : ℕ) where
-  pub noIdentities-at : readAt noIdentities s at ≡ got zeroIdentities at
+  noIdentities-at : readAt noIdentities s at ≡ got zeroIdentities at
   unfolding noIdentities
   noIdentities-at = simp (readAt-shaped, readAt-seq, readAt-absent, places-rest noIdentity noIdentity s zeroIdentity (noIdentity-at s) 8)
 
-  pub noExternals-at : readAt noExternals s at ≡ got zeroNumbers at
+  noExternals-at : readAt noExternals s at ≡ got zeroNumbers at
   unfolding noExternals
   noExternals-at = simp (readAt-shaped, readAt-seq, readAt-absent, places-rest noExternal noExternal s zeroNumber (noExternal-at s) 8)
 
-  pub noServices-at : readAt noServices s at ≡ got zeroServices at
+  noServices-at : readAt noServices s at ≡ got zeroServices at
   unfolding noServices
   noServices-at = simp (readAt-shaped, readAt-seq, readAt-absent, places-rest absent absent s 0 (readAt-absent s) 7)
 

@@ -1,4 +1,5 @@
 // A record that is not refused, put into the lent buffer part by part, each element straight into its place.
+use bits::DigitCount;
 use grammar::record::Identities;
 use grammar::record::Identity;
 use grammar::record::Lists;
@@ -14,8 +15,8 @@ ghost use Rattle.codec.specs.Parts.{number, absent, element};
 ghost use Rattle.codec.specs.Places.{places};
 ghost use Rattle.grammar.specs.SiteSheet.{serviceRefusal};
 ghost use Rattle.grammar.specs.Grammar.{identity, noIdentity, identities, external, noExternal, externals, services, identityPart, numberPart, partOf, interrogateAck, restOf, fromRecord, pdu};
-ghost use Rattle.writer.specs.Writing.{Room, Puts, DigitsAfter};
 ghost use Rattle.grammar.specs.declared.site.Listing.the-variants as of;
+ghost use Rattle.writer.specs.Writing.{Room, Puts, DigitsAfter};
 
 // Puts a run of up to 57 bits, the low ones of a number, at a place, and gives the next place, as each function below does.
 fn put_run(out: &mut [u8], at: usize, width: usize, run: u64) -> usize
@@ -109,10 +110,12 @@ fn put_number(out: &mut [u8], at: usize, e: Number) -> usize
     let digits = e.digits;
     let early = bits::least(count as usize, 12);
     let late = bits::least(count as usize, 24) - early;
-    let first = with_twelve(count as u64, digits, 0) >> (48 - 4 * early);
-    let second = with_twelve(0, digits, 12) >> (48 - 4 * late);
-    let middle = put_run(out, at, 5 + 4 * early, first);
-    put_run(out, middle, 4 * late, second)
+    let early_bits = DigitCount(early as u8).bits().0;
+    let late_bits = DigitCount(late as u8).bits().0;
+    let first = with_twelve(count as u64, digits, 0) >> (48 - early_bits);
+    let second = with_twelve(0, digits, 12) >> (48 - late_bits);
+    let middle = put_run(out, at, 5 + early_bits, first);
+    put_run(out, middle, late_bits, second)
 }
 
 // The first n places of a list.

@@ -48,5 +48,6 @@ pass-external-spec =
     (λ c. search needs)
     returns-2
     returns-3
+    (λ c. search needs)
     (λ c κs. search needs)
     returns-4)
