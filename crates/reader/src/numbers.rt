@@ -87,7 +87,7 @@ fn twelve(s: &[u8], at: usize, count: usize) -> u64
     requires { ⌜ count ≤ 12 ⌝ }
     ensures { λ r. ⌜ r ≡ twelveAt (now (s .entry)) at count ⌝ }
 {
-    let unused = 48 - 4 * count;
+    let unused = 48 - DigitCount(count as u8).bits().0;
     (bits::window(s, at) >> (9 + unused)) << unused
 }
 
