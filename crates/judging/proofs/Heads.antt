@@ -33,7 +33,11 @@ use Rattle.judging.proofs.Elements.{element-at}
 use Rattle.judging.proofs.Identities.{identity-short}
 use Rattle.judging.proofs.Users.{judgedOf, off-judged, judged-at, one, one-at, one-held}
 
-head-bits : (r : Record) (rest : List Bool) → r .kind ≡ 12 → r .affected .code ≡ 1 → value (take 15 (pdu .print r ++ rest)) ≡ 9409
+-- the SS type, PDU type 12, range type 1
+abbrev pub headValue : ℕ
+headValue = ssType * 512 + 12 * 16 + 1
+
+head-bits : (r : Record) (rest : List Bool) → r .kind ≡ 12 → r .affected .code ≡ 1 → value (take 15 (pdu .print r ++ rest)) ≡ headValue
 unfolding pdu mark shaped seq element tested number identities bitsOf value
 head-bits r rest k c = rw (k, c)
 
@@ -45,7 +49,7 @@ module _ (s : List ℕ) (n : ℕ) (f : framed s n ≡ true) where
   size = length-pdu s n room
 
   -- only a PDU that begins so may be held
-  begins : 15 ≤ n → (r : Record) (rest : List Bool) → bitsIn n s ≡ pdu .print r ++ rest → mayHold r ≡ true → windowAt s 0 / 2 ^ 42 ≡ 9409
+  begins : 15 ≤ n → (r : Record) (rest : List Bool) → bitsIn n s ≡ pdu .print r ++ rest → mayHold r ≡ true → windowAt s 0 / 2 ^ 42 ≡ headValue
   begins h r rest e m =
       let a = both (eqb (r .kind) 12) (leb 1 (r .result) && (leb (r .result) 2 && eqb (r .affected .code) 1)) m in
       let b = both (leb 1 (r .result)) (leb (r .result) 2 && eqb (r .affected .code) 1) (a .1) in
@@ -53,7 +57,7 @@ module _ (s : List ℕ) (n : ℕ) (f : framed s n ≡ true) where
       sym (window-first s n room 0 15 (omega arith) h) ∙ ap (λ (l : List Bool). value (take 15 l)) e
       ∙ head-bits r rest (eqb-true (r .kind) 12 (a .0)) (eqb-true (r .affected .code) 1 (d .1))
 
-  pub judged-other : 15 ≤ n → (windowAt s 0 / 2 ^ 42 ≡ 9409 → ⊥) → judgedIs s n ≡ Other
+  pub judged-other : 15 ≤ n → (windowAt s 0 / 2 ^ 42 ≡ headValue → ⊥) → judgedIs s n ≡ Other
   judged-other h k =
       judged-at s n f ∙ read-cases pdu (bitsIn n s) 0 (λ o. judgedOf n o ≡ Other) (λ j p. refl) (λ r g rest e. may r rest e (mayHold r) refl _)
     where
@@ -64,10 +68,10 @@ module _ (s : List ℕ) (n : ℕ) (f : framed s n ≡ true) where
 
   -- ---- the affected user
 
-  module _ (h : 15 ≤ n) (is : windowAt s 0 / 2 ^ 42 ≡ 9409) where
-    ss-at : readAt (element 6 (only ssType)) (bitsIn n s) 0 ≡ got 18 6
+  module _ (h : 15 ≤ n) (is : windowAt s 0 / 2 ^ 42 ≡ headValue) where
+    ss-at : readAt (element 6 (only ssType)) (bitsIn n s) 0 ≡ got ssType 6
     ss-at =
-        let v : value (take 6 (drop 0 (bitsIn n s))) ≡ 18 = window-first s n room 0 6 (omega arith) (omega arith) ∙ omega arith in
+        let v : value (take 6 (drop 0 (bitsIn n s))) ≡ ssType = window-first s n room 0 6 (omega arith) (omega arith) ∙ omega arith in
         element-at 6 (bitsIn n s) 0 (omega arith) (only ssType) (omega (arith, size)) ∙ rw v
 
     kind-at : readAt (element 5 kindRefusal) (bitsIn n s) 6 ≡ got 12 11
@@ -110,11 +114,11 @@ module _ (s : List ℕ) (n : ℕ) (f : framed s n ≡ true) where
 
   -- the head and a user have at least 40 bits
   pub judged-short : n < 40 → judgedIs s n ≡ Other
-  judged-short h = go (leb 15 n) refl (eqb (windowAt s 0 / 2 ^ 42) 9409) refl
+  judged-short h = go (leb 15 n) refl (eqb (windowAt s 0 / 2 ^ 42) headValue) refl
     where
-      go : (a : Bool) → leb 15 n ≡ a → (b : Bool) → eqb (windowAt s 0 / 2 ^ 42) 9409 ≡ b → judgedIs s n ≡ Other
+      go : (a : Bool) → leb 15 n ≡ a → (b : Bool) → eqb (windowAt s 0 / 2 ^ 42) headValue ≡ b → judgedIs s n ≡ Other
       go true e true g =
           let i : Inside s n 15 = record { place = leb-true 15 n e; bytes = room } in
-          judged-no-user (leb-true 15 n e) (eqb-true (windowAt s 0 / 2 ^ 42) 9409 g) (identity-short i (omega arith))
-      go true e false g = judged-other (leb-true 15 n e) (eqb-false (windowAt s 0 / 2 ^ 42) 9409 g)
+          judged-no-user (leb-true 15 n e) (eqb-true (windowAt s 0 / 2 ^ 42) headValue g) (identity-short i (omega arith))
+      go true e false g = judged-other (leb-true 15 n e) (eqb-false (windowAt s 0 / 2 ^ 42) headValue g)
       go false e b g = headless (leb-false 15 n e)

@@ -2,6 +2,7 @@
 use crate::walking::Walked;
 use bits::BitCount;
 use grammar::record::Identity;
+use grammar::site::SS_TYPE;
 ghost use mathlib.Core.Path.{_≡_};
 ghost use Rattle.bits.specs.Frame.{bitsIn};
 ghost use Rattle.codec.specs.Reading.{readAt};
@@ -17,8 +18,8 @@ pub enum Judged {
     Other,
 }
 
-// The first 15 bits of a PDU that an archive may hold: SS type 18, PDU type 12, range type 1.
-const HEAD: u64 = 9409;
+// The first 15 bits of a PDU that an archive may hold: the SS type, PDU type 12, range type 1.
+const HEAD: u64 = (SS_TYPE as u64) * 512 + 12 * 16 + 1;
 
 pub fn judge(s: &[u8], n: BitCount) -> Judged
     ensures { λ r. ⌜ r ≡ judgedIs (now (s .entry)) (n .0) ⌝ }

@@ -13,7 +13,7 @@ use Rattle.grammar.specs.declared.record.Identity.{Identity}
 use Rattle.judging.specs.Walk.{Inside, held}
 use Rattle.judging.proofs.Identities.{identity-plain, identity-wide, identity-cut}
 use Rattle.judging.proofs.Users.{judged-unframed}
-use Rattle.judging.proofs.Heads.{judged-other, judged-user, judged-no-user, judged-short}
+use Rattle.judging.proofs.Heads.{headValue, judged-other, judged-user, judged-no-user, judged-short}
 use Rattle.judging.proofs.judge.Statement.{statement}
 use Rattle.judging.proofs.judge.Tie as tie
 
@@ -31,7 +31,7 @@ returns-3 c =
     sym (judged-other _ _ (frame (c .before .before .before)) (omega arith)
     (λ e. c .if3 .taken (ap (λ (w : ℕ). w / 2 ^ 42) (c .before .window .ensures) ∙ e)))
 
-head : (c : tie.Else3) → let a = c .before .before .before .before .before .before .args in windowAt (now (a .s)) 0 / 2 ^ 42 ≡ 9409
+head : (c : tie.Else3) → let a = c .before .before .before .before .before .before .args in windowAt (now (a .s)) 0 / 2 ^ 42 ≡ headValue
 head c = ap (λ (w : ℕ). w / 2 ^ 42) (sym (c .before .window .ensures)) ∙ c .if3 .left
 
 -- a place of the PDU, from the head on
