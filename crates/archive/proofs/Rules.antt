@@ -8,7 +8,7 @@ use lib.Dec.{ltb, leb}
 use borrow.Author.Tests.{ltb-true, leb-true, lt-ltb, le-leb}
 use Rattle.bits.proofs.Tests.{both, both⁻¹}
 use Rattle.archive.specs.Model.{Held, Archive, keyOf, lengthOf, withinLimits}
-use Rattle.archive.specs.Filing.{agrees, bodyAgrees, keepsRules, wellFormed}
+use Rattle.archive.specs.Filing.{bodyAgrees, keepsRules, wellFormed}
 use Rattle.archive.proofs.Bodies.{agrees-says, Fits, fits}
 
 pub data AllFit : List Held → Type 0 where

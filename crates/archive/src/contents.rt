@@ -1,7 +1,7 @@
 // The numbers, the header and the entries of an archive: their widths and their order.
 use bits::BitCount;
 ghost use mathlib.Core.Path.{_≡_};
-ghost use Prim.Native.Nat.{_+_, _*_, _≤_, _<_};
+ghost use Prim.Native.Nat.{_+_, _≤_, _<_};
 ghost use lib.ListN.{length, getD};
 ghost use Rattle.archive.specs.Model.{keyFor, headerBytes, entryBytes, withinLimits};
 ghost use Rattle.archive.specs.Reading.{number2, number3, homeOf, entryAt};

@@ -18,7 +18,7 @@ abbrev pub behind : {A : Type 0} → List A → Answer (List A) → Answer (List
 behind xs o = andNext o (λ l at. got (xs ++ l) at)
 
 module _ {A : Type 0} (c z : Codec A) (s : List Bool) where
-  -- what has to be read of m + i places and n + i entries, from a place on, is what i entries in hand and m places and n entries from the next place give
+  -- an entry that is read stands before those of the places after it; one that is refused refuses them all
   places-got : (m n at : ℕ) (a : A) (at′ : ℕ) → readAt c s at ≡ got a at′
       → readAt (places c z (suc m) (suc n)) s at ≡ behind (a ∷ []) (readAt (places c z m n) s at′)
   unfolding places

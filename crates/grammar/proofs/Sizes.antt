@@ -1,14 +1,14 @@
 -- How long a part of a PDU can be: the sum of what its elements can be. Assumes nothing.
 use mathlib.Core.Path.{_≡_}
 use mathlib.Core.Bool.{Bool}
-use mathlib.Core.List.{List, _++_}
+use mathlib.Core.List.{_++_}
 use Prim.Native.Nat.{ℕ, _+_, _≤_}
 use native.Mathlib.Omega.{arith}
 use lib.ListN.{length, length-append}
 use lib.Dec.{eqb}
 use Rattle.bits.specs.Bits.{pick}
 use Rattle.codec.specs.Codec.{Codec}
-use Rattle.codec.specs.Parts.{number, absent, element, seq, tested, shaped, mark, only}
+use Rattle.codec.specs.Parts.{absent, element, seq, shaped, mark, only}
 use Rattle.codec.specs.Places.{places}
 use Rattle.codec.proofs.Sizes.{Within, size-number, size-absent, size-more, size-seq, size-tested, size-element, size-shaped, size-pick, size-places}
 use Rattle.grammar.specs.SiteSheet.{ssType, entriesOf, rangeRefusal, digitRefusal, serviceRefusal, kindRefusal, resultRefusal, askedRefusal, countRefusal, lengthRefusal}

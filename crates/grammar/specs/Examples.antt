@@ -1,55 +1,19 @@
--- Worked cases that antt computes. P13 and P14 are those of document 01.
+-- Worked cases that antt computes: the PDUs of document 01's P13 and P14, and the longest of each.
 use mathlib.Core.Path.{_≡_, refl}
 use mathlib.Core.Bool.{true}
-use mathlib.Core.List.{[], _∷_}
-use Prim.Native.Nat.{ℕ}
+use mathlib.Core.List.{[]}
 use lib.ListN.{length, replicate}
 use Rattle.codec.specs.Codec.{ok}
 use Rattle.codec.specs.Whole.{wholeParse}
-use Rattle.grammar.specs.Grammar.{pdu, grammar, zeroIdentity}
-use Rattle.grammar.specs.Zero.{zeroIdentities, zeroNumbers, zeroServices, zeroLists}
+use Rattle.grammar.specs.Grammar.{pdu, grammar}
+use Rattle.grammar.specs.Zero.{zeroIdentities, zeroServices, zeroLists}
+use Rattle.grammar.specs.ProfileRecords.{A, asking}
 use Rattle.grammar.specs.declared.record.Identity.{Identity}
 use Rattle.grammar.specs.declared.record.Identities.{Identities}
 use Rattle.grammar.specs.declared.record.Numbers.{Numbers}
 use Rattle.grammar.specs.declared.record.Record.{Record}
 
-abbrev pub user : ℕ → Identity
-user n = record { ssi = n; present = 0; extension = 0 }
-
-abbrev pub one : Identity → Identities
-one e = record { code = 1; entries = e ∷ replicate 7 zeroIdentity }
-
--- an INTERROGATE for one user without extension
-abbrev pub asking : Record
-asking = record {
-  kind = 11;
-  affected = one (user 5);
-  asked = 1;
-  result = 0;
-  delivery = 0;
-  services = zeroServices;
-  lists = zeroLists;
-}
-
--- profile A: speech, no groups, restricted range 100 to 199, exception 150
-abbrev pub profileA : Record
-profileA = record {
-  kind = 12;
-  affected = one (user 5);
-  asked = 0;
-  result = 1;
-  delivery = 0;
-  services = record { count = 1; list = 1 ∷ replicate 6 0 };
-  lists = record {
-    groups = zeroIdentities;
-    restricted = record { code = 9; entries = user 100 ∷ user 199 ∷ replicate 6 zeroIdentity };
-    exceptions = one (user 150);
-    numbers = zeroNumbers;
-    excepted = zeroNumbers;
-  };
-}
-
-p13 : length (pdu .print profileA) ≡ 138
+p13 : length (pdu .print A) ≡ 138
 unfolding grammar
 p13 = refl
 
@@ -57,7 +21,7 @@ p14 : length (pdu .print asking) ≡ 42
 unfolding grammar
 p14 = refl
 
-p13-read : wholeParse pdu (pdu .print profileA) ≡ ok profileA 138 []
+p13-read : wholeParse pdu (pdu .print A) ≡ ok A 138 []
 unfolding grammar
 p13-read = refl
 

@@ -1,4 +1,5 @@
 pub mod SiteSheet
 pub mod Grammar
 pub mod Zero
+pub mod ProfileRecords
 pub mod Examples

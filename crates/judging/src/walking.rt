@@ -3,7 +3,7 @@
 use bits::DigitCount;
 use grammar::site;
 ghost use mathlib.Core.Path.{_≡_};
-ghost use Prim.Native.Nat.{_+_, _-_, _*_, _/_, _%_, _^_, _≤_, _<_};
+ghost use Prim.Native.Nat.{_+_, _-_, _/_, _%_, _^_, _≤_};
 ghost use Rattle.bits.specs.Frame.{bitsIn};
 ghost use Rattle.bits.specs.Element.{windowAt};
 ghost use Rattle.codec.specs.Parts.{absent, element, seq};

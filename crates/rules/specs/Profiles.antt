@@ -4,10 +4,8 @@ use mathlib.Core.List.{List, [], _∷_}
 use Prim.Native.Nat.{ℕ}
 use lib.ListN.{replicate}
 use Rattle.bits.specs.Frame.{bytesFor}
-use Rattle.grammar.specs.Grammar.{grammar, zeroIdentity}
-use Rattle.grammar.specs.Examples.{user, one, asking}
-use Rattle.grammar.specs.Zero.{zeroIdentities, zeroNumbers}
-use Rattle.grammar.specs.declared.record.Identities.{Identities}
+use Rattle.grammar.specs.Grammar.{grammar}
+use Rattle.grammar.specs.ProfileRecords.{A, B, C, asking}
 use Rattle.grammar.specs.declared.record.Record.{Record}
 use Rattle.writer.specs.Write.{recordRefusal, writeRefusal, writeIs}
 use Rattle.writer.specs.declared.Written.the-variants.{Bits}
@@ -18,34 +16,6 @@ use Rattle.rules.specs.declared.request.Group.the-variants.{Of, NoGroup}
 use Rattle.rules.specs.declared.request.Request.{Request}
 use Rattle.rules.specs.declared.Decision.{Decision}
 use Rattle.rules.specs.declared.Decision.the-variants.{Allowed, Barred}
-
--- ---- the profiles: an identity part of user 5 that lists one service
-
-abbrev pub part : ℕ → Identities → Identities → Identities → Record
-part service groups restricted exceptions = record {
-  kind = 12;
-  affected = one (user 5);
-  asked = 0;
-  result = 1;
-  delivery = 0;
-  services = record { count = 1; list = service ∷ replicate 6 0 };
-  lists = record { groups = groups; restricted = restricted; exceptions = exceptions; numbers = zeroNumbers; excepted = zeroNumbers };
-}
-
-abbrev pub range : ℕ → ℕ → Identities
-range first last = record { code = 9; entries = user first ∷ user last ∷ replicate 6 zeroIdentity }
-
--- services [1], no groups, restricted range 100 to 199, exception 150
-abbrev pub A : Record
-A = part 1 zeroIdentities (range 100 199) (one (user 150))
-
--- services [0], no groups, none restricted, exception 7
-abbrev pub B : Record
-B = part 0 zeroIdentities zeroIdentities (one (user 7))
-
--- services [1], group 500, restricted 8
-abbrev pub C : Record
-C = part 1 (one (user 500)) (one (user 8)) zeroIdentities
 
 -- ---- the calls of user 1/5
 

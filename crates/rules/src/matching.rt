@@ -13,7 +13,7 @@ ghost use Rattle.bits.specs.Lists.{some};
 ghost use Rattle.rules.specs.Matching.{isEntry, inRange, identityAmong, numberAmong, isCovering, covered};
 
 // A single entry is this user.
-pub(crate) fn is_entry(e: Identity, missing: u32, u: User) -> bool
+fn is_entry(e: Identity, missing: u32, u: User) -> bool
     ensures { λ r. ⌜ r ≡ isEntry missing u e ⌝ }
 {
     if network_of(missing, e) != u.network {
@@ -23,7 +23,7 @@ pub(crate) fn is_entry(e: Identity, missing: u32, u: User) -> bool
 }
 
 // A range, both ends included, has this user.
-pub(crate) fn in_range(first: Identity, last: Identity, missing: u32, u: User) -> bool
+fn in_range(first: Identity, last: Identity, missing: u32, u: User) -> bool
     ensures { λ r. ⌜ r ≡ inRange missing u first last ⌝ }
 {
     if network_of(missing, first) != u.network {
@@ -36,7 +36,7 @@ pub(crate) fn in_range(first: Identity, last: Identity, missing: u32, u: User) -
 }
 
 // One of n single entries is this user.
-pub(crate) fn is_single(entries: [Identity; 8], n: u32, missing: u32, u: User) -> bool
+fn is_single(entries: [Identity; 8], n: u32, missing: u32, u: User) -> bool
     ensures { λ r. ⌜ r ≡ some (isEntry missing u) (take n entries) ⌝ }
 {
     let count = bits::least(n as usize, 8);
@@ -95,7 +95,7 @@ pub(crate) fn number_among(list: Numbers, length: DigitCount, digits: [u8; 24]) 
 }
 
 // A listed service covers this one: 0 is all applicable services.
-pub(crate) fn is_covering(listed: u32, service: u32) -> bool
+fn is_covering(listed: u32, service: u32) -> bool
     ensures { λ r. ⌜ r ≡ isCovering service listed ⌝ }
 {
     if listed == 0 {

@@ -31,7 +31,7 @@ pub struct Request {
 }
 
 // Networks and SSIs are of 24 bits.
-pub(crate) fn is_user(u: User) -> bool
+fn is_user(u: User) -> bool
     ensures { λ r. ⌜ r ≡ isUser u ⌝ }
 {
     if 16777216 <= u.network {
@@ -40,7 +40,7 @@ pub(crate) fn is_user(u: User) -> bool
     u.ssi < 16777216
 }
 
-pub(crate) fn is_service(service: u32) -> bool
+fn is_service(service: u32) -> bool
     ensures { λ r. ⌜ r ≡ isService service ⌝ }
 {
     match service {
@@ -49,7 +49,7 @@ pub(crate) fn is_service(service: u32) -> bool
     }
 }
 
-pub(crate) fn is_destination(destination: Destination) -> bool
+fn is_destination(destination: Destination) -> bool
     ensures { λ r. ⌜ r ≡ isDestination destination ⌝ }
 {
     match destination {
@@ -63,7 +63,7 @@ pub(crate) fn is_destination(destination: Destination) -> bool
     }
 }
 
-pub(crate) fn is_group(group: Group) -> bool
+fn is_group(group: Group) -> bool
     ensures { λ r. ⌜ r ≡ isGroup group ⌝ }
 {
     match group {
@@ -73,7 +73,7 @@ pub(crate) fn is_group(group: Group) -> bool
 }
 
 // How many digit places the destination uses: an identity none.
-pub(crate) fn digits_used(destination: Destination) -> DigitCount
+fn digits_used(destination: Destination) -> DigitCount
     ensures { λ r. ⌜ r .0 ≡ digitsUsed destination ⌝ }
 {
     match destination {
@@ -83,7 +83,7 @@ pub(crate) fn digits_used(destination: Destination) -> DigitCount
 }
 
 // Each used place has a legal digit.
-pub(crate) fn has_digits(digits: [u8; 24], length: DigitCount) -> bool
+fn has_digits(digits: [u8; 24], length: DigitCount) -> bool
     ensures { λ r. ⌜ r ≡ every isDigit (take (length .0) digits) ⌝ }
 {
     let n = bits::least(length.0 as usize, 24);
@@ -98,7 +98,7 @@ pub(crate) fn has_digits(digits: [u8; 24], length: DigitCount) -> bool
 }
 
 // Each place that is not used is zero.
-pub(crate) fn is_clear(digits: [u8; 24], length: DigitCount) -> bool
+fn is_clear(digits: [u8; 24], length: DigitCount) -> bool
     ensures { λ r. ⌜ r ≡ every isUnused (drop (length .0) digits) ⌝ }
 {
     let mut i = bits::least(length.0 as usize, 24);

@@ -12,8 +12,7 @@ use Rattle.codec.specs.Codec.{Codec, Legal}
 use Rattle.codec.specs.Parts.{absent, seq}
 use Rattle.codec.proofs.Legality.{legal-seq, legal-shaped, legal-tested, legal-mark, legal-element, legal-absent, legal-places}
 use Rattle.grammar.specs.SiteSheet.{entriesOf}
-use Rattle.grammar.specs.Grammar.{identities, noIdentities, external, noExternal, externals, noExternals, services, noServices}
-use Rattle.grammar.specs.Grammar.{identityPart, numberPart, noPart, Rest, interrogate, interrogateAck, fromLists, fromRecord, pdu}
+use Rattle.grammar.specs.Grammar.{identities, noIdentities, external, noExternal, externals, noExternals, services, noServices, identityPart, numberPart, noPart, Rest, interrogate, interrogateAck, fromLists, fromRecord, pdu}
 use Rattle.grammar.specs.declared.site.Listing.{Listing}
 use Rattle.grammar.specs.declared.record.Identities.{Identities}
 use Rattle.grammar.specs.declared.record.Number.{Number}

@@ -10,12 +10,9 @@ use Rattle.bits.proofs.Bytes.{bytes-parts}
 use Rattle.bits.specs.Lists.{Each}
 use Rattle.grammar.specs.declared.record.Identity.{Identity}
 use Rattle.grammar.specs.declared.record.Identities.{Identities}
-use Rattle.grammar.specs.declared.record.Number.{Number}
 use Rattle.grammar.specs.declared.record.Numbers.{Numbers}
 use Rattle.grammar.specs.declared.record.Services.{Services}
-use Rattle.words.specs.RecordWords.{word, narrow, narrowed}
-use Rattle.words.specs.RecordWords.{identityWords, identitiesWords, numberWords, numbersWords, servicesWords}
-use Rattle.words.specs.RecordWords.{identityFrom, identitiesFrom, numberFrom, numbersFrom, servicesFrom}
+use Rattle.words.specs.RecordWords.{word, narrow, narrowed, identityWords, identitiesWords, numberWords, numbersWords, servicesWords, identityFrom, identitiesFrom, numberFrom, numbersFrom, servicesFrom}
 use Rattle.words.specs.Sized.{SizedNumber, SizedNumbers, SizedIdentities}
 use Rattle.words.proofs.Layouts.{spelt-word, spelt-then, narrowed-bytes, Layout, entries-long, entries-back, entries-forth}
 

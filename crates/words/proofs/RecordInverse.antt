@@ -8,12 +8,10 @@ use lib.Seq.{take-all, drop-drop}
 use Rattle.bits.specs.Bits.{Bytes}
 use Rattle.grammar.specs.declared.record.Identities.{Identities}
 use Rattle.grammar.specs.declared.record.Record.{Record}
-use Rattle.words.specs.RecordWords.{identitiesWords, numbersWords, servicesWords, listsWords, recordWords}
-use Rattle.words.specs.RecordWords.{identitiesFrom, numbersFrom, servicesFrom, listsFrom, recordFrom}
+use Rattle.words.specs.RecordWords.{identitiesWords, numbersWords, servicesWords, listsWords, recordWords, identitiesFrom, numbersFrom, servicesFrom, listsFrom, recordFrom}
 use Rattle.words.specs.Sized.{SizedIdentities, SizedRecord}
 use Rattle.words.proofs.Layouts.{drop-after, word-after, spelt-word, spelt-then}
-use Rattle.words.proofs.ListInverse.{identities-long, identities-back, identities-forth}
-use Rattle.words.proofs.ListInverse.{numbers-long, numbers-back, numbers-forth, services-back, services-forth}
+use Rattle.words.proofs.ListInverse.{identities-long, identities-back, identities-forth, numbers-long, numbers-back, numbers-forth, services-back, services-forth}
 
 -- ---- the five lists
 

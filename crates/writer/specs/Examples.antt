@@ -4,11 +4,11 @@ use mathlib.Core.List.{[], _∷_}
 use lib.ListN.{replicate}
 use Rattle.bits.specs.Frame.{bytesOf, pack}
 use Rattle.grammar.specs.Grammar.{grammar, zeroIdentity}
-use Rattle.writer.specs.Write.{recordRefusal, writeRefusal, writeIs, outIs}
-use Rattle.grammar.specs.Examples.{user, asking, profileA}
 use Rattle.grammar.specs.Zero.{zeroIdentities, zeroNumbers}
+use Rattle.grammar.specs.ProfileRecords.{user, A, asking}
 use Rattle.grammar.specs.declared.record.Numbers.{Numbers}
 use Rattle.grammar.specs.declared.record.Record.{Record}
+use Rattle.writer.specs.Write.{recordRefusal, writeRefusal, writeIs, outIs}
 use Rattle.writer.specs.declared.Written.the-variants.{Bits, Refused}
 
 -- `unfolding writing` opens all of it
@@ -17,7 +17,7 @@ unfolding grammar recordRefusal writeRefusal writeIs outIs pack bytesOf
 writing = tt
 
 -- 138 bits in 18 bytes, the six unused bits zero; the bytes after them stay
-a-bytes : outIs profileA (replicate 20 0xff) ≡
+a-bytes : outIs A (replicate 20 0xff) ≡
     0x49 ∷ 0x82 ∷ 0x00 ∷ 0x00 ∷ 0x0a ∷ 0x21 ∷ 0x21 ∷ 0x20 ∷ 0x00 ∷ 0x0c ∷ 0x80 ∷ 0x00 ∷ 0x0c ∷ 0x70 ∷ 0x80 ∷ 0x00 ∷ 0x4b ∷ 0x00 ∷ 0xff ∷ 0xff ∷ []
 unfolding writing
 a-bytes = refl
@@ -26,12 +26,12 @@ asking-bytes : outIs asking (replicate 6 0xff) ≡ 0x49 ∷ 0x62 ∷ 0x00 ∷ 0x
 unfolding writing
 asking-bytes = refl
 
-a-length : writeIs profileA (replicate 18 0) ≡ Bits (record { 0 = 138 })
+a-length : writeIs A (replicate 18 0) ≡ Bits (record { 0 = 138 })
 unfolding writing
 a-length = refl
 
 -- 8 where the buffer is a byte short
-short : writeIs profileA (replicate 17 0) ≡ Refused 8
+short : writeIs A (replicate 17 0) ≡ Refused 8
 unfolding writing
 short = refl
 
