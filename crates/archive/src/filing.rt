@@ -13,7 +13,7 @@ pub enum Filing {
     Nowhere,
 }
 
-// The entry of a PDU of n bits: only an accepting INTERROGATE ACK for one user has one.
+// The entry of a PDU of n bits: only an accepting INTERROGATE ACK whose affected range type is 1 has one.
 pub(crate) fn filing_of(home: u32, body: &[u8], n: BitCount) -> Filing
     ensures { λ r. ⌜ r ≡ filingFor home (now (body .entry)) (n .0) ⌝ }
 {

@@ -38,7 +38,7 @@ pub(crate) fn is_restricted(
     }
 }
 
-// The group list isn't empty and the call's group is not in it, or the call has none.
+// The group list isn't empty, and it has not the call's group, or the call has none.
 pub(crate) fn is_outside(groups: Identities, missing: u32, group: Group) -> bool
     ensures { λ r. ⌜ r ≡ isOutside missing groups group ⌝ }
 {
