@@ -7,3 +7,4 @@ pub mod Kept
 pub mod Sizes
 pub mod Legality
 pub mod Stopping
+pub mod Faulting

@@ -5,3 +5,4 @@ pub mod Whole
 pub mod Reading
 pub mod Examples
 pub mod Stops
+pub mod Faults

@@ -33,12 +33,12 @@ firstly three k = three
 firstly four k = four
 
 -- every fault of the part is one of these
-abbrev Faults : (A : Type 0) → Codec A → Type 0
-Faults A c = (a : A) → ThreeOrFour (c .fault a)
+abbrev Within : (A : Type 0) → Codec A → Type 0
+Within A c = (a : A) → ThreeOrFour (c .fault a)
 
-faults : Kept ThreeOrFour Faults
+within : Kept ThreeOrFour Within
 unfolding number absent tested seq nil cons shaped
-faults = record {
+within = record {
   number = λ w v. fits (ltb v (2 ^ w));
   absent = λ v. none;
   tested = λ c test into codes h a. firstly (h a) (codes a);
@@ -52,10 +52,10 @@ faults = record {
 pdu-fault : (r : Record) → kindRefusal (r .kind) ≡ 0 → ThreeOrFour (pdu .fault r)
 unfolding pdu mark shaped seq element tested
 pdu-fault r e =
-    firstly (firstly (faults .number 6 ssType) none)
-    (firstly (firstly (faults .number 5 (r .kind)) (subst ThreeOrFour (sym e) none))
-    (firstly (of-identities ThreeOrFour none three four Faults faults Users (r .affected))
-    (of-rest ThreeOrFour none three four Faults faults (r .kind) (fromRecord r .1 .1))))
+    firstly (firstly (within .number 6 ssType) none)
+    (firstly (firstly (within .number 5 (r .kind)) (subst ThreeOrFour (sym e) none))
+    (firstly (of-identities ThreeOrFour none three four Within within Users (r .affected))
+    (of-rest ThreeOrFour none three four Within within (r .kind) (fromRecord r .1 .1))))
 
 -- a record is refused with 3 or 4, and nothing else
 pub refused-with : (r : Record) → ThreeOrFour (recordRefusal r)

@@ -1,5 +1,5 @@
 -- Writing keeps its promise. Assumes nothing.
-use mathlib.Core.Path.{_≡_, refl, sym, ap, _∙_}
+use mathlib.Core.Path.{_≡_, refl, sym, ap, _∙_, subst}
 use mathlib.Core.Bool.{Bool, true, false, _&&_}
 use mathlib.Core.List.{List, [], _∷_, _++_}
 use Prim.Native.Nat.{ℕ, zero, suc}
@@ -12,8 +12,11 @@ use Rattle.bits.specs.Frame.{bytesFor, pack}
 use Rattle.bits.proofs.Tests.{differ, false-unless, and-false}
 use Rattle.codec.specs.Codec.{first}
 use Rattle.codec.specs.Parts.{isZero, is-zero}
+use Rattle.codec.specs.Faults.{Faults}
+use Rattle.codec.proofs.Faulting.{faults-refused, Faulted, Faulting, faulting}
 use Rattle.grammar.specs.SiteSheet.{kindRefusal}
 use Rattle.grammar.specs.Grammar.{pdu}
+use Rattle.grammar.proofs.Parts.{of-pdu}
 use Rattle.grammar.specs.declared.record.Record.{Record}
 use Rattle.writer.specs.Write.{recordRefusal, lengthOf, writeRefusal, written, writeIs, outIs, writtenNumber}
 use Rattle.writer.specs.declared.Written.the-variants.{Bits, Refused}
@@ -30,12 +33,15 @@ module _ (r : Record) (out : List ℕ) where
   abbrev numberBy : ℕ → Bool → ℕ
   numberBy refusal room = writtenNumber (written (lengthOf r) (first refusal (pick room 0 8)))
 
-  abbrev Both : ℕ → Type 0
+  abbrev Both : ℕ → Type 1
   Both k = Given r out k × OneOf (0 ∷ 3 ∷ 4 ∷ 8 ∷ []) k
 
   three-or-four : {k : ℕ} → ThreeOrFour (suc k) → OneOf (0 ∷ 3 ∷ 4 ∷ 8 ∷ []) (suc k)
   three-or-four three = refl
   three-or-four four = refl
+
+  at-fault : (k : ℕ) → pdu .clean r ≡ true → pdu .fault r ≡ suc k → Faults Record pdu r (suc k)
+  at-fault k clean e = subst (Faulted Record pdu r) e (of-pdu (λ n. Unit {0}) tt tt tt Faulting (faulting (λ n. Unit {0})) tt r clean)
 
   row : Both (number r out)
   unfolding writeIs writeRefusal recordRefusal
@@ -45,7 +51,7 @@ module _ (r : Record) (out : List ℕ) where
           → (q : Bool) → leb (bytesFor (lengthOf r)) (length out) ≡ q → ThreeOrFour (refusalBy t c m) → Both (numberBy (refusalBy t c m) q)
       go false t c ec m em q eq h = (unread (λ z. differ (sym (ap isZero z) ∙ t)), refl)
       go true t false ec m em q eq h = (unclean ec, refl)
-      go true t true ec (suc k) em q eq h = (faulty k (is-zero (kindRefusal (r .kind)) t) ec em, three-or-four h)
+      go true t true ec (suc k) em q eq h = (faulty k (is-zero (kindRefusal (r .kind)) t) ec (at-fault k ec em), three-or-four h)
       go true t true ec zero em true eq h = (success (record { clean = ec; faultless = em }) (leb-true _ _ eq), refl)
       go true t true ec zero em false eq h = (no-room (record { clean = ec; faultless = em }) (leb-false _ _ eq), refl)
 
@@ -54,7 +60,7 @@ module _ (r : Record) (out : List ℕ) where
   back k (success l h) = ap writtenNumber (written-legal r out l h .0)
   back k (unread f) = rw (false-unless (isZero (kindRefusal (r .kind))) (λ t. f (is-zero _ t)))
   back k (unclean e) = rw (and-false (isZero (kindRefusal (r .kind))) e)
-  back k (faulty m z c e) = rw (z, c, e)
+  back k (faulty m z c h) = rw (z, c, faults-refused h)
   back k (no-room l h) = rw (legal-iff r .1 l, lt-leb _ _ h)
 
   succeeds : (k : ℕ) → Given r out k → k ≡ 0
@@ -62,7 +68,7 @@ module _ (r : Record) (out : List ℕ) where
   succeeds k (success l h) z = written-legal r out l h
   succeeds k (unread f) z = absurd (omega arith)
   succeeds k (unclean e) z = absurd (omega arith)
-  succeeds k (faulty m y c e) z = absurd (omega arith)
+  succeeds k (faulty m y c h) z = absurd (omega arith)
   succeeds k (no-room l h) z = absurd (omega arith)
 
   leaves : (k : ℕ) → writeIs r out ≡ Refused k → outIs r out ≡ out

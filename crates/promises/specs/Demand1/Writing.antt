@@ -7,6 +7,7 @@ use Prim.Native.Nat.{ℕ, suc, _≤_, _<_}
 use lib.ListN.{length, drop, replicate}
 use Rattle.bits.specs.Frame.{bytesFor, pack}
 use Rattle.codec.specs.Codec.{Legal}
+use Rattle.codec.specs.Faults.{Faults}
 use Rattle.grammar.specs.SiteSheet.{kindRefusal}
 use Rattle.grammar.specs.Grammar.{pdu, grammar, zeroIdentity}
 use Rattle.grammar.specs.Zero.{zeroServices, zeroLists, zeroRecord}
@@ -20,14 +21,14 @@ abbrev pub number : Record → List ℕ → ℕ
 number r out = writtenNumber (writeIs r out)
 
 -- the table of refusals, as far as writing goes
-pub data Given (r : Record) (out : List ℕ) : ℕ → Type 0 where
+pub data Given (r : Record) (out : List ℕ) : ℕ → Type 1 where
   success : Legal pdu r → bytesFor (lengthOf r) ≤ length out → Given r out 0
   -- 3: a PDU type we don't read
   unread : (kindRefusal (r .kind) ≡ 0 → ⊥) → Given r out 3
   -- 3: anything that a record must hold as zero and doesn't
   unclean : pdu .clean r ≡ false → Given r out 3
-  -- 3, 4: the first refusal in reading order
-  faulty : (k : ℕ) → kindRefusal (r .kind) ≡ 0 → pdu .clean r ≡ true → pdu .fault r ≡ suc k → Given r out (suc k)
+  -- 3, 4 in the same order as reading: an element's value is refused, or wider than its element; or range ends disagree or are reversed
+  faulty : (k : ℕ) → kindRefusal (r .kind) ≡ 0 → pdu .clean r ≡ true → Faults Record pdu r (suc k) → Given r out (suc k)
   -- 8: the result exceeds the lent buffer
   no-room : Legal pdu r → length out < bytesFor (lengthOf r) → Given r out 8
 
@@ -49,7 +50,7 @@ unfolding grammar writeIs writeRefusal recordRefusal
 met = (refl, refl, refl, refl)
 
 -- Proved in proofs/Demand1/Writing.antt.
-pub record Promise : Type 0 where
+pub record Promise : Type 1 where
   pub table : (r : Record) (out : List ℕ) → Exactly (number r out) (0 ∷ 3 ∷ 4 ∷ 8 ∷ []) (Given r out)
   -- "Success returns the length written; output bytes after those that hold that length stay."
   pub success : (r : Record) (out : List ℕ) → number r out ≡ 0
