@@ -22,7 +22,7 @@ empty-formed : (home : ℕ) → ltb home 16777216 ≡ true → wellFormed (empty
 unfolding keepsRules
 empty-formed home h = is-formed (emptyOf home) (record { home = ltb-true home 16777216 h; few = omega arith; small = omega arith; rules = refl })
 
-pub was-empty : (home room m : ℕ) → emptyIs home room ≡ Bytes m → (ltb home 16777216 ≡ true) × (m ≡ headerWidth)
+was-empty : (home room m : ℕ) → emptyIs home room ≡ Bytes m → (ltb home 16777216 ≡ true) × (m ≡ headerWidth)
 unfolding emptyIs
 was-empty home room m = go (ltb home 16777216) refl (leb headerWidth room)
   where

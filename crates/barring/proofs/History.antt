@@ -1,21 +1,23 @@
 -- Demand 3, second half: whatever was offered, the decision is the barring rule applied to the last PDU accepted for the user and part,
 -- or "not held". Assumes nothing.
 use mathlib.Core.Path.{_≡_, refl, ap, ap₂, _∙_}
-use mathlib.Core.Bool.{true}
+use mathlib.Core.Bool.{Bool, true, false}
 use mathlib.Core.List.{List}
 use mathlib.Core.Option.{Option, none, some}
 use Prim.Native.Nat.{ℕ}
 use native.Mathlib.Omega.{arith}
 use lib.ListN.{length, take}
+use lib.Dec.{eqb}
+use Rattle.bits.specs.Bits.{pick}
 use Rattle.bits.specs.declared.BitCount.{BitCount}
 use Rattle.reader.specs.Read.{readIs}
 use Rattle.rules.specs.Request.{requestRefusal}
 use Rattle.rules.specs.Rule.{ruling}
 use Rattle.rules.specs.declared.request.Request.{Request}
 use Rattle.rules.specs.declared.Decision.{Decision}
-use Rattle.rules.specs.declared.Decision.the-variants.{Allowed, NotHeld}
+use Rattle.rules.specs.declared.Decision.the-variants.{Allowed, NotHeld, Refused}
 use Rattle.archive.specs.Model.{Held}
-use Rattle.archive.specs.Reading.{reading, isArchive}
+use Rattle.archive.specs.Reading.{isArchive}
 use Rattle.archive.specs.Keeping.{emptyIs, emptyOut}
 use Rattle.archive.specs.History.{Offer, afterAll, lastAccepted}
 use Rattle.archive.specs.declared.Archived.the-variants.{Bytes}
@@ -50,8 +52,11 @@ module _ (home : ℕ) (lent : List ℕ) (m : ℕ) (e : emptyIs home (length lent
       ∙ matched home q (partIn (afterAll start os) q) last (k .held)
 
 -- a part that is not held never allows a call
-pub not-held-not-allowed : (b : List ℕ) (q : Request) → requestRefusal q ≡ 0 → isArchive b ≡ true → partIn b q ≡ none → decideIs b q ≡ Allowed → ⊥
-not-held-not-allowed b q f a h x =
-    let y : decideIs b q ≡ NotHeld = decide-held b q f a ∙ ap (judgedBy (reading b .home) q) h in
-    let z : _≡_ {A = ℕ} 0 1 = cc in
-    omega arith
+pub not-held-not-allowed : (b : List ℕ) (q : Request) → partIn b q ≡ none → decideIs b q ≡ Allowed → ⊥
+unfolding decideIs
+not-held-not-allowed b q h e = go (eqb (requestRefusal q) 0) (isArchive b) (rw h at e)
+  where
+    go : (p t : Bool) → pick p (pick t NotHeld (Refused 7)) (Refused (requestRefusal q)) ≡ Allowed → ⊥
+    go true true x = let z : _≡_ {A = ℕ} 0 1 = cc in omega arith
+    go true false x = let z : _≡_ {A = ℕ} 0 1 = cc in omega arith
+    go false t x = let z : _≡_ {A = ℕ} 0 1 = cc in omega arith

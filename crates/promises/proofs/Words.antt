@@ -27,5 +27,5 @@ pub promise : Promise
 promise = record {
   written-again = λ s n words out old y e h.
       let k = read-both s n (length words) e in
-      again.written-again s n words (k .0) (reading.promise .success s n (k .1)) out old y h;
+      again.written-again s n words (k .0) (reading.promise .success s n (k .1) .0) out old y h;
 }

@@ -12,7 +12,6 @@ use Rattle.rules.specs.Request.{requestRefusal}
 use Rattle.rules.specs.Rule.{ruling}
 use Rattle.rules.specs.declared.request.Request.{Request}
 use Rattle.rules.specs.declared.Decision.the-variants.{Allowed, NotHeld}
-use Rattle.archive.specs.Reading.{isArchive}
 use Rattle.archive.specs.Keeping.{over, emptyIs, emptyOut}
 use Rattle.archive.specs.Restoring.{inRange, restoreIs, restoreOut}
 use Rattle.archive.specs.History.{Offer, afterAll, lastAccepted}
@@ -54,5 +53,5 @@ module _ (home : ℕ) (lent : List ℕ) (m : ℕ) (e : emptyIs home (length lent
     decides-by-nothing-else l = deciding.decided home lent m e offers q f ∙ ap (deciding.saidBy home q) l
 
 -- A part that is not held never allows a call.
-pub not-held-never-allows : (b : List ℕ) (q : Request) → requestRefusal q ≡ 0 → isArchive b ≡ true → partIn b q ≡ none → decideIs b q ≡ Allowed → ⊥
+pub not-held-never-allows : (b : List ℕ) (q : Request) → partIn b q ≡ none → decideIs b q ≡ Allowed → ⊥
 not-held-never-allows = deciding.not-held-not-allowed

@@ -3,7 +3,8 @@ use mathlib.Core.Path.{_≡_, refl, sym, ap, _∙_, subst}
 use mathlib.Core.Bool.{Bool, true, false, _||_}
 use mathlib.Core.List.{List, [], _∷_, _++_}
 use mathlib.Core.Option.{Option, none, some}
-use Prim.Native.Nat.{ℕ}
+use Prim.Native.Nat.{ℕ, zero, suc}
+use native.Mathlib.Omega.{arith}
 use lib.ListN.{length}
 use lib.Dec.{ltb, eqb}
 use borrow.Author.Tests.{eqb-true, eq-eqb, ltb-true, ltb-false, lt-ltb, le-ltb}
@@ -75,6 +76,13 @@ module _ (b s : List ℕ) (n room : ℕ) where
       go false e false f true g = (no-room o (ltb-true _ _ g), refl)
       go false e false f false g = (success o (λ x. differ (sym (full-is x) ∙ e)) (ltb-false _ _ f) (ltb-false _ _ g), refl)
 
+  -- no PDU is refused with 0
+  accepted-not : readIs s n .answer ≡ reader.Refused 0 → ⊥
+  accepted-not f =
+      let a : readIs s n .answer ≡ reader.Accepted = reading-kept.promise .success s n (ap refusalOf f) .0 in
+      let z : _≡_ {A = ℕ} 0 1 = cc in
+      omega arith
+
   row : Both (number b s n room)
   row = go (isArchive b) refl (readIs s n .answer) refl (mayHold (readIs s n .found)) refl
     where
@@ -83,9 +91,10 @@ module _ (b s : List ℕ) (n room : ℕ) where
 
       go : (p : Bool) → isArchive b ≡ p → (a : Answer) → readIs s n .answer ≡ a → (q : Bool) → mayHold (readIs s n .found) ≡ q → Both (number b s n room)
       go false e a f q g = to (no-archive b s n room e) (damaged e, refl)
-      go true e (reader.Refused k) f q g =
+      go true e (reader.Refused zero) f q g = absurd (accepted-not f)
+      go true e (reader.Refused (suc k)) f q g =
           let listed = reading-kept.promise .table s n .listed in
-          to (pdu-refused b s n room e f) (unread k e f, wider read.numbers (7 ∷ 6 ∷ 8 ∷ []) k (subst (λ (a : Answer). OneOf read.numbers (refusalOf a)) f listed))
+          to (pdu-refused b s n room e f) (unread k e f, wider read.numbers (7 ∷ 6 ∷ 8 ∷ []) (suc k) (subst (λ (a : Answer). OneOf read.numbers (refusalOf a)) f listed))
       go true e reader.Accepted f false g = to (may-not b s n room e f g) (not-kept e f g, refl)
       go true e reader.Accepted f true g = offered (record { archive = e; accepted = f; may = g })
 
@@ -105,11 +114,21 @@ module _ (b s : List ℕ) (n room : ℕ) where
   back k (too-long o h) = over o (or-true isFull (ap (λ (q : Bool). q || ltb room size) (lt-ltb _ _ h)))
   back k (no-room o h) = over o (or-true isFull (or-true (ltb 65536 size) (lt-ltb _ _ h)))
 
+  written : (k : ℕ) → Given b s n room k → k ≡ 0 → captureIs b s n room ≡ Bytes size
+  written k (success o f l h) z = placed o ∙ rw (false-unless isFull (λ t. f (is-full t)), le-ltb _ _ l, le-ltb _ _ h)
+  written k (damaged e) z = absurd (omega arith)
+  written k (unread m e f) z = absurd (omega arith)
+  written k (not-kept e f g) z = absurd (omega arith)
+  written k (full o f) z = absurd (omega arith)
+  written k (too-long o h) z = absurd (omega arith)
+  written k (no-room o h) z = absurd (omega arith)
+
 pub promise : Promise
 promise = record {
   table = λ b s n room. exactly (Given b s n room) (row b s n room .0) (row b s n room .1) (back b s n room);
-  success = λ b s n out m e.
-      let t = taken b s n (length out) m e in
-      (t .size ∙ sym (length-written (captured b s n) (captured-formed b s n (length out) m t)), capture-leaves b s n out e);
+  success = λ b s n out e.
+      let x = written b s n (length out) (number b s n (length out)) (row b s n (length out) .0) e in
+      let w = length-written (captured b s n) (captured-formed b s n (length out) (size b s n (length out)) (taken b s n (length out) (size b s n (length out)) x)) in
+      (x ∙ ap Bytes (sym w), capture-leaves b s n out x);
   refusal = λ b s n out k e. capture-leaves b s n out e;
 }

@@ -3,6 +3,7 @@ use mathlib.Core.Path.{_≡_, refl, ap}
 use mathlib.Core.Bool.{Bool, true, false}
 use mathlib.Core.List.{List, [], _∷_}
 use Prim.Native.Nat.{ℕ}
+use native.Mathlib.Omega.{arith}
 use lib.ListN.{length}
 use lib.Dec.{ltb, leb}
 use borrow.Author.Tests.{ltb-true, ltb-false, leb-true, leb-false, lt-ltb, le-ltb, le-leb, lt-leb}
@@ -11,7 +12,6 @@ use Rattle.archive.specs.Model.{headerWidth, headerBytes, bytesOf}
 use Rattle.archive.specs.Keeping.{archivedNumber, leaves, emptyOf, emptyIs, emptyOut}
 use Rattle.archive.specs.declared.Archived.{Archived}
 use Rattle.archive.specs.declared.Archived.the-variants.{Bytes, Refused}
-use Rattle.archive.proofs.Emptied.{was-empty}
 use Rattle.promises.specs.Answers.{OneOf}
 use Rattle.promises.specs.Demand1.Empty.{number, Given, success, unranged, no-room, Promise}
 use Rattle.promises.proofs.Tables.{exactly}
@@ -38,6 +38,12 @@ module _ (home room : ℕ) where
   back k (unranged h) = rw (le-ltb _ _ h)
   back k (no-room h l) = rw (lt-ltb _ _ h, lt-leb _ _ l)
 
+  written : (k : ℕ) → Given home room k → k ≡ 0 → emptyIs home room ≡ Bytes headerWidth
+  unfolding emptyIs
+  written k (success h l) z = rw (lt-ltb _ _ h, le-leb _ _ l)
+  written k (unranged h) z = absurd (omega arith)
+  written k (no-room h l) z = absurd (omega arith)
+
 empty-leaves : (home : ℕ) (out : List ℕ) {r : Archived} → emptyIs home (length out) ≡ r → emptyOut home out ≡ leaves r (bytesOf (emptyOf home)) out
 unfolding emptyOut
 empty-leaves home out e = ap (λ (r : Archived). leaves r (bytesOf (emptyOf home)) out) e
@@ -46,6 +52,8 @@ pub promise : Promise
 unfolding headerBytes
 promise = record {
   table = λ home room. exactly (Given home room) (row home room .0) (row home room .1) (back home room);
-  success = λ home out m e. (was-empty home (length out) m e .1, empty-leaves home out e);
+  success = λ home out e.
+      let x = written home (length out) (number home (length out)) (row home (length out) .0) e in
+      (x, empty-leaves home out x);
   refusal = λ home out k e. empty-leaves home out e;
 }

@@ -8,7 +8,7 @@ use Rattle.bits.specs.Bits.{pick}
 use Rattle.bits.specs.Frame.{bitsIn, framed, Framed}
 use Rattle.bits.proofs.Frames.{framed-says, framed-is}
 use Rattle.bits.proofs.Tests.{differ, false-unless}
-use Rattle.codec.specs.Codec.{Outcome, ok, no, andThen, Right}
+use Rattle.codec.specs.Codec.{Outcome, ok, no, andThen, Right, Legal}
 use Rattle.codec.specs.Places.{isNil}
 use Rattle.codec.specs.Whole.{wholeParse}
 use Rattle.codec.specs.Stops.{Stops}
@@ -20,6 +20,7 @@ use Rattle.grammar.specs.declared.record.Record.{Record}
 use Rattle.reader.specs.Read.{refusalOf, answered, refusing, readIs}
 use Rattle.reader.specs.declared.Answer.the-variants.{Accepted, Refused}
 use Rattle.reader.specs.declared.Reading.{Reading}
+use Rattle.pdu.specs.Accepting.{accepting}
 use Rattle.promises.specs.Answers.{OneOf}
 use Rattle.promises.specs.Demand1.Reading.{number, Given, accepted, unframed, stopped, left-over, numbers, Promise}
 use Rattle.promises.proofs.Tables.{exactly}
@@ -81,11 +82,13 @@ module _ (s : List ℕ) (n : ℕ) where
   back k (stopped m f h) = ap numberIn (whole f) ∙ by-refusal (stops-refused h 0)
   back k (left-over r b more f l e) = ap numberIn (whole f) ∙ rw (e, pdu .reads r (l .clean) (l .faultless) 0 (b ∷ more))
 
-  is-accepted : (k : ℕ) → Given s n k → k ≡ 0 → readIs s n .answer ≡ Accepted
-  is-accepted k (accepted r f l e) z = ap (λ (x : Reading). x .answer) (whole f) ∙ rw (e, whole-reads pdu r l)
-  is-accepted k (unframed f) z = absurd (omega arith)
-  is-accepted k (stopped m f h) z = absurd (omega arith)
-  is-accepted k (left-over r b more f l e) z = absurd (omega arith)
+  succeeds : (k : ℕ) → Given s n k → k ≡ 0 → (readIs s n .answer ≡ Accepted) × Legal pdu (readIs s n .found) × (bitsIn n s ≡ pdu .print (readIs s n .found))
+  succeeds k (accepted r f l e) z =
+      let x : readIs s n ≡ accepting r = whole f ∙ rw (e, whole-reads pdu r l) in
+      rw x (refl, l, e)
+  succeeds k (unframed f) z = absurd (omega arith)
+  succeeds k (stopped m f h) z = absurd (omega arith)
+  succeeds k (left-over r b more f l e) z = absurd (omega arith)
 
   refused : (k : ℕ) → readIs s n .answer ≡ Refused k → readIs s n ≡ refusing k
   unfolding readIs
@@ -102,6 +105,6 @@ module _ (s : List ℕ) (n : ℕ) where
 pub promise : Promise
 promise = record {
   table = λ s n. exactly (Given s n) (row s n .0) (row s n .1) (back s n);
-  success = λ s n e. is-accepted s n (number s n) (row s n .0) e;
+  success = λ s n e. succeeds s n (number s n) (row s n .0) e;
   refusal = refused;
 }

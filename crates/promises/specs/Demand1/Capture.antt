@@ -3,7 +3,7 @@ use mathlib.Core.Path.{_≡_, refl}
 use mathlib.Core.Bool.{true, false}
 use mathlib.Core.List.{List, [], _∷_, _++_}
 use mathlib.Core.Option.{none}
-use Prim.Native.Nat.{ℕ, _≤_, _<_}
+use Prim.Native.Nat.{ℕ, suc, _≤_, _<_}
 use lib.ListN.{length, replicate}
 use Rattle.reader.specs.Read.{readIs}
 use Rattle.reader.specs.declared.Answer.the-variants as reader
@@ -37,7 +37,7 @@ pub data Given (b s : List ℕ) (n room : ℕ) : ℕ → Type 0 where
   -- 7: the archive breaks a rule
   damaged : isArchive b ≡ false → Given b s n room 7
   -- 1 to 5 and 10: those of reading
-  unread : (k : ℕ) → isArchive b ≡ true → readIs s n .answer ≡ reader.Refused k → Given b s n room k
+  unread : (k : ℕ) → isArchive b ≡ true → readIs s n .answer ≡ reader.Refused (suc k) → Given b s n room (suc k)
   -- 6: a legal PDU that no archive entry may hold
   not-kept : isArchive b ≡ true → readIs s n .answer ≡ reader.Accepted → mayHold (readIs s n .found) ≡ false → Given b s n room 6
   -- 8: a new key with 512 held, or the result exceeds 65,536 bytes or the lent buffer
@@ -70,7 +70,7 @@ met = (refl, refl, refl, refl, refl, refl, refl, refl, refl, refl)
 pub record Promise : Type 0 where
   pub table : (b s : List ℕ) (n room : ℕ) → Exactly (number b s n room) (read.numbers ++ (7 ∷ 6 ∷ 8 ∷ [])) (Given b s n room)
   -- "Success returns the length written; output bytes after those that hold that length stay."
-  pub success : (b s : List ℕ) (n : ℕ) (out : List ℕ) (m : ℕ) → captureIs b s n (length out) ≡ Bytes m
-      → (m ≡ length (bytesOf (captured b s n))) × (captureOut b s n out ≡ over (bytesOf (captured b s n)) out)
+  pub success : (b s : List ℕ) (n : ℕ) (out : List ℕ) → number b s n (length out) ≡ 0
+      → (captureIs b s n (length out) ≡ Bytes (length (bytesOf (captured b s n)))) × (captureOut b s n out ≡ over (bytesOf (captured b s n)) out)
   -- "A refusal returns its number only and changes no byte."
   pub refusal : (b s : List ℕ) (n : ℕ) (out : List ℕ) (k : ℕ) → captureIs b s n (length out) ≡ Refused k → captureOut b s n out ≡ out

@@ -28,7 +28,7 @@ met = (refl, refl, refl)
 pub record Promise : Type 0 where
   pub table : (home room : ℕ) → Exactly (number home room) (0 ∷ 9 ∷ 8 ∷ []) (Given home room)
   -- "Success returns the length written; output bytes after those that hold that length stay."
-  pub success : (home : ℕ) (out : List ℕ) (m : ℕ) → emptyIs home (length out) ≡ Bytes m
-      → (m ≡ length (bytesOf (emptyOf home))) × (emptyOut home out ≡ over (bytesOf (emptyOf home)) out)
+  pub success : (home : ℕ) (out : List ℕ) → number home (length out) ≡ 0
+      → (emptyIs home (length out) ≡ Bytes (length (bytesOf (emptyOf home)))) × (emptyOut home out ≡ over (bytesOf (emptyOf home)) out)
   -- "A refusal returns its number only and changes no byte."
   pub refusal : (home : ℕ) (out : List ℕ) (k : ℕ) → emptyIs home (length out) ≡ Refused k → emptyOut home out ≡ out

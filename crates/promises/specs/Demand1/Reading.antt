@@ -45,6 +45,7 @@ numbers = 0 ∷ 1 ∷ 2 ∷ 3 ∷ 4 ∷ 5 ∷ 10 ∷ []
 -- Proved in proofs/Demand1/Reading.antt.
 pub record Promise : Type 1 where
   pub table : (s : List ℕ) (n : ℕ) → Exactly (number s n) numbers (Given s n)
-  -- "an accepted one and its record, or a refusal number"
-  pub success : (s : List ℕ) (n : ℕ) → number s n ≡ 0 → readIs s n .answer ≡ Accepted
+  -- "an accepted one and its record, or a refusal number": the record is legal, and its writing is the PDU
+  pub success : (s : List ℕ) (n : ℕ) → number s n ≡ 0
+      → (readIs s n .answer ≡ Accepted) × Legal pdu (readIs s n .found) × (bitsIn n s ≡ pdu .print (readIs s n .found))
   pub refusal : (s : List ℕ) (n k : ℕ) → readIs s n .answer ≡ Refused k → readIs s n ≡ refusing k
