@@ -12,7 +12,7 @@ use Rattle.words.specs.RequestWords.{areRequest, requestWords, requestFrom}
 use Rattle.words.specs.Sized.{SizedRecord, SizedRequest}
 use Rattle.words.proofs.RecordInverse as records
 use Rattle.words.proofs.RequestInverse as requests
-use Rattle.boc.specs.Calls.{readNumber, readWords, writeNumber, writeOut, writeBits}
+use Rattle.boc.specs.Calls.{readNumber, readWords, writeNumber, writeOut, writeBits, decideNumber}
 
 -- ---- records
 
@@ -24,12 +24,6 @@ record-words r f = (records.record-long r f, records.record-back r f)
 pub words-record : (w : List ℕ) → length w ≡ 514 → Bytes (take 200 (drop 113 w)) → Bytes (take 200 (drop 314 w)) → recordWords (recordFrom w) ≡ w
 words-record = records.record-forth
 
--- What boc_read left in the words, boc_write writes as the same bits, in the same bytes, and leaves the bytes after them.
--- Proved in proofs/Words.antt.
-pub record Promise : Type 0 where
-  pub written-again : (s : List ℕ) (n : ℕ) (words out : List ℕ) (old : ℕ) → Bytes s → readNumber s n (length words) ≡ 0 → length s ≤ length out
-      → let w = readWords s n words in (writeNumber w out ≡ 0) × (writeOut w out ≡ s ++ drop (length s) out) × (writeBits w out old ≡ n)
-
 -- ---- requests
 
 -- A request has 34 words; they pass as a request's, and are read as that request.
@@ -40,3 +34,15 @@ request-words q f = (requests.request-long q f, requests.request-are q f, reques
 -- 34 words that pass are the words of one request, if its length and digits are bytes.
 pub words-request : (w : List ℕ) → length w ≡ 34 → areRequest w ≡ true → word w 6 < 256 → Bytes (take 24 (drop 7 w)) → requestWords (requestFrom w) ≡ w
 words-request = requests.request-forth
+
+-- ---- the calls
+
+-- Proved in proofs/Words.antt.
+pub record Promise : Type 0 where
+  -- What boc_read left in the words, boc_write writes as the same bits, in the same bytes, and leaves the bytes after them.
+  pub written-again : (s : List ℕ) (n : ℕ) (words out : List ℕ) (old : ℕ) → Bytes s → readNumber s n (length words) ≡ 0 → length s ≤ length out
+      → let w = readWords s n words in (writeNumber w out ≡ 0) × (writeOut w out ≡ s ++ drop (length s) out) × (writeBits w out old ≡ n)
+  -- Words that boc_write accepts are exactly the words of the record that it writes,
+  pub written-words : (w out : List ℕ) → writeNumber w out ≡ 0 → recordWords (recordFrom w) ≡ w
+  -- and those on which boc_decide decides are exactly the words of its request: no length or digit among them is wider than a byte.
+  pub decided-words : (b w : List ℕ) → decideNumber b w ≡ 0 → requestWords (requestFrom w) ≡ w

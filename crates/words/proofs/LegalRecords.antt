@@ -1,4 +1,4 @@
--- A legal record is as its struct holds it: every list as long as its array, and the lengths and digits of numbers bytes. Assumes nothing.
+-- A legal record is as its struct holds it: every list as long as its array, and the lengths and digits of numbers bytes below 255. Assumes nothing.
 use mathlib.Core.Path.{_≡_}
 use mathlib.Core.Bool.{Bool, true, false}
 use mathlib.Core.List.{List, [], _∷_}
@@ -14,6 +14,7 @@ use Rattle.codec.proofs.Legality.{legal-seq, legal-shaped, legal-tested, legal-
 use Rattle.grammar.specs.SiteSheet.{entriesOf}
 use Rattle.grammar.specs.Grammar.{identities, noIdentities, external, noExternal, externals, noExternals, services, noServices, identityPart, numberPart, noPart, Rest, interrogate, interrogateAck, fromLists, fromRecord, pdu}
 use Rattle.grammar.specs.declared.site.Listing.{Listing}
+use Rattle.grammar.specs.declared.site.Listing.the-variants.{Users}
 use Rattle.grammar.specs.declared.record.Identities.{Identities}
 use Rattle.grammar.specs.declared.record.Number.{Number}
 use Rattle.grammar.specs.declared.record.Numbers.{Numbers}
@@ -22,41 +23,57 @@ use Rattle.grammar.specs.declared.record.Lists.{Lists}
 use Rattle.grammar.specs.declared.record.Record.{Record}
 use Rattle.words.specs.Sized.{SizedIdentities, SizedNumber, SizedNumbers, SizedLists, SizedRecord}
 
-abbrev Byte : ℕ → Type 0
-Byte d = d < 256
+-- less than 255, which a word becomes that is wider than a byte
+abbrev pub Small : ℕ → Type 0
+Small d = d < 255
 
-each-byte : (s : List ℕ) → Each Byte s → Bytes s
-each-byte [] e i = omega arith
-each-byte (x ∷ s) (h, t) zero = h
-each-byte (x ∷ s) (h, t) (suc i) = each-byte s t i
+small-bytes : (s : List ℕ) → Each Small s → Bytes s
+small-bytes [] e i = omega arith
+small-bytes (x ∷ s) (h, t) zero = omega arith
+small-bytes (x ∷ s) (h, t) (suc i) = small-bytes s t i
 
-byte-absent : (d : ℕ) → Legal absent d → Byte d
-byte-absent d h = omega (arith, legal-absent d h)
+small-absent : (d : ℕ) → Legal absent d → Small d
+small-absent d h = omega (arith, legal-absent d h)
 
 -- ---- a number, and the lists
 
-external-sized : (e : Number) → Legal external e → SizedNumber e
+-- 24 digits, and they and their number are small
+pub record SmallNumber (e : Number) : Type 0 where
+  pub digits : length (e .digits) ≡ 24
+  pub small : Each Small (e .length .0 ∷ e .digits)
+
+external-small : (e : Number) → Legal external e → SmallNumber e
 unfolding external
-external-sized e h =
+external-small e h =
     let p = legal-seq _ _ _ (legal-shaped _ _ _ _ _ _ h) in
     let l : e .length .0 < 32 = legal-element _ _ _ (p .0) in
-    let d = legal-places Byte (λ d k. let s : d < 16 = legal-element _ _ _ k in omega arith) byte-absent 24 (e .length .0) (e .digits) (p .1) in
-    record { digits = d .0; bytes = each-byte (e .length .0 ∷ e .digits) (omega arith, d .1) }
+    let d = legal-places Small (λ d k. let s : d < 16 = legal-element _ _ _ k in omega arith) small-absent 24 (e .length .0) (e .digits) (p .1) in
+    record { digits = d .0; small = (omega arith, d .1) }
 
-no-external-sized : (e : Number) → Legal noExternal e → SizedNumber e
+no-external-small : (e : Number) → Legal noExternal e → SmallNumber e
 unfolding noExternal
-no-external-sized e h =
+no-external-small e h =
     let p = legal-seq _ _ _ (legal-shaped _ _ _ _ _ _ h) in
-    let d = legal-places Byte byte-absent byte-absent 24 0 (e .digits) (p .1) in
-    record { digits = d .0; bytes = each-byte (e .length .0 ∷ e .digits) (byte-absent _ (p .0), d .1) }
+    let d = legal-places Small small-absent small-absent 24 0 (e .digits) (p .1) in
+    record { digits = d .0; small = (small-absent _ (p .0), d .1) }
 
-externals-sized : (l : Numbers) → Legal externals l → SizedNumbers l
+abbrev SmallNumbers : Numbers → Type 0
+SmallNumbers l = (length (l .entries) ≡ 8) × Each SmallNumber (l .entries)
+
+externals-small : (l : Numbers) → Legal externals l → SmallNumbers l
 unfolding externals
-externals-sized l h = legal-places SizedNumber external-sized no-external-sized 8 (entriesOf (l .code)) (l .entries) (legal-seq _ _ _ (legal-shaped _ _ _ _ _ _ h) .1)
+externals-small l h = legal-places SmallNumber external-small no-external-small 8 (entriesOf (l .code)) (l .entries) (legal-seq _ _ _ (legal-shaped _ _ _ _ _ _ h) .1)
 
-no-externals-sized : (l : Numbers) → Legal noExternals l → SizedNumbers l
+no-externals-small : (l : Numbers) → Legal noExternals l → SmallNumbers l
 unfolding noExternals
-no-externals-sized l h = legal-places SizedNumber no-external-sized no-external-sized 8 0 (l .entries) (legal-seq _ _ _ (legal-shaped _ _ _ _ _ _ h) .1)
+no-externals-small l h = legal-places SmallNumber no-external-small no-external-small 8 0 (l .entries) (legal-seq _ _ _ (legal-shaped _ _ _ _ _ _ h) .1)
+
+numbers-sized : (l : Numbers) → SmallNumbers l → SizedNumbers l
+numbers-sized l h = (h .0, go (l .entries) (h .1))
+  where
+    go : (s : List Number) → Each SmallNumber s → Each SizedNumber s
+    go [] e = tt
+    go (e ∷ s) (h, t) = (record { digits = h .digits; bytes = small-bytes (e .length .0 ∷ e .digits) (h .small) }, go s t)
 
 identities-sized : (k : Listing) (l : Identities) → Legal (identities k) l → SizedIdentities l
 unfolding identities
@@ -77,57 +94,75 @@ no-services-sized s h = legal-places (λ e. Unit) (λ e x. tt) (λ e x. tt) 7 0 
 
 -- ---- the five lists, by the result
 
--- each list by a part whose legal values are sized
-lists-sized : {g r x : Codec Identities} {n y : Codec Numbers} → ((l : Identities) → Legal g l → SizedIdentities l)
+record SmallLists (l : Lists) : Type 0 where
+  pub sized : SizedLists l
+  pub numbers : SmallNumbers (l .numbers)
+  pub excepted : SmallNumbers (l .excepted)
+
+-- each list by a part whose legal values are sized, or small
+lists-small : {g r x : Codec Identities} {n y : Codec Numbers} → ((l : Identities) → Legal g l → SizedIdentities l)
     → ((l : Identities) → Legal r l → SizedIdentities l) → ((l : Identities) → Legal x l → SizedIdentities l)
-    → ((l : Numbers) → Legal n l → SizedNumbers l) → ((l : Numbers) → Legal y l → SizedNumbers l)
-    → (l : Lists) → Legal (seq g (λ a. seq r (λ b. seq x (λ c. seq n (λ d. y))))) (fromLists l) → SizedLists l
-lists-sized groups restricted exceptions numbers excepted l h =
+    → ((l : Numbers) → Legal n l → SmallNumbers l) → ((l : Numbers) → Legal y l → SmallNumbers l)
+    → (l : Lists) → Legal (seq g (λ a. seq r (λ b. seq x (λ c. seq n (λ d. y))))) (fromLists l) → SmallLists l
+lists-small groups restricted exceptions numbers excepted l h =
     let g = legal-seq _ _ _ h in
     let r = legal-seq _ _ _ (g .1) in
     let x = legal-seq _ _ _ (r .1) in
     let n = legal-seq _ _ _ (x .1) in
+    let s : SmallNumbers (l .numbers) = numbers _ (n .0) in
+    let t : SmallNumbers (l .excepted) = excepted _ (n .1) in
     record {
-      groups = groups _ (g .0);
-      restricted = restricted _ (r .0);
-      exceptions = exceptions _ (x .0);
-      numbers = numbers _ (n .0);
-      excepted = excepted _ (n .1);
+      sized = record {
+        groups = groups _ (g .0);
+        restricted = restricted _ (r .0);
+        exceptions = exceptions _ (x .0);
+        numbers = numbers-sized (l .numbers) s;
+        excepted = numbers-sized (l .excepted) t;
+      };
+      numbers = s;
+      excepted = t;
     }
 
-no-part-sized : (l : Lists) → Legal noPart l → SizedLists l
+no-part-small : (l : Lists) → Legal noPart l → SmallLists l
 unfolding noPart
-no-part-sized l h = lists-sized no-identities-sized no-identities-sized no-identities-sized no-externals-sized no-externals-sized l (legal-shaped _ _ _ _ _ _ h)
+no-part-small l h = lists-small no-identities-sized no-identities-sized no-identities-sized no-externals-small no-externals-small l (legal-shaped _ _ _ _ _ _ h)
 
-part-sized : (one two : Bool) (l : Lists) → Legal (pick one identityPart (pick two numberPart noPart)) l → SizedLists l
+part-small : (one two : Bool) (l : Lists) → Legal (pick one identityPart (pick two numberPart noPart)) l → SmallLists l
 unfolding identityPart numberPart
-part-sized true two l h =
-    lists-sized (identities-sized _) (identities-sized _) (identities-sized _) no-externals-sized no-externals-sized l (legal-shaped _ _ _ _ _ _ h)
-part-sized false true l h = lists-sized (identities-sized _) no-identities-sized no-identities-sized externals-sized externals-sized l (legal-shaped _ _ _ _ _ _ h)
-part-sized false false l h = no-part-sized l h
+part-small true two l h =
+    lists-small (identities-sized _) (identities-sized _) (identities-sized _) no-externals-small no-externals-small l (legal-shaped _ _ _ _ _ _ h)
+part-small false true l h = lists-small (identities-sized _) no-identities-sized no-identities-sized externals-small externals-small l (legal-shaped _ _ _ _ _ _ h)
+part-small false false l h = no-part-small l h
 
 -- ---- the record
 
-abbrev SizedRest : Rest → Type 0
-SizedRest q = (length (q .1 .1 .1 .0 .list) ≡ 7) × SizedLists (q .1 .1 .1 .1)
+abbrev SmallRest : Rest → Type 0
+SmallRest q = (length (q .1 .1 .1 .0 .list) ≡ 7) × SmallLists (q .1 .1 .1 .1)
 
-interrogate-sized : (q : Rest) → Legal interrogate q → SizedRest q
+interrogate-small : (q : Rest) → Legal interrogate q → SmallRest q
 unfolding interrogate
-interrogate-sized q h = let s = legal-seq _ _ _ (legal-seq _ _ _ (legal-seq _ _ _ (legal-seq _ _ _ h .1) .1) .1) in (no-services-sized _ (s .0), no-part-sized _ (s .1))
+interrogate-small q h = let s = legal-seq _ _ _ (legal-seq _ _ _ (legal-seq _ _ _ (legal-seq _ _ _ h .1) .1) .1) in (no-services-sized _ (s .0), no-part-small _ (s .1))
 
-ack-sized : (q : Rest) → Legal interrogateAck q → SizedRest q
+ack-small : (q : Rest) → Legal interrogateAck q → SmallRest q
 unfolding interrogateAck
-ack-sized q h =
+ack-small q h =
     let s = legal-seq _ _ _ (legal-seq _ _ _ (legal-seq _ _ _ (legal-seq _ _ _ h .1) .1) .1) in
-    (services-sized _ (s .0), part-sized (eqb (q .1 .0) 1) (eqb (q .1 .0) 2) _ (s .1))
+    (services-sized _ (s .0), part-small (eqb (q .1 .0) 1) (eqb (q .1 .0) 2) _ (s .1))
 
-rest-sized : (eleven : Bool) (q : Rest) → Legal (pick eleven interrogate interrogateAck) q → SizedRest q
-rest-sized true q h = interrogate-sized q h
-rest-sized false q h = ack-sized q h
+rest-small : (eleven : Bool) (q : Rest) → Legal (pick eleven interrogate interrogateAck) q → SmallRest q
+rest-small true q h = interrogate-small q h
+rest-small false q h = ack-small q h
 
-pub record-sized : (r : Record) → Legal pdu r → SizedRecord r
-unfolding pdu
-record-sized r h =
-    let users = legal-seq _ _ _ (legal-seq _ _ _ (legal-shaped _ _ _ _ _ _ (legal-mark _ _ _ _ h)) .1) in
-    let rest = rest-sized (eqb (r .kind) 11) (fromRecord r .1 .1) (users .1) in
-    record { affected = identities-sized _ _ (users .0); services = rest .0; lists = rest .1 }
+module _ (r : Record) (h : Legal pdu r) where
+  users : Legal (identities Users) (r .affected) × Legal (pick (eqb (r .kind) 11) interrogate interrogateAck) (fromRecord r .1 .1)
+  unfolding pdu
+  users = legal-seq _ _ _ (legal-seq _ _ _ (legal-shaped _ _ _ _ _ _ (legal-mark _ _ _ _ h)) .1)
+
+  rest : SmallRest (fromRecord r .1 .1)
+  rest = rest-small (eqb (r .kind) 11) (fromRecord r .1 .1) (users .1)
+
+  pub record-sized : SizedRecord r
+  record-sized = record { affected = identities-sized _ _ (users .0); services = rest .0; lists = rest .1 .sized }
+
+  pub numbers-small : Each SmallNumber (r .lists .numbers .entries) × Each SmallNumber (r .lists .excepted .entries)
+  numbers-small = (rest .1 .numbers .1, rest .1 .excepted .1)

@@ -6,4 +6,5 @@ pub mod RecordInverse
 pub mod RequestParts
 pub mod RequestInverse
 pub mod LegalRecords
+pub mod LegalWords
 pub mod Given

@@ -11,7 +11,7 @@ use Rattle.codec.specs.Faults.{Faults}
 use Rattle.grammar.specs.SiteSheet.{kindRefusal}
 use Rattle.grammar.specs.Grammar.{pdu, grammar, zeroIdentity}
 use Rattle.grammar.specs.Zero.{zeroServices, zeroLists, zeroRecord}
-use Rattle.grammar.specs.Examples.{user, asking}
+use Rattle.grammar.specs.ProfileRecords.{user, asking}
 use Rattle.grammar.specs.declared.record.Record.{Record}
 use Rattle.writer.specs.Write.{recordRefusal, lengthOf, writeRefusal, writeIs, outIs, writtenNumber}
 use Rattle.writer.specs.declared.Written.the-variants.{Bits, Refused}
