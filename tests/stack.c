@@ -1,6 +1,8 @@
 /*
  * The most stack that each call uses: runs it on a painted stack of its own and looks how far down the paint is gone.
- * Prints a Markdown table; ends with status 1 if a call uses more than 16 KiB.
+ * Each call is tried on what leads it deepest, the longest PDUs of every kind, with each of its answers: accepted, and
+ * refused as late as that refusal can come. Prints a Markdown table; ends with status 1 if an answer is not the one
+ * that is expected, or a call uses more than 16 KiB.
  */
 #define _XOPEN_SOURCE 700
 #include <stdio.h>
@@ -9,40 +11,46 @@
 
 #include "boc.h"
 
-enum { STACK_BYTES = 1 << 20, LIMIT = 16 * 1024, PAINT = 0xa5, HOME = 1, NETWORK = 2, USER = 5 };
+enum { STACK_BYTES = 1 << 20, LIMIT = 16 * 1024, PAINT = 0xa5, HOME = 1, NETWORK = 2, USER = 5, NOBODY = 6 };
 
-/* What the calls are lent: the longest records, their PDUs, and the archive that holds both parts. */
-static uint32_t records[2][BOC_RECORD_WORDS], read_back[BOC_RECORD_WORDS], requests[2][BOC_REQUEST_WORDS], decision;
-static uint8_t pdus[2][BOC_PDU_BYTES], out[BOC_ARCHIVE_BYTES], archives[3][BOC_ARCHIVE_BYTES];
-static size_t bits[2], lengths[3], number;
-/* The part that the measured calls are about: 0 identity, 1 number. */
-static int part;
+/* What the calls are lent. */
+static uint32_t record[BOC_RECORD_WORDS], request[BOC_REQUEST_WORDS], user, part, home, decision;
+static uint8_t pdu[BOC_PDU_BYTES + 1], archive[BOC_ARCHIVE_BYTES], out[BOC_ARCHIVE_BYTES];
+static size_t bits, archive_len, room, number;
+
+static uint32_t nothing(void) { return BOC_OK; }
+static uint32_t reads(void)
+{
+    static uint32_t found[BOC_RECORD_WORDS];
+
+    return boc_read(pdu, (bits + 7) / 8, bits, found, BOC_RECORD_WORDS);
+}
+static uint32_t writes(void) { return boc_write(record, BOC_RECORD_WORDS, out, room, &number); }
+static uint32_t empties(void) { return boc_empty(home, out, room, &number); }
+static uint32_t captures(void)
+{
+    return boc_capture(archive, archive_len, pdu, (bits + 7) / 8, bits, out, room, &number);
+}
+static uint32_t restores(void) { return boc_restore(archive, archive_len, NETWORK, user, part, out, room, &number); }
+static uint32_t decides(void) { return boc_decide(archive, archive_len, request, BOC_REQUEST_WORDS, &decision); }
+static uint32_t lists(void) { return boc_contents(archive, archive_len, out, room, &number); }
+
+enum call { READ, WRITE, EMPTY, CAPTURE, RESTORE, DECIDE, CONTENTS, CALLS };
+static struct {
+    const char *name;
+    uint32_t (*call)(void);
+    size_t most;
+} calls[CALLS] = {
+    {"boc_read", reads, 0},       {"boc_write", writes, 0},   {"boc_empty", empties, 0},  {"boc_capture", captures, 0},
+    {"boc_restore", restores, 0}, {"boc_decide", decides, 0}, {"boc_contents", lists, 0},
+};
 
 static _Alignas(16) unsigned char stack[STACK_BYTES];
 static ucontext_t outside, inside;
 static uint32_t (*measured)(void);
 static uint32_t answer;
-
-static uint32_t nothing(void) { return BOC_OK; }
-static uint32_t reads(void)
-{
-    return boc_read(pdus[part], (bits[part] + 7) / 8, bits[part], read_back, BOC_RECORD_WORDS);
-}
-static uint32_t writes(void) { return boc_write(records[part], BOC_RECORD_WORDS, out, sizeof out, &number); }
-static uint32_t empties(void) { return boc_empty(HOME, out, sizeof out, &number); }
-static uint32_t captures(void)
-{
-    return boc_capture(archives[2], lengths[2], pdus[part], (bits[part] + 7) / 8, bits[part], out, sizeof out, &number);
-}
-static uint32_t restores(void)
-{
-    return boc_restore(archives[2], lengths[2], NETWORK, USER, (uint32_t)part + 1, out, sizeof out, &number);
-}
-static uint32_t decides(void)
-{
-    return boc_decide(archives[2], lengths[2], requests[part], BOC_REQUEST_WORDS, &decision);
-}
-static uint32_t lists(void) { return boc_contents(archives[2], lengths[2], out, sizeof out, &number); }
+static size_t base;
+static int failed;
 
 static void enter(void) { answer = measured(); }
 
@@ -64,93 +72,236 @@ static size_t depth(uint32_t (*call)(void))
     return sizeof stack - untouched;
 }
 
-static void fill_identities(uint32_t *list, uint32_t count, uint32_t ssi)
+/* Measures a call that should answer so. */
+static void expect(enum call call, uint32_t expected)
 {
-    uint32_t i;
+    size_t used;
 
-    list[0] = count;
-    for (i = 0; i < count; i++) {
-        list[1 + BOC_IDENTITY_WORDS * i + BOC_ENTRY_SSI] = ssi;
-        list[1 + BOC_IDENTITY_WORDS * i + BOC_ENTRY_EXTENSION_PRESENT] = 1;
-        list[1 + BOC_IDENTITY_WORDS * i + BOC_ENTRY_EXTENSION] = NETWORK;
+    /* The first run is for what a first call alone does, such as finding memcpy. */
+    calls[call].call();
+    used = depth(calls[call].call) - base;
+    if (answer != expected) {
+        fprintf(stderr, "stack: %s answers %u, not %u\n", calls[call].name, (unsigned)answer, (unsigned)expected);
+        failed = 1;
+    }
+    if (used > calls[call].most)
+        calls[call].most = used;
+}
+
+/* The kinds of PDUs. */
+static const struct kind {
+    uint32_t type, result, code; /* the code is the range type of its lists of identities */
+    size_t last;                 /* the word of its last element */
+    uint32_t of_pdu, of_record;  /* what is answered if its last four bits are ones, or its last word is 15 */
+} kinds[] = {
+    {BOC_INTERROGATE, 0, 0, BOC_INTERROGATION_TYPE, BOC_OK, BOC_VALUE},
+    {BOC_INTERROGATE_ACK, BOC_RESULT_FAILED, 0, BOC_SERVICES + 6, BOC_VALUE, BOC_VALUE},
+    {BOC_INTERROGATE_ACK, BOC_RESULT_IDENTITIES, 8, BOC_EXCEPTIONS + 24, BOC_OK, BOC_OK},
+    {BOC_INTERROGATE_ACK, BOC_RESULT_IDENTITIES, BOC_RANGE_OF_TWO, BOC_EXCEPTIONS + 6, BOC_ENDS, BOC_ENDS},
+    {BOC_INTERROGATE_ACK, BOC_RESULT_NUMBERS, 8, BOC_EXCEPTED_NUMBERS + 200, BOC_VALUE, BOC_VALUE},
+};
+
+static void fill_identities(size_t list, uint32_t code, uint32_t ssi)
+{
+    uint32_t i, *entry;
+
+    record[list] = code;
+    for (i = 0; i < (code == BOC_RANGE_OF_TWO ? 2 : code); i++) {
+        entry = record + list + 1 + BOC_IDENTITY_WORDS * i;
+        entry[BOC_ENTRY_SSI] = ssi;
+        entry[BOC_ENTRY_EXTENSION_PRESENT] = 1;
+        entry[BOC_ENTRY_EXTENSION] = NETWORK;
     }
 }
 
-static void fill_numbers(uint32_t *list)
+static void fill_numbers(size_t list)
 {
-    int i, digit;
+    uint32_t i, digit, *entry;
 
-    list[0] = BOC_LIST_PLACES;
+    record[list] = BOC_LIST_PLACES;
     for (i = 0; i < BOC_LIST_PLACES; i++) {
-        list[1 + BOC_NUMBER_WORDS * i + BOC_ENTRY_LENGTH] = BOC_DIGIT_PLACES;
+        entry = record + list + 1 + BOC_NUMBER_WORDS * i;
+        entry[BOC_ENTRY_LENGTH] = BOC_DIGIT_PLACES;
         for (digit = 0; digit < BOC_DIGIT_PLACES; digit++)
-            list[1 + BOC_NUMBER_WORDS * i + BOC_ENTRY_DIGITS + digit] = BOC_DIGIT_PLUS;
+            entry[BOC_ENTRY_DIGITS + digit] = BOC_DIGIT_PLUS;
     }
 }
 
-/* The longest part of the user that an archive holds, and a call that its lists do not name. */
-static void prepare(int kind)
+/* The longest record of a kind for so many users. */
+static void prepare(const struct kind *kind, uint32_t users)
 {
-    uint32_t *record = records[kind], *request = requests[kind];
-
-    record[BOC_PDU_TYPE] = BOC_INTERROGATE_ACK;
-    fill_identities(record + BOC_AFFECTED, 1, USER);
-    record[BOC_RESULT] = (uint32_t)kind + 1;
-    record[BOC_SERVICE_COUNT] = BOC_SERVICE_PLACES;
-    fill_identities(record + BOC_GROUPS, BOC_LIST_PLACES, 500);
-    if (kind == 0) {
-        fill_identities(record + BOC_RESTRICTED, BOC_LIST_PLACES, 100);
-        fill_identities(record + BOC_EXCEPTIONS, BOC_LIST_PLACES, 150);
-    } else {
-        fill_numbers(record + BOC_RESTRICTED_NUMBERS);
-        fill_numbers(record + BOC_EXCEPTED_NUMBERS);
+    memset(record, 0, sizeof record);
+    record[BOC_PDU_TYPE] = kind->type;
+    fill_identities(BOC_AFFECTED, users, USER);
+    if (kind->type == BOC_INTERROGATE) {
+        record[BOC_INTERROGATION_TYPE] = 3;
+        return;
     }
+    record[BOC_RESULT] = kind->result;
+    record[BOC_SERVICE_COUNT] = BOC_SERVICE_PLACES;
+    if (kind->result == BOC_RESULT_IDENTITIES) {
+        fill_identities(BOC_GROUPS, kind->code, 500);
+        fill_identities(BOC_RESTRICTED, kind->code, 100);
+        fill_identities(BOC_EXCEPTIONS, kind->code, 150);
+    } else if (kind->result == BOC_RESULT_NUMBERS) {
+        fill_identities(BOC_GROUPS, kind->code, 500);
+        fill_numbers(BOC_RESTRICTED_NUMBERS);
+        fill_numbers(BOC_EXCEPTED_NUMBERS);
+    }
+}
+
+/* Changes four bits that end at a bit place to ones. */
+static void spoil(uint8_t *bytes, size_t end)
+{
+    size_t i;
+
+    for (i = end - 4; i < end; i++)
+        bytes[i / 8] |= (uint8_t)(0x80 >> i % 8);
+}
+
+/* Writes the record, with each answer of writing, and leaves its PDU in `pdu`. */
+static void write_each_way(const struct kind *kind)
+{
+    uint32_t last = record[kind->last];
+
+    room = sizeof out;
+    record[kind->last] = 15;
+    expect(WRITE, kind->of_record);
+    record[kind->last] = last;
+    /* The last word of all is a digit or unused. */
+    last = record[BOC_RECORD_WORDS - 1];
+    record[BOC_RECORD_WORDS - 1] = 15;
+    expect(WRITE, BOC_VALUE);
+    record[BOC_RECORD_WORDS - 1] = last;
+    expect(WRITE, BOC_OK);
+    bits = number;
+    memset(pdu, 0, sizeof pdu);
+    memcpy(pdu, out, (bits + 7) / 8);
+    room = (bits + 7) / 8 - 1;
+    expect(WRITE, BOC_ROOM);
+    room = sizeof out;
+}
+
+/* Reads and captures what is in `pdu`. */
+static void read_and_capture(uint32_t read, uint32_t captured)
+{
+    expect(READ, read);
+    expect(CAPTURE, captured);
+}
+
+/* Reads and captures the PDU, with each answer that there is for it; `captured` is that for the PDU as it is. */
+static void read_each_way(const struct kind *kind, uint32_t captured)
+{
+    uint8_t whole[sizeof pdu];
+
+    memcpy(whole, pdu, sizeof pdu);
+    read_and_capture(BOC_OK, captured);
+    spoil(pdu, bits);
+    read_and_capture(kind->of_pdu, kind->of_pdu == BOC_OK ? captured : kind->of_pdu);
+    memcpy(pdu, whole, sizeof pdu);
+    bits++;
+    read_and_capture(BOC_LEFT, BOC_LEFT);
+    bits -= 2;
+    pdu[bits / 8] &= (uint8_t)(0xff << (8 - bits % 8));
+    read_and_capture(BOC_SHORT, BOC_SHORT);
+    bits++;
+    memcpy(pdu, whole, sizeof pdu);
+}
+
+/* Captures the PDU: the archive is then the one that holds it too. */
+static void capture(void)
+{
+    room = sizeof out;
+    expect(CAPTURE, BOC_OK);
+    memcpy(archive, out, number);
+    archive_len = number;
+    room = archive_len - 1;
+    expect(CAPTURE, BOC_ROOM);
+    room = sizeof out;
+}
+
+/* Restores the part of a user, and decides a call that its lists do not name. */
+static void ask(uint32_t ssi, uint32_t of_restore, uint32_t of_decide, uint32_t decided)
+{
+    user = ssi;
+    expect(RESTORE, of_restore);
+    memset(request, 0, sizeof request);
     request[BOC_USER_NETWORK] = NETWORK;
-    request[BOC_USER_SSI] = USER;
+    request[BOC_USER_SSI] = ssi;
     request[BOC_SERVICE] = BOC_SERVICE_SPEECH;
-    request[BOC_DESTINATION] = (uint32_t)kind + 1;
-    request[kind == 0 ? BOC_SSI : BOC_LENGTH] = 1;
+    request[BOC_DESTINATION] = part;
+    request[part == BOC_IDENTITY_PART ? BOC_SSI : BOC_LENGTH] = 1;
     request[BOC_GROUP_GIVEN] = 1;
+    expect(DECIDE, of_decide);
+    if (decision != decided) {
+        fprintf(stderr, "stack: boc_decide decides %u, not %u\n", (unsigned)decision, (unsigned)decided);
+        failed = 1;
+    }
+    request[BOC_GROUP_SSI] = BOC_NETWORK_LIMIT;
+    expect(DECIDE, BOC_RANGE);
+}
+
+/* The calls that ask, on an archive that holds the part. */
+static void ask_each_way(void)
+{
+    ask(USER, BOC_OK, BOC_OK, BOC_BARRED_GROUP);
+    ask(NOBODY, BOC_NOT_HELD, BOC_OK, BOC_PART_NOT_HELD);
+    user = USER;
+    room = 1;
+    expect(RESTORE, BOC_ROOM);
+    expect(CONTENTS, BOC_ROOM);
+    room = sizeof out;
+    user = BOC_NETWORK_LIMIT;
+    expect(RESTORE, BOC_RANGE);
+    expect(CONTENTS, BOC_OK);
 }
 
 int main(void)
 {
-    static const struct {
-        const char *name;
-        uint32_t (*call)(void);
-    } calls[] = {
-        {"boc_read", reads},       {"boc_write", writes},   {"boc_empty", empties},
-        {"boc_capture", captures}, {"boc_restore", restores}, {"boc_decide", decides},
-        {"boc_contents", lists},
-    };
-    size_t i, most, used, base;
-    int kind, failed = 0;
+    static const uint32_t users[] = {1, BOC_LIST_PLACES};
+    const struct kind *kind;
+    size_t i, k;
 
-    if (boc_empty(HOME, archives[0], BOC_ARCHIVE_BYTES, &lengths[0]) != BOC_OK)
-        return 1;
-    for (kind = 0; kind < 2; kind++) {
-        prepare(kind);
-        if (boc_write(records[kind], BOC_RECORD_WORDS, pdus[kind], BOC_PDU_BYTES, &bits[kind]) != BOC_OK ||
-            boc_capture(archives[kind], lengths[kind], pdus[kind], (bits[kind] + 7) / 8, bits[kind], archives[kind + 1],
-                        BOC_ARCHIVE_BYTES, &lengths[kind + 1]) != BOC_OK)
-            return 1;
-    }
-    printf("| call | bytes of stack |\n|---|---|\n");
     depth(nothing);
     base = depth(nothing);
-    for (i = 0; i < sizeof calls / sizeof calls[0]; i++) {
-        most = 0;
-        for (part = 0; part < 2; part++) {
-            /* The first run is for what a first call alone does, such as finding memcpy. */
-            calls[i].call();
-            used = depth(calls[i].call) - base;
-            failed |= answer != BOC_OK;
-            most = used > most ? used : most;
+    room = sizeof out;
+    home = HOME;
+    expect(EMPTY, BOC_OK);
+    memcpy(archive, out, number);
+    archive_len = number;
+    room = 4;
+    expect(EMPTY, BOC_ROOM);
+    home = BOC_NETWORK_LIMIT;
+    expect(EMPTY, BOC_RANGE);
+
+    for (k = 0; k < sizeof kinds / sizeof kinds[0]; k++) {
+        kind = &kinds[k];
+        for (i = 0; i < 2; i++) {
+            prepare(kind, users[i]);
+            write_each_way(kind);
+            if (users[i] != 1 || kind->result == 0) {
+                read_each_way(kind, BOC_UNFIT);
+                continue;
+            }
+            read_each_way(kind, BOC_OK);
+            part = kind->result;
+            capture();
+            ask_each_way();
         }
-        printf("| `%s` | %zu |\n", calls[i].name, most);
-        failed |= most > LIMIT;
     }
-    if (failed)
-        fprintf(stderr, "stack: a call was refused, or used more than %d bytes\n", LIMIT);
+    /* The archive's last body is a number part: a refused digit at its end. */
+    spoil(archive, 8 * archive_len - (8 - bits % 8) % 8);
+    ask(USER, BOC_ARCHIVE, BOC_ARCHIVE, decision);
+    expect(CAPTURE, BOC_ARCHIVE);
+    expect(CONTENTS, BOC_ARCHIVE);
+
+    printf("| call | bytes of stack |\n|---|---|\n");
+    for (i = 0; i < CALLS; i++) {
+        printf("| `%s` | %zu |\n", calls[i].name, calls[i].most);
+        if (calls[i].most > LIMIT) {
+            fprintf(stderr, "stack: %s uses more than %d bytes\n", calls[i].name, LIMIT);
+            failed = 1;
+        }
+    }
     return failed;
 }
