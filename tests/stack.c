@@ -1,8 +1,8 @@
 /*
  * The most stack that each call uses: runs it on a painted stack of its own and looks how far down the paint is gone.
- * Each call is tried on what leads it deepest, the longest PDUs of every kind, with each of its answers: accepted, and
- * refused as late as that refusal can come. Prints a Markdown table; ends with status 1 if an answer is not the one
- * that is expected, or a call uses more than 16 KiB.
+ * Each call is tried on what leads it deepest: the longest PDUs of every kind, accepted, refused at their end, and not
+ * to be filed. Prints a Markdown table; ends with status 1 if an answer is not the one that is expected, or a call
+ * uses more than 16 KiB.
  */
 #define _XOPEN_SOURCE 700
 #include <stdio.h>
