@@ -46,15 +46,49 @@ fn a_record_is_written_and_read() {
     assert_eq!(record.services.as_slice(), [Service::Speech]);
 }
 
-#[test]
-fn words_and_records_are_inverse() {
-    let words = profile_a().to_words();
-    assert_eq!(Record::from_words(&words), Some(profile_a()));
-    for place in 0..RECORD_WORDS {
-        let mut other = words;
-        other[place] = u32::MAX;
-        assert!(Record::from_words(&other).is_none_or(|record| record.to_words() == other));
+/// Profile A as words, each by its place in the header's table.
+fn words_of_profile_a() -> [u32; RECORD_WORDS] {
+    let mut words = [0; RECORD_WORDS];
+    for (place, word) in [
+        (0, 12),
+        (1, 1),
+        (2, 5),
+        (27, 1),
+        (29, 1),
+        (30, 1),
+        (62, 9),
+        (63, 100),
+        (66, 199),
+        (87, 1),
+        (88, 150),
+    ] {
+        words[place] = word;
     }
+    words
+}
+
+#[test]
+fn a_record_has_the_words_of_the_header() {
+    let words = words_of_profile_a();
+    assert_eq!(profile_a().to_words(), words);
+    assert_eq!(Record::from_words(&words), Some(profile_a()));
+    let mut read = [0; RECORD_WORDS];
+    assert_eq!(ffi::read(&PROFILE_A, 138, &mut read), 0);
+    assert_eq!(read, words);
+}
+
+#[test]
+fn words_that_no_record_has_are_none() {
+    // PDU type, extension present, interrogation type, result, delivery status, service, length, digit.
+    for (place, word) in [(0, 10), (3, 2), (26, 4), (27, 5), (28, 4), (36, 4), (113, 25), (114, 13)] {
+        let mut words = words_of_profile_a();
+        words[place] = word;
+        assert_eq!(Record::from_words(&words), None, "{word} in place {place}");
+    }
+    // An extension that is not present.
+    let mut words = words_of_profile_a();
+    words[4] = 1;
+    assert_eq!(Record::from_words(&words), None);
 }
 
 #[test]
