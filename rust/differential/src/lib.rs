@@ -8,11 +8,34 @@ mod archives;
 mod pdus;
 mod requests;
 mod rng;
+pub mod typed;
 
 pub use archives::{Archive, Entry, MAX_BYTES, MAX_ENTRIES};
-pub use pdus::{damage_record, part, record, Pdu, Record, Size};
+pub use pdus::{damage_record, offered, part, record, Pdu, Record, Size};
 pub use requests::{damage_request, request, Request};
 pub use rng::Rng;
+
+/// More bytes than any result needs.
+pub const AMPLE: usize = 70_000;
+/// The seed unless another is given.
+pub const SEED: u64 = 2026;
+
+/// The seed that the command's first word gives, if it is a number or there is none.
+pub fn seed() -> Option<u64> {
+    std::env::args().nth(1).map_or(Some(SEED), |word| word.parse().ok())
+}
+
+/// A length at, below or above the needed one.
+pub fn room(rng: &mut Rng, needed: usize) -> usize {
+    match rng.below(8) {
+        0 => needed.saturating_sub(1),
+        1 => rng.below(needed + 1),
+        2 => needed,
+        3 => AMPLE.min(needed + rng.below(4 * needed + 1)),
+        4 => 0,
+        _ => needed + rng.below(40),
+    }
+}
 
 /// A network: one of a few, or any.
 pub fn network(rng: &mut Rng) -> u32 {

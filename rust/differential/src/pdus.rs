@@ -114,6 +114,21 @@ pub fn record(rng: &mut Rng) -> Record {
     words
 }
 
+/// A PDU that is offered for a user: most often fit, else unfit or damaged.
+pub fn offered(rng: &mut Rng, home: u32, user: [u32; 2]) -> Pdu {
+    let kind = rng.between(1, 2) as u32;
+    let mut pdu = match rng.below(8) {
+        0 => Pdu::of(&record(rng)),
+        1 => Pdu::of(&part(rng, home, user, kind, Size::Small)),
+        2 => Pdu::of(&part(rng, home, user, kind, Size::Full)),
+        _ => Pdu::of(&part(rng, home, user, kind, Size::Any)),
+    };
+    if rng.one_in(4) {
+        pdu.damage(rng);
+    }
+    pdu
+}
+
 /// The record of a part of a user, with the network spelt out unless it is the home network.
 pub fn part(rng: &mut Rng, home: u32, user: [u32; 2], part: u32, size: Size) -> Record {
     let mut words = [0; RECORD_WORDS];

@@ -13,8 +13,6 @@ use differential::*;
 use reference::layout::{RECORD_WORDS, REQUEST_WORDS};
 use reference::Refusal;
 
-const SEED: u64 = 2026;
-
 #[derive(Clone, Copy)]
 enum Call {
     Read,
@@ -53,8 +51,6 @@ const KINDS: [Kind; 6] = [
 
 /// Places on each side of what is lent that no call may touch.
 const MARGIN: usize = 8;
-/// More than any result needs.
-const AMPLE: usize = 70_000;
 
 /// Equal buffers of random content for the two sides.
 struct Lent<T> {
@@ -92,18 +88,6 @@ fn bytes(rng: &mut Rng, length: usize) -> Lent<u8> {
 
 fn words(rng: &mut Rng, length: usize) -> Lent<u32> {
     Lent::new((0..length + 2 * MARGIN).map(|_| rng.bits(32)).collect())
-}
-
-/// A length at, below or above the needed one.
-fn room(rng: &mut Rng, needed: usize) -> usize {
-    match rng.below(8) {
-        0 => needed.saturating_sub(1),
-        1 => rng.below(needed + 1),
-        2 => needed,
-        3 => AMPLE.min(needed + rng.below(4 * needed + 1)),
-        4 => 0,
-        _ => needed + rng.below(40),
-    }
 }
 
 /// The calls, which compare and count.
@@ -260,21 +244,6 @@ impl Calls {
     }
 }
 
-/// A PDU that is offered for a user: most often fit, else unfit or damaged.
-fn offered(rng: &mut Rng, home: u32, user: [u32; 2]) -> Pdu {
-    let kind = rng.between(1, 2) as u32;
-    let mut pdu = match rng.below(8) {
-        0 => Pdu::of(&record(rng)),
-        1 => Pdu::of(&part(rng, home, user, kind, Size::Small)),
-        2 => Pdu::of(&part(rng, home, user, kind, Size::Full)),
-        _ => Pdu::of(&part(rng, home, user, kind, Size::Any)),
-    };
-    if rng.one_in(4) {
-        pdu.damage(rng);
-    }
-    pdu
-}
-
 fn pdus(calls: &mut Calls, rng: &mut Rng) {
     let mut pdu = Pdu::of(&record(rng));
     if !rng.one_in(4) {
@@ -360,13 +329,9 @@ fn histories(calls: &mut Calls, rng: &mut Rng) {
 }
 
 fn main() -> ExitCode {
-    let seed = match std::env::args().nth(1).map(|word| word.parse()) {
-        None => SEED,
-        Some(Ok(seed)) => seed,
-        Some(Err(_)) => {
-            eprintln!("usage: calls [SEED]");
-            return ExitCode::from(2);
-        }
+    let Some(seed) = seed() else {
+        eprintln!("usage: calls [SEED]");
+        return ExitCode::from(2);
     };
     println!("seed {seed}");
     let mut calls = Calls {

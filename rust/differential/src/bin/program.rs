@@ -9,9 +9,8 @@ use std::process::{Command, ExitCode, Stdio};
 use std::thread::sleep;
 use std::time::Duration;
 
-use differential::{Archive, Rng, Size, MAX_BYTES, MAX_ENTRIES};
+use differential::{Archive, Rng, Size, MAX_BYTES, MAX_ENTRIES, SEED};
 
-const SEED: u64 = 2026;
 /// The archive that holds profile A for user 1/5 of home network 1.
 const EXAMPLE: [u8; 32] = [
     0x00, 0x00, 0x01, 0x00, 0x01, 0x00, 0x00, 0x01, 0x00, 0x00, 0x05, 0x01, 0x00, 0x8a, 0x49, 0x82, 0x00,
