@@ -1,0 +1,124 @@
+//! The answers of `trials_archive`.
+
+use reference::layout::REQUEST_WORDS;
+use reference::{Decision, Refusal};
+
+use crate::line::{hex, put, rest, Words, FULL};
+
+/// Bytes of a buffer.
+const ROOM: usize = 70_000;
+/// Where the SSI of a PDU's first user stands: behind SS type, PDU type and range type.
+const SSI_PLACE: usize = 15;
+
+/// A buffer, and the length of the archive in it.
+struct Held {
+    length: usize,
+    bytes: Vec<u8>,
+}
+
+/// A line for each line of the input; for `many` one for each PDU, and an empty one.
+pub fn answers(input: &str) -> String {
+    let mut held = Held { length: 0, bytes: vec![FULL; ROOM] };
+    input.lines().map(|line| held.case(line) + "\n").collect()
+}
+
+impl Held {
+    fn archive(&self) -> &[u8] {
+        &self.bytes[..self.length.min(ROOM)]
+    }
+
+    fn case(&mut self, line: &str) -> String {
+        let words = &mut Words::after_first(line);
+        match line.chars().next() {
+            Some('e') => {
+                let (home, room) = (words.number(), words.length());
+                self.replace(room, |_, out| reference::empty(home, out))
+            }
+            Some('c') => {
+                let (room, bits, pdu) = (words.length(), words.length(), words.bytes());
+                self.capture(&pdu, bits, room)
+            }
+            Some('m') => self.many(words),
+            Some('o') => {
+                let (at, bytes) = (words.length(), words.bytes());
+                let count = bytes.len().min(ROOM - at);
+                self.bytes[at..at + count].copy_from_slice(&bytes[..count]);
+                format!("put {count}")
+            }
+            Some('l') => format!("was {}", std::mem::replace(&mut self.length, words.length())),
+            Some('r') => self.restore(words),
+            Some('v') => {
+                let mut out = vec![FULL; ROOM];
+                let listed = reference::contents(self.archive(), &mut out);
+                written(listed, &out)
+            }
+            Some('d') => self.decide(words),
+            Some('p') => {
+                let (from, to) = (words.length(), words.length());
+                hex(&self.bytes[from..to.min(ROOM)])
+            }
+            _ => line.into(),
+        }
+    }
+
+    /// Another archive in place of the one that is held, unless it is refused.
+    fn replace(&mut self, room: usize, call: impl Fn(&[u8], &mut [u8]) -> Result<usize, Refusal>) -> String {
+        let mut out = vec![FULL; ROOM];
+        let answer = call(self.archive(), &mut out[..room.min(ROOM)]);
+        let told = written(answer, &out);
+        if let Ok(length) = answer {
+            *self = Held { length, bytes: out };
+        }
+        told
+    }
+
+    fn capture(&mut self, pdu: &[u8], bits: usize, room: usize) -> String {
+        self.replace(room, |held, out| reference::capture(held, pdu, bits, out))
+    }
+
+    fn many(&mut self, words: &mut Words) -> String {
+        let (from, to, bits) = (words.number(), words.number(), words.length());
+        let mut pdu = words.bytes();
+        (from..to)
+            .map(|ssi| {
+                put(&mut pdu, SSI_PLACE, 24, ssi);
+                self.capture(&pdu, bits, ROOM) + "\n"
+            })
+            .collect()
+    }
+
+    fn restore(&self, words: &mut Words) -> String {
+        let [network, ssi, part, room] = [(); 4].map(|()| words.number());
+        let mut out = vec![FULL; ROOM];
+        let lent = &mut out[..(room as usize).min(ROOM)];
+        match reference::restore(self.archive(), network, ssi, part, lent) {
+            Ok(bits) => {
+                let (pdu, after) = out.split_at(bits.div_ceil(8));
+                format!("bits {bits} {}{}", hex(pdu), rest(after))
+            }
+            Err(refusal) => format!("refused {}{}", refusal.number(), rest(&out)),
+        }
+    }
+
+    fn decide(&self, words: &mut Words) -> String {
+        let request = [(); REQUEST_WORDS].map(|()| words.number());
+        match reference::decide(self.archive(), &request) {
+            Ok(Decision::Allowed) => "allowed".into(),
+            Ok(Decision::NotHeld) => "not held".into(),
+            Ok(barred) => format!("barred {}", barred.number()),
+            Err(refusal) => format!("refused {}", refusal.number()),
+        }
+    }
+}
+
+/// The length and the sum of what was written.
+fn written(answer: Result<usize, Refusal>, out: &[u8]) -> String {
+    match answer {
+        Ok(length) => format!("bytes {length} sum {}{}", sum(&out[..length]), rest(&out[length..])),
+        Err(refusal) => format!("refused {}{}", refusal.number(), rest(out)),
+    }
+}
+
+fn sum(bytes: &[u8]) -> u64 {
+    bytes.iter().fold(1, |total, byte| (total * 257 + u64::from(*byte)) % 16_777_213)
+}
