@@ -2,12 +2,36 @@
 
 use std::collections::BTreeSet;
 
+use reference::layout::{record as at, RECORD_WORDS};
+
 use crate::{network, part, record, ssi, Pdu, Rng, Size};
 
 /// Most bytes of an archive.
 pub const MAX_BYTES: usize = 65_536;
 /// Most entries of an archive.
 pub const MAX_ENTRIES: usize = 512;
+/// What [`Archive::damaged`] changes, and the two ways in which an archive has too much.
+pub const DAMAGES: [&str; 19] = [
+    "home network's bits",
+    "count's bits",
+    "network's bits",
+    "SSI's bits",
+    "part's bits",
+    "length's bits",
+    "body's bits",
+    "end cut",
+    "bytes after the end",
+    "order",
+    "an entry twice",
+    "a damaged PDU",
+    "another PDU",
+    "another part",
+    "another user",
+    "the other part's PDU",
+    "another home network",
+    "513 entries",
+    "65,537 bytes",
+];
 const HEADER: usize = 5;
 const LINE: usize = 9;
 
@@ -103,46 +127,99 @@ impl Archive {
         bytes
     }
 
-    /// The bytes after a change to an entry or to the bytes, most often to no archive.
-    pub fn damaged(&self, rng: &mut Rng) -> Vec<u8> {
-        let mut other = self.clone();
-        if !other.entries.is_empty() && rng.one_in(2) {
-            other.damage_entry(rng);
-            return other.bytes();
+    /// The bytes after a change to an entry or to the bytes, most often to no archive, and what was changed.
+    pub fn damaged(&self, rng: &mut Rng) -> (&'static str, Vec<u8>) {
+        let count = self.entries.len();
+        if count > 0 && rng.one_in(2) {
+            let mut other = self.clone();
+            return (other.damage_entry(rng), other.bytes());
         }
-        let mut bytes = other.bytes();
-        let contents = HEADER + LINE * other.entries.len();
-        let regions = [(0, HEADER), (HEADER, contents), (contents, bytes.len())];
-        match rng.below(6) {
-            0 => bytes.truncate(rng.below(bytes.len())),
-            1 => bytes.extend((0..rng.between(1, 9)).map(|_| 0)),
-            region => {
-                let (from, to) = regions[region % 3];
-                if from < to {
-                    bytes[rng.between(from, to - 1)] ^= 1 << rng.below(8);
-                }
+        let mut bytes = self.bytes();
+        let (line, bodies) = (HEADER + LINE * rng.below(count.max(1)), HEADER + LINE * count);
+        let regions = [
+            ("home network's bits", 0..3),
+            ("count's bits", 3..HEADER),
+            ("network's bits", line..line + 3),
+            ("SSI's bits", line + 3..line + 6),
+            ("part's bits", line + 6..line + 7),
+            ("length's bits", line + 7..line + LINE),
+            ("body's bits", bodies..bytes.len()),
+        ];
+        match rng.below(8) {
+            0 => {
+                bytes.truncate(rng.below(bytes.len()));
+                ("end cut", bytes)
+            }
+            1 => {
+                bytes.extend((0..rng.between(1, 9)).map(|_| 0));
+                ("bytes after the end", bytes)
+            }
+            _ => {
+                let (region, range) = regions[rng.below(if count > 0 { regions.len() } else { 2 })].clone();
+                bytes[rng.between(range.start, range.end - 1)] ^= 1 << rng.below(8);
+                (region, bytes)
             }
         }
-        bytes
     }
 
-    fn damage_entry(&mut self, rng: &mut Rng) {
+    fn damage_entry(&mut self, rng: &mut Rng) -> &'static str {
         let index = rng.below(self.entries.len());
         let other = rng.below(self.entries.len());
         let home = self.home;
         let entry = &mut self.entries[index];
         match rng.below(8) {
-            0 => self.entries.swap(index, other),
-            1 => self.entries.insert(index, self.entries[other].clone()),
-            2 => entry.pdu.damage(rng),
-            3 => entry.pdu = Pdu::of(&record(rng)),
-            4 => entry.part = rng.below(4) as u32,
-            5 => entry.user = [network(rng), ssi(rng)],
-            6 => entry.pdu = Pdu::of(&part(rng, home, entry.user, 3 - entry.part, Size::Small)),
-            // Another home network moves every user that does not spell its network out.
-            _ => self.home = network(rng),
+            0 => {
+                self.entries.swap(index, other);
+                "order"
+            }
+            1 => {
+                self.entries.insert(index, self.entries[other].clone());
+                "an entry twice"
+            }
+            2 => {
+                entry.pdu.damage(rng);
+                "a damaged PDU"
+            }
+            3 => {
+                entry.pdu = Pdu::of(&record(rng));
+                "another PDU"
+            }
+            4 => {
+                entry.part = rng.below(4) as u32;
+                "another part"
+            }
+            5 => {
+                entry.user = [network(rng), ssi(rng)];
+                "another user"
+            }
+            6 => {
+                entry.pdu = Pdu::of(&part(rng, home, entry.user, 3 - entry.part, Size::Small));
+                "the other part's PDU"
+            }
+            // It moves every user that does not spell its network out.
+            _ => {
+                self.home = network(rng);
+                "another home network"
+            }
         }
     }
+}
+
+/// Why capture may have no room.
+pub const LACKS: [&str; 3] = ["512 held and a new key", "over 65,536 bytes", "short buffer"];
+
+/// What capture has no room for, of a legal archive, a PDU that may be held, and a buffer of so many bytes.
+pub fn lacking(archive: &[u8], pdu: &Pdu, room: usize) -> Vec<&'static str> {
+    let mut words = [0; RECORD_WORDS];
+    reference::read(&pdu.bytes, pdu.bits, &mut words).expect("the PDU is legal");
+    let [ssi, present, extension] = [1, 2, 3].map(|place| words[at::AFFECTED + place]);
+    let home = u32::from_be_bytes([0, archive[0], archive[1], archive[2]]);
+    let network = if present == 1 { extension } else { home };
+    let old = reference::restore(archive, network, ssi, words[at::RESULT], &mut [0; 512]);
+    let count = usize::from(u16::from_be_bytes([archive[3], archive[4]]));
+    let length = archive.len() + pdu.bytes.len() + LINE - old.map_or(0, |bits| LINE + bits.div_ceil(8));
+    let lacks = [count == MAX_ENTRIES && old.is_err(), length > MAX_BYTES, length > room];
+    LACKS.into_iter().zip(lacks).filter(|(_, lacks)| *lacks).map(|(lack, _)| lack).collect()
 }
 
 /// Different keys in their order.

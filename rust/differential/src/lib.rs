@@ -5,12 +5,14 @@
 #![forbid(unsafe_code)]
 
 mod archives;
+mod met;
 mod pdus;
 mod requests;
 mod rng;
 pub mod typed;
 
-pub use archives::{Archive, Entry, MAX_BYTES, MAX_ENTRIES};
+pub use archives::{lacking, Archive, Entry, DAMAGES, LACKS, MAX_BYTES, MAX_ENTRIES};
+pub use met::Met;
 pub use pdus::{damage_record, offered, part, record, Pdu, Record, Size};
 pub use requests::{damage_request, request, Request};
 pub use rng::Rng;

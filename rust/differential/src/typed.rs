@@ -1,5 +1,5 @@
-//! Records, requests and answers as the structs and enums of the crate `boc`, made from the numbers of the scope
-//! by the tables below and not by that crate's own.
+//! Records, requests and answers as the structs and enums of the crate `boc`, made from their numbers by the
+//! tables below and not by that crate's own.
 
 use boc::{
     Decision, DeliveryStatus, Destination, Identity, InterrogationType, List, Number, Outcome, Part, Party,
