@@ -14,6 +14,20 @@ const ROUND: Duration = Duration::from_micros(400);
 const ROOM: usize = 65_536;
 const CALLS: [&str; 3] = ["capture", "restore", "decide"];
 
+/// What a call answers: its refusal number, 0 for none, and a length or a decision besides.
+type Answer = (u32, usize);
+
+/// The reference's answer.
+fn answer(result: Result<usize, reference::Refusal>) -> Answer {
+    result.map_or_else(|refusal| (refusal.number(), 0), |value| (0, value))
+}
+
+/// The library's answer: what a call with a pointer to a number returns, and that number.
+fn through<N: Default + Copy>(call: impl FnOnce(&mut N) -> u32) -> (u32, N) {
+    let mut number = N::default();
+    (call(&mut number), number)
+}
+
 /// Nanoseconds per call.
 #[derive(Clone, Copy)]
 struct Times {
@@ -22,9 +36,18 @@ struct Times {
 }
 
 impl Times {
-    /// Measures two calls that answer alike, each through its own buffers.
-    fn of<T: PartialEq>(mut library: impl FnMut() -> T, mut reference: impl FnMut() -> T) -> Self {
-        assert!(library() == reference(), "the two sides answer alike");
+    /// Measures two calls, each with a buffer of its own. Both have to accept, and to answer and write alike.
+    fn of<T: Copy + Default + PartialEq>(
+        room: usize,
+        library: impl Fn(&mut [T]) -> Answer,
+        reference: impl Fn(&mut [T]) -> Answer,
+    ) -> Self {
+        let (mut ours, mut theirs) = (vec![T::default(); room], vec![T::default(); room]);
+        let (answer, expected) = (library(&mut ours), reference(&mut theirs));
+        assert_eq!((answer, expected.0), (expected, 0), "the two sides answer alike and accept");
+        assert!(ours == theirs, "the two sides write alike");
+        let mut library = || library(black_box(&mut ours));
+        let mut reference = || reference(black_box(&mut theirs));
         let calls = calls_per_round(&mut library);
         let mut best = Times { library: f64::INFINITY, reference: f64::INFINITY };
         for _ in 0..ROUNDS {
@@ -85,24 +108,19 @@ fn read_and_write(rng: &mut Rng) {
     for (kind, name) in [(1, "identity"), (2, "number")] {
         let record = longest(rng, kind);
         let Pdu { bytes, bits } = Pdu::of(&record);
-        let (mut ours, mut theirs) = ([0; RECORD_WORDS], [0; RECORD_WORDS]);
         Times::of(
-            || boc::ffi::read(black_box(&bytes), bits, black_box(&mut ours)),
-            || number(reference::read(black_box(&bytes), bits, black_box(&mut theirs))),
+            RECORD_WORDS,
+            |words| (boc::ffi::read(black_box(&bytes), bits, words), 0),
+            |words| answer(reference::read(black_box(&bytes), bits, words).map(|()| 0)),
         )
         .row(&format!("read | {name} | {bits}"));
-        let (mut ours, mut theirs) = ([0; 512], [0; 512]);
-        let mut written = 0;
         Times::of(
-            || boc::ffi::write(black_box(&record), black_box(&mut ours), &mut written),
-            || number(reference::write(black_box(&record), black_box(&mut theirs))),
+            512,
+            |out| through(|bits| boc::ffi::write(black_box(&record), out, bits)),
+            |out| answer(reference::write(black_box(&record), out)),
         )
         .row(&format!("write | {name} | {bits}"));
     }
-}
-
-fn number<T>(answer: Result<T, reference::Refusal>) -> u32 {
-    answer.map_or_else(|refusal| refusal.number(), |_| 0)
 }
 
 /// Capture in place of the last entry, restore of it, and a decision by it, in the order of `CALLS`.
@@ -111,15 +129,15 @@ fn on_archive(archive: &Archive) -> [Times; 3] {
     let held = held.as_slice();
     let Entry { user: [network, ssi], part, pdu } = archive.entries.last().expect("it has entries");
     let (bytes, bits) = (pdu.bytes.as_slice(), pdu.bits);
-    let (mut ours, mut theirs) = (vec![0; ROOM], vec![0; ROOM]);
-    let mut length = 0;
     let capture = Times::of(
-        || boc::ffi::capture(black_box(held), bytes, bits, black_box(&mut ours), &mut length),
-        || number(reference::capture(black_box(held), bytes, bits, black_box(&mut theirs))),
+        ROOM,
+        |out| through(|length| boc::ffi::capture(black_box(held), bytes, bits, out, length)),
+        |out| answer(reference::capture(black_box(held), bytes, bits, out)),
     );
     let restore = Times::of(
-        || boc::ffi::restore(black_box(held), *network, *ssi, *part, black_box(&mut ours), &mut length),
-        || number(reference::restore(black_box(held), *network, *ssi, *part, black_box(&mut theirs))),
+        ROOM,
+        |out| through(|bits| boc::ffi::restore(black_box(held), *network, *ssi, *part, out, bits)),
+        |out| answer(reference::restore(black_box(held), *network, *ssi, *part, out)),
     );
     // Speech to a destination that no list has, so that every entry is looked at.
     let mut call = [0; REQUEST_WORDS];
@@ -130,10 +148,17 @@ fn on_archive(archive: &Archive) -> [Times; 3] {
         call[request::LENGTH] = 24;
         call[request::FIRST_DIGIT..][..24].fill(7);
     }
-    let mut decision = 0;
-    let decide = Times::of(
-        || boc::ffi::decide(black_box(held), black_box(&call), &mut decision),
-        || number(reference::decide(black_box(held), black_box(&call))),
+    let decide = Times::of::<u8>(
+        0,
+        |_| {
+            let (number, decision) =
+                through(|decision| boc::ffi::decide(black_box(held), black_box(&call), decision));
+            (number, decision as usize)
+        },
+        |_| {
+            let decided = reference::decide(black_box(held), black_box(&call));
+            answer(decided.map(|decision| decision.number() as usize))
+        },
     );
     [capture, restore, decide]
 }

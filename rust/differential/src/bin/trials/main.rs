@@ -1,7 +1,7 @@
 //! Holds the expected output of the trial programs to the reference: `trials CRATES`, where the folder has
 //! `trials_pdu` and `trials_archive`.
 //!
-//! It answers each line of a program's `stdin` as the program's `main.rt` says, with the reference in place of
+//! It answers each line of a program's `stdin` as its `main.rt` says, with the reference in place of
 //! the library, and compares the answer with `stdout`.
 
 #![forbid(unsafe_code)]
