@@ -1,18 +1,21 @@
-//! TETRA "barring of outgoing calls" (BOC) in safe Rust, written from document 01 alone.
+//! TETRA "barring of outgoing calls" (BOC) in safe Rust, written from the scope (document 01) and the codes of
+//! the standard that it names (EN 300 392-12-18), not from the library's code. Records and requests are the
+//! words that `include/boc.h` lists.
 //!
 //! It is the test oracle of the library's C boundary and the speed anchor of its benchmarks, so each
 //! call has the shape of its C twin: slices in, a lent slice out, a refusal or a value as the answer.
-//! No call uses the heap, recurses or panics, and a refused call leaves every lent byte as it was.
+//! No call uses the heap or recurses, and a refused call leaves every lent byte as it was.
 //!
-//! | module | section of document 01 |
-//! |---|---|
-//! | `layout` | the words in which records and requests cross |
-//! | `words`, `bits` | runs of words; bit cursors, several bits at a time |
-//! | `pdu` | the two PDUs: grammar, reading |
-//! | `write` | records and writing |
-//! | `archive` | the archive: check, empty, capture, restore |
-//! | `barring` | the barring rule |
-//! | `contents` | the listing |
+//! | module | what it has | section of the scope |
+//! |---|---|---|
+//! | `layout` | the words of records and requests | |
+//! | `words`, `bits` | runs of words; bit cursors, several bits at a time | |
+//! | `refusal` | the refusals | "Refusal numbers" |
+//! | `pdu` | the grammar of the two PDUs, and reading | "The two PDUs", "Site sheet" |
+//! | `write` | which records are legal, and writing | "The two PDUs", "Site sheet" |
+//! | `archive` | check, empty, capture, restore | "The archive" |
+//! | `barring` | requests and decisions | "The barring rule" |
+//! | `contents` | the listing | "Profiles to try" |
 
 #![no_std]
 #![forbid(unsafe_code)]

@@ -12,10 +12,10 @@ use crate::words::spread;
 pub const MAX_BITS: usize = 4096;
 /// SS type of BOC: the site sheet's stand-in.
 pub const SS_TYPE: u32 = 18;
-/// PDU types that are read and written (001, table 23).
+/// PDU types that are read and written (the standard's table 23).
 pub const INTERROGATE: u32 = 11;
 pub const INTERROGATE_ACK: u32 = 12;
-/// Interrogation results that accept (001, table 35).
+/// Interrogation results that accept (the standard's table 35).
 pub const IDENTITIES_PROVIDED: u32 = 1;
 pub const NUMBERS_PROVIDED: u32 = 2;
 /// Range type of a first and a last entry.

@@ -1,6 +1,6 @@
 //! Refusal numbers.
 
-/// Why a call was refused; the discriminants are the paper's numbers.
+/// Why a call was refused; the discriminants are the scope's numbers.
 #[derive(Clone, Copy, Debug, PartialEq, Eq)]
 #[repr(u8)]
 pub enum Refusal {
@@ -29,7 +29,7 @@ pub enum Refusal {
 }
 
 impl Refusal {
-    /// The paper's number, 1 to 11.
+    /// The scope's number, 1 to 11.
     pub const fn number(self) -> u32 {
         self as u32
     }

@@ -1,4 +1,4 @@
-//! Document 01's profiles and examples, and the orders of its refusals.
+//! The profiles and examples of the scope (document 01), and the orders of its refusals.
 
 use reference::layout::{record, request, RECORD_WORDS, REQUEST_WORDS};
 use reference::{capture, contents, decide, empty, read, restore, write, Decision, Refusal};
