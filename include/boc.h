@@ -7,10 +7,17 @@
  * an accepted one leaves the bytes after what it wrote.
  *
  * Buffers. A buffer is a pointer and a length, in bytes or in words of 32 bits. The pointer is valid for that length
- * and aligned for its type. What a call writes may not overlap anything else that it is lent.
+ * and aligned for its type; at length 0 it may be any pointer, NULL included, for nothing is read or written through
+ * it. The pointer through which a length or a decision goes is never NULL, even if the call will be refused. What a
+ * call writes may not overlap anything else that it is lent.
  *
- * Nothing is allocated, no operating system is called, and nothing is kept between calls: calls on different buffers
- * may run at the same time.
+ * At the same time. Nothing is allocated, no operating system is called, and nothing is kept between calls or shared by
+ * them. Calls may run at the same time on one archive, PDU, record or request, as long as nobody changes it; what a
+ * call writes is its own until it returns.
+ *
+ * Stack. A call needs less than 9 KiB of stack: no function calls itself or has a frame of varying size, and the
+ * deepest call, boc_decide, took 8,848 bytes on x86-64, most of them for the record that it reads (docs/BENCHMARKS.md).
+ * The tests refuse more than 16 KiB; allow that much on another processor.
  *
  * PDU. A PDU is a number of bits, most significant bit first, in exactly that number divided by 8, rounded up, of
  * bytes; unused bits at the end are zero.

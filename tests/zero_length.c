@@ -1,0 +1,74 @@
+/*
+ * A slice of length 0 may have any pointer: lends each slice of each call as NULL with length 0, and as a pointer that
+ * may not be read or written, and looks at the answer. Ends with status 1 if one is not the expected one.
+ */
+#define _DEFAULT_SOURCE
+#include <stdio.h>
+#include <sys/mman.h>
+
+#include "boc.h"
+
+enum { HOME = 1, USER = 5, ROOM = 64 };
+
+/* Profile A of the user as a PDU. */
+static const uint8_t pdu[] = {0x49, 0x82, 0x00, 0x00, 0x0a, 0x21, 0x21, 0x20, 0x00,
+                              0x0c, 0x80, 0x00, 0x0c, 0x70, 0x80, 0x00, 0x4b, 0x00};
+static const size_t bits = 138;
+
+static int failed;
+
+static void expect(const char *what, uint32_t answer, uint32_t expected)
+{
+    if (answer != expected) {
+        fprintf(stderr, "zero_length: %s answers %u, not %u\n", what, (unsigned)answer, (unsigned)expected);
+        failed = 1;
+    }
+}
+
+/* Every call with each of its slices as nothing at a pointer. */
+static void lend(void *none)
+{
+    uint32_t record[BOC_RECORD_WORDS], request[BOC_REQUEST_WORDS] = {HOME, USER, BOC_SERVICE_SPEECH, BOC_TO_IDENTITY};
+    uint8_t empty[ROOM], archive[ROOM], out[ROOM];
+    uint32_t decision;
+    size_t empty_len, archive_len, n;
+
+    expect("boc_read", boc_read(pdu, sizeof pdu, bits, record, BOC_RECORD_WORDS), BOC_OK);
+    expect("boc_read, no bytes", boc_read(none, 0, 0, record, BOC_RECORD_WORDS), BOC_SHORT);
+    expect("boc_read, no bytes for 8 bits", boc_read(none, 0, 8, record, BOC_RECORD_WORDS), BOC_FRAME);
+    expect("boc_read, no words", boc_read(pdu, sizeof pdu, bits, none, 0), BOC_RANGE);
+
+    expect("boc_write, no words", boc_write(none, 0, out, sizeof out, &n), BOC_RANGE);
+    expect("boc_write, no buffer", boc_write(record, BOC_RECORD_WORDS, none, 0, &n), BOC_ROOM);
+
+    expect("boc_empty", boc_empty(HOME, empty, sizeof empty, &empty_len), BOC_OK);
+    expect("boc_empty, no buffer", boc_empty(HOME, none, 0, &n), BOC_ROOM);
+
+    expect("boc_capture",
+           boc_capture(empty, empty_len, pdu, sizeof pdu, bits, archive, sizeof archive, &archive_len), BOC_OK);
+    expect("boc_capture, no archive", boc_capture(none, 0, pdu, sizeof pdu, bits, out, sizeof out, &n), BOC_ARCHIVE);
+    expect("boc_capture, no bytes", boc_capture(empty, empty_len, none, 0, 0, out, sizeof out, &n), BOC_SHORT);
+    expect("boc_capture, no buffer", boc_capture(empty, empty_len, pdu, sizeof pdu, bits, none, 0, &n), BOC_ROOM);
+
+    expect("boc_restore, no archive", boc_restore(none, 0, HOME, USER, BOC_IDENTITY_PART, out, sizeof out, &n),
+           BOC_ARCHIVE);
+    expect("boc_restore, no buffer", boc_restore(archive, archive_len, HOME, USER, BOC_IDENTITY_PART, none, 0, &n),
+           BOC_ROOM);
+
+    expect("boc_decide, no archive", boc_decide(none, 0, request, BOC_REQUEST_WORDS, &decision), BOC_ARCHIVE);
+    expect("boc_decide, no words", boc_decide(archive, archive_len, none, 0, &decision), BOC_RANGE);
+
+    expect("boc_contents, no archive", boc_contents(none, 0, out, sizeof out, &n), BOC_ARCHIVE);
+    expect("boc_contents, no buffer", boc_contents(archive, archive_len, none, 0, &n), BOC_ROOM);
+}
+
+int main(void)
+{
+    void *closed = mmap(NULL, 1 << 12, PROT_NONE, MAP_PRIVATE | MAP_ANONYMOUS, -1, 0);
+
+    if (closed == MAP_FAILED)
+        return 1;
+    lend(NULL);
+    lend(closed);
+    return failed;
+}
