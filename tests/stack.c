@@ -159,7 +159,7 @@ static void spoil(uint8_t *bytes, size_t end)
         bytes[i / 8] |= (uint8_t)(0x80 >> i % 8);
 }
 
-/* Writes the record, with each answer of writing, and leaves its PDU in `pdu`. */
+/* Writes the record, accepted and refused, and leaves its PDU in `pdu`. */
 static void write_each_way(const struct kind *kind)
 {
     uint32_t last = record[kind->last];
@@ -189,7 +189,7 @@ static void read_and_capture(uint32_t read, uint32_t captured)
     expect(CAPTURE, captured);
 }
 
-/* Reads and captures the PDU, with each answer that there is for it; `captured` is that for the PDU as it is. */
+/* Reads and captures the PDU as it is, which capture answers so; spoilt; with a bit more; and with a bit less. */
 static void read_each_way(const struct kind *kind, uint32_t captured)
 {
     uint8_t whole[sizeof pdu];

@@ -1,6 +1,6 @@
-//! TETRA "barring of outgoing calls" (BOC) in safe Rust, written from the scope (document 01) and the codes of
-//! the standard that it names (EN 300 392-12-18), not from the library's code. Records and requests are the
-//! words that `include/boc.h` lists.
+//! TETRA "barring of outgoing calls" (BOC) in safe Rust, written from the scope (document 01) and the codes
+//! of the standard that it names (EN 300 392-12-18), not from the library's code. Records and requests are
+//! the words that `include/boc.h` lists.
 //!
 //! It is the test oracle of the library's C boundary and the speed anchor of its benchmarks, so each
 //! call has the shape of its C twin: slices in, a lent slice out, a refusal or a value as the answer.
