@@ -6,13 +6,14 @@ use Prim.Native.Nat.{ℕ, zero, suc, _+_, _-_, _≤_, _<_}
 use native.Mathlib.Omega.{arith}
 use native.Mathlib.Nat.{not-suc-le-zero}
 use lib.ListN.{length}
-use lib.Dec.{ltb, leb, eqb}
-use borrow.Author.Tests.{leb-true, ltb-true, eqb-true, lt-ltb, le-ltb, ne-eqb}
+use lib.Dec.{ltb, eqb}
+use borrow.Author.Tests.{eqb-true, lt-ltb, le-ltb, ne-eqb}
 use Rattle.bits.specs.Bits.{Bytes}
 use Rattle.bits.proofs.Tests.{and-false, both}
 use Rattle.archive.specs.Model.{Held, keyOf, headerWidth, entryWidth, sizes, withinLimits}
 use Rattle.archive.specs.Filing.{bodyAgrees, keepsRules, wellFormed}
 use Rattle.archive.specs.Reading.{number3, countOf, sizeAt, heldAt, heldFrom, bodiesAt, heldIn, reading, isArchive}
+use Rattle.archive.proofs.Rules.{archive-formed}
 use Rattle.archive.proofs.Walks.{number3-small, heldFrom-next, length-heldFrom, sizes-next}
 
 -- ---- entry by entry
@@ -101,11 +102,9 @@ module _ (b : List ℕ) where
     pub whole : total ≡ length b
 
   pub sound : isArchive b ≡ true → Sound
+  unfolding reading
   sound p =
-      let q = both (kept total) (eqb total (length b)) (sym shape ∙ p) in
-      let r = both (ltb (number3 b 0) 16777216) (withinLimits (countOf b) total && keepsRules (number3 b 0) 0 (heldIn b)) (q .0) in
-      let s = both (withinLimits (countOf b) total) (keepsRules (number3 b 0) 0 (heldIn b)) (r .1) in
-      let t = both (leb (countOf b) 512) (leb total 65536) (s .0) in
-      let w : total ≡ length b = eqb-true total (length b) (q .1) in
-      let l : total ≤ 65536 = leb-true total 65536 (t .1) in
-      record { home = ltb-true _ _ (r .0); few = leb-true _ _ (t .0); small = omega arith; rules = s .1; whole = w }
+      let f = archive-formed b p in
+      let n = length-heldFrom b (countOf b) headerWidth (bodiesAt b) in
+      let w : total ≡ length b = eqb-true total (length b) (both (kept total) (eqb total (length b)) (sym shape ∙ p) .1) in
+      record { home = f .home; few = omega (arith, f .few, n); small = omega (arith, f .small, n); rules = f .rules; whole = w }

@@ -8,18 +8,17 @@ use lib.ListN.{length}
 use lib.Dec.{ltb, leb, eqb}
 use borrow.Author.Tests.{leb-true, leb-false, eqb-true, eqb-false, le-leb, lt-leb, le-ltb, lt-ltb}
 use Rattle.bits.specs.Bits.{pick}
-use Rattle.bits.proofs.Tests.{both}
 use Rattle.reader.specs.Read.{readIs}
 use Rattle.reader.specs.declared.Answer.the-variants as reader
 use Rattle.judging.specs.Judge.{mayHold}
 use Rattle.archive.specs.Model.{Held, keyOf, Rising, no-key, next-key, headerWidth, lengthOf}
-use Rattle.archive.specs.Filing.{keepsRules, wellFormed}
+use Rattle.archive.specs.Filing.{keepsRules}
 use Rattle.archive.specs.Reading.{countOf, bodiesAt, heldIn, reading, isArchive, Counted}
 use Rattle.archive.specs.Keeping.{put, heldFor, captured, placed, captureIs}
 use Rattle.archive.specs.Restoring.{lookup}
 use Rattle.archive.specs.declared.Archived.{Archived}
 use Rattle.archive.specs.declared.Archived.the-variants.{Bytes, Refused}
-use Rattle.archive.proofs.Rules.{kept, formed}
+use Rattle.archive.proofs.Rules.{kept, archive-formed}
 use Rattle.archive.proofs.Walks.{length-heldFrom}
 use Rattle.archive.proofs.Checks.{sound}
 use Rattle.archive.proofs.Capturing.{as-placed}
@@ -70,10 +69,10 @@ either false false false x y = refl
 pub eight : (b s : List ℕ) (n room : ℕ) → isArchive b ≡ true → readIs s n .answer ≡ reader.Accepted → mayHold (readIs s n .found) ≡ true
     → captureIs b s n room
     ≡ pick (fullFor b (heldFor (reading b .home) s n) || (ltb 65536 (lengthOf (captured b s n)) || ltb room (lengthOf (captured b s n)))) (Refused 8) (Bytes (lengthOf (captured b s n)))
-unfolding placed captured isArchive
+unfolding placed captured
 eight b s n room ok a m =
     let h = heldFor (reading b .home) s n in
-    let f = formed (reading b) (both (wellFormed (reading b)) (eqb (lengthOf (reading b)) (length b)) ok .0) in
+    let f = archive-formed b ok in
     let size = lengthOf (captured b s n) in
     let c : leb (length (put h (reading b .held))) 512 ≡ not (fullFor b h) =
     ap (λ (k : ℕ). leb k 512) (length-put (reading b .home) 0 h (reading b .held) (f .rules)) ∙ one-too-many (length (reading b .held)) (isNone (lookup (keyOf h) (reading b .held))) (f .few)

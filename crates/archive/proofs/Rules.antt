@@ -4,11 +4,12 @@ use mathlib.Core.Bool.{true, _&&_}
 use mathlib.Core.List.{List, [], _∷_}
 use Prim.Native.Nat.{ℕ, _≤_, _<_}
 use lib.ListN.{length}
-use lib.Dec.{ltb, leb}
+use lib.Dec.{ltb, leb, eqb}
 use borrow.Author.Tests.{ltb-true, leb-true, lt-ltb, le-leb}
 use Rattle.bits.proofs.Tests.{both, both⁻¹}
 use Rattle.archive.specs.Model.{Held, Archive, keyOf, lengthOf, withinLimits}
 use Rattle.archive.specs.Filing.{bodyAgrees, keepsRules, wellFormed}
+use Rattle.archive.specs.Reading.{reading, isArchive}
 use Rattle.archive.proofs.Bodies.{agrees-says, Fits, fits}
 
 pub data AllFit : List Held → Type 0 where
@@ -52,6 +53,11 @@ formed a e =
     let q = both (withinLimits (length (a .held)) (lengthOf a)) (keepsRules (a .home) 0 (a .held)) (p .1) in
     let t = both (leb (length (a .held)) 512) (leb (lengthOf a) 65536) (q .0) in
     record { home = ltb-true _ _ (p .0); few = leb-true _ _ (t .0); small = leb-true _ _ (t .1); rules = q .1 }
+
+-- the rules of an archive's bytes
+pub archive-formed : (b : List ℕ) → isArchive b ≡ true → Formed (reading b)
+unfolding isArchive
+archive-formed b ok = formed (reading b) (both (wellFormed (reading b)) (eqb (lengthOf (reading b)) (length b)) ok .0)
 
 pub is-formed : (a : Archive) → Formed a → wellFormed a ≡ true
 unfolding wellFormed

@@ -5,21 +5,20 @@ use mathlib.Core.List.{List, [], _∷_}
 use Prim.Native.Nat.{ℕ, _*_, _≤_, _<_}
 use native.Mathlib.Omega.{arith}
 use lib.ListN.{length, length-append}
-use lib.Dec.{leb, eqb}
+use lib.Dec.{leb}
 use borrow.Author.Tests.{le-leb}
 use Rattle.bits.specs.Bits.{pick}
-use Rattle.bits.proofs.Tests.{both}
 use Rattle.reader.specs.Read.{readIs}
 use Rattle.pdu.proofs.Accepted.{accepted-framed}
-use Rattle.archive.specs.Model.{Held, keyOf, lengthOf}
-use Rattle.archive.specs.Filing.{keepsRules, wellFormed}
+use Rattle.archive.specs.Model.{Held, keyOf}
+use Rattle.archive.specs.Filing.{keepsRules}
 use Rattle.archive.specs.Reading.{reading, isArchive}
 use Rattle.archive.specs.Listing.{firstLine, line, lines, listing, listIs}
 use Rattle.archive.specs.declared.contents.Entry.{Entry}
 use Rattle.archive.specs.declared.listing.Listed.{Listed}
 use Rattle.archive.specs.declared.listing.Listed.the-variants.{Bytes, Refused}
 use Rattle.archive.proofs.Bodies.{Agrees, agrees-says, part-is, fits}
-use Rattle.archive.proofs.Rules.{kept, formed}
+use Rattle.archive.proofs.Rules.{kept, archive-formed}
 use Rattle.archive.proofs.Decimal.{within}
 use Rattle.archive.proofs.Lines.{length-line, length-first}
 
@@ -45,10 +44,10 @@ lines-size home last (h ∷ hs) k e =
     omega (arith, length-append (line (h .entry)) (lines hs), l, rest)
 
 pub listing-size : (b : List ℕ) → isArchive b ≡ true → length (listing (reading b)) ≤ 17946
-unfolding isArchive listing
+unfolding listing
 listing-size b ok =
     let a = reading b in
-    let f = formed a (both (wellFormed a) (eqb (lengthOf a) (length b)) ok .0) in
+    let f = archive-formed b ok in
     let home : a .home < 100000000 = omega (arith, f .home) in
     let count : length (a .held) < 1000 = omega (arith, f .few) in
     let first = length-first (a .home) (length (a .held)) in
