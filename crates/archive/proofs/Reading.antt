@@ -3,6 +3,7 @@ use mathlib.Core.Path.{_≡_, refl, sym, ap, _∙_}
 use mathlib.Core.Bool.{true}
 use mathlib.Core.List.{List, [], _∷_, _++_}
 use Prim.Native.Nat.{ℕ, zero, suc, _+_, _*_, _/_, _%_, _≤_, _<_}
+use native.Mathlib.Nat.{add-assoc}
 use native.Mathlib.Omega.{arith}
 use lib.ListN.{length, getD, take, drop, length-drop, take-append-drop}
 use lib.Seq.{drop-cons, drop-drop, take-add, take-all}
@@ -40,9 +41,6 @@ bytes-from b at (suc n) k h =
     ap (λ (l : List ℕ). getD b (at + k) 0 ∷ l) (bytes-from b at n (suc k) (omega arith) ∙ ap (λ (j : ℕ). take n (drop j b)) e)
     ∙ sym (ap (take (suc n)) (drop-cons b (at + k) 0 (omega arith)))
 
-pub plus : (a x y : ℕ) → a + x + y ≡ a + (x + y)
-plus a x y = omega arith
-
 -- ---- what passes is written as it was read
 
 entry-read : (b : List ℕ) (at : ℕ) → Bytes b → at + entryWidth ≤ length b → entryBytes (entryAt b at) ≡ take entryWidth (drop at b)
@@ -53,7 +51,7 @@ entry-read b at y h =
     let n₂ = bytes3-number {x = getD b (at + 3) 0} (y (at + 3 + 1)) (y (at + 3 + 2)) in
     let n₃ = bytes2-number {x = getD b (at + 7) 0} (y (at + 7 + 1)) in
     let r : entryBytes (entryAt b at) ≡ bytesFrom b at 0 entryWidth =
-    (λ i. n₁ i ++ (n₂ i ++ (getD b (at + 6) 0 ∷ n₃ i))) ∙ rw (z, plus at 3 1, plus at 3 2, plus at 7 1)
+    (λ i. n₁ i ++ (n₂ i ++ (getD b (at + 6) 0 ∷ n₃ i))) ∙ rw (z, add-assoc at 3 1, add-assoc at 3 2, add-assoc at 7 1)
     in
     r ∙ bytes-from b at entryWidth 0 (omega arith) ∙ ap (λ (j : ℕ). take entryWidth (drop j b)) z
 

@@ -3,6 +3,7 @@ use mathlib.Core.Path.{_≡_, refl, sym, ap, _∙_}
 use mathlib.Core.Bool.{true}
 use mathlib.Core.List.{List, [], _∷_, _++_, append-assoc}
 use Prim.Native.Nat.{ℕ, _+_, _*_, _/_}
+use native.Mathlib.Nat.{add-assoc}
 use native.Mathlib.Omega.{arith}
 use lib.ListN.{length, getD, take, drop, length-append}
 use lib.Seq.{take-at, drop-at, getD-append-add}
@@ -15,7 +16,7 @@ use Rattle.archive.specs.Reading.{number2, number3, countOf, sizeAt, hel
 use Rattle.archive.specs.declared.contents.Entry.{Entry}
 use Rattle.archive.proofs.Bodies.{Fits}
 use Rattle.archive.proofs.Rules.{AllFit, and-fit, all-fit, formed}
-use Rattle.archive.proofs.Reading.{plus, written-as-read}
+use Rattle.archive.proofs.Reading.{written-as-read}
 
 -- the byte at k after a front that ends at `at`
 seam : (b p q : List ℕ) (at k : ℕ) → b ≡ p ++ q → length p ≡ at → getD b (at + k) 0 ≡ getD q k 0
@@ -34,10 +35,10 @@ held-back b h at off p q p′ q′ f e l e′ l′ =
     let z : at ≡ at + 0 = omega arith in
     let g₀ : getD b at 0 ≡ x .network / 65536 = ap (λ (j : ℕ). getD b j 0) z ∙ g 0 in
     let n : number3 b at ≡ x .network = omega (arith, g₀, g 1, g 2, f .entry .network) in
-    let s₁ : getD b (at + 3 + 1) 0 ≡ getD (entryBytes x ++ q) 4 0 = ap (λ (j : ℕ). getD b j 0) (plus at 3 1) ∙ g 4 in
-    let s₂ : getD b (at + 3 + 2) 0 ≡ getD (entryBytes x ++ q) 5 0 = ap (λ (j : ℕ). getD b j 0) (plus at 3 2) ∙ g 5 in
+    let s₁ : getD b (at + 3 + 1) 0 ≡ getD (entryBytes x ++ q) 4 0 = ap (λ (j : ℕ). getD b j 0) (add-assoc at 3 1) ∙ g 4 in
+    let s₂ : getD b (at + 3 + 2) 0 ≡ getD (entryBytes x ++ q) 5 0 = ap (λ (j : ℕ). getD b j 0) (add-assoc at 3 2) ∙ g 5 in
     let s : number3 b (at + 3) ≡ x .ssi = omega (arith, g 3, s₁, s₂, f .entry .ssi) in
-    let t₁ : getD b (at + 7 + 1) 0 ≡ getD (entryBytes x ++ q) 8 0 = ap (λ (j : ℕ). getD b j 0) (plus at 7 1) ∙ g 8 in
+    let t₁ : getD b (at + 7 + 1) 0 ≡ getD (entryBytes x ++ q) 8 0 = ap (λ (j : ℕ). getD b j 0) (add-assoc at 7 1) ∙ g 8 in
     let t : number2 b (at + 7) ≡ x .bits .0 = omega (arith, g 7, t₁, f .entry .bits) in
     let d : take (sizeAt b at) (drop off b) ≡ h .body =
     ap (λ (j : ℕ). take ((j + 7) / 8) (drop off b)) t ∙ part-of b p′ (h .body) q′ off (bodySize h) e′ l′ (f .full)
