@@ -5,9 +5,10 @@ use Prim.Native.Nat.{ℕ, zero, suc, _+_, _-_, _≤_, _<_}
 use native.Mathlib.Omega.{arith}
 use native.Mathlib.Nat.{le-of-suc-le-suc, not-suc-le-zero, zero-add, add-sub-cancel-left}
 use native.Mathlib.Numerals.{add-one}
-use lib.ListN.{length, getD, take, drop, set, length-append, length-take, length-drop, drop-of-length-le}
+use lib.ListN.{length, getD, take, drop, set, length-append, drop-of-length-le}
 use lib.Seq.{take-all, drop-drop}
 use Rattle.bits.specs.Laying.{Laid}
+use Rattle.bits.proofs.Lists.{length-part}
 use Rattle.archive.specs.Model.{headerWidth, entryWidth, headerBytes, entryBytes}
 use Rattle.archive.specs.Keeping.{over}
 use Rattle.archive.specs.Seeking.{nextAt, restAt, Within, frontOf, backOf, spliced, splicedLength}
@@ -31,9 +32,6 @@ copied-all src dst i h k = rw (take-all i src h, drop-of-length-le dst k) (appen
 -- what a part that is lent on leaves, where the writer left s in it
 pub lent : (out s : List ℕ) (at : ℕ) {s′ : List ℕ} → s′ ≡ s → Laid out at s (take at out ++ (s′ ++ drop (at + length s - at) (drop at out))) (at + length s)
 lent out s at e = record { ends = refl; same = rw (e, add-sub-cancel-left, drop-drop) }
-
-pub length-part : (b : List ℕ) (at n : ℕ) → at + n ≤ length b → length (take n (drop at b)) ≡ n
-length-part b at n h = simp (length-take, length-drop) (omega arith)
 
 pub length-front : (b : List ℕ) (at count : ℕ) (e : Entry) → headerWidth ≤ at → at ≤ length b → length (frontOf b at count e) ≡ at + entryWidth
 unfolding frontOf headerBytes entryBytes

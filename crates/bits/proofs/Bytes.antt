@@ -14,6 +14,9 @@ unfolding bits
 length-bits [] = refl
 length-bits (b ∷ s) = omega (arith, length-append (bitsOf 8 b) (bits s), length-bitsOf 8 b, length-bits s)
 
+pub length-bits-take : (n : ℕ) (s : List ℕ) → n ≤ length s → length (bits (take n s)) ≡ 8 * n
+length-bits-take n s h = omega (arith, length-bits (take n s), length-take-le n s h)
+
 pub bits-append : (s t : List ℕ) → bits (s ++ t) ≡ bits s ++ bits t
 unfolding bits
 bits-append [] t = refl
@@ -29,12 +32,12 @@ bits-split s q h = ap bits (split-at s q 0 h) ∙ bits-append (take q s) (getD s
 pub bits-drop : (q : ℕ) (s : List ℕ) → q ≤ length s → drop (8 * q) (bits s) ≡ bits (drop q s)
 bits-drop q s h =
     ap (drop (8 * q)) (ap bits (sym (take-append-drop q s)) ∙ bits-append (take q s) (drop q s))
-    ∙ drop-at (bits (take q s)) (bits (drop q s)) (8 * q) (omega (arith, length-bits (take q s), length-take-le q s h))
+    ∙ drop-at (bits (take q s)) (bits (drop q s)) (8 * q) (length-bits-take q s h)
 
 pub bits-take : (n : ℕ) (s : List ℕ) → n ≤ length s → take (8 * n) (bits s) ≡ bits (take n s)
 bits-take n s h =
     ap (take (8 * n)) (ap bits (sym (take-append-drop n s)) ∙ bits-append (take n s) (drop n s))
-    ∙ take-at (bits (take n s)) (bits (drop n s)) (8 * n) (omega (arith, length-bits (take n s), length-take-le n s h))
+    ∙ take-at (bits (take n s)) (bits (drop n s)) (8 * n) (length-bits-take n s h)
 
 -- to store a byte is to splice its bits
 pub bits-set : (s : List ℕ) (q x : ℕ) → q < length s → bits (set s q x) ≡ splice (bits s) (8 * q) (bitsOf 8 x)

@@ -1,11 +1,16 @@
--- A count beyond the entries that there are takes them all, and leaves none. Assumes nothing.
+-- How long a part of a list is; a count beyond the entries that there are takes them all, and leaves none. Assumes nothing.
 use mathlib.Core.Path.{_≡_, ap}
 use mathlib.Core.List.{List, [], _∷_}
-use Prim.Native.Nat.{ℕ, zero, suc, min}
+use Prim.Native.Nat.{ℕ, zero, suc, _+_, min, _≤_}
 use native.Mathlib.Nat.{zero-min, min-zero, suc-min-suc}
-use lib.ListN.{length, take, drop}
+use native.Mathlib.Omega.{arith}
+use lib.ListN.{length, take, drop, length-drop}
+use lib.Seq.{length-take-le}
 
 module _ {A : Type 0} where
+  pub length-part : (l : List A) (at n : ℕ) → at + n ≤ length l → length (take n (drop at l)) ≡ n
+  length-part l at n h = length-take-le n (drop at l) (omega (arith, length-drop at l))
+
   pub take-min : (n : ℕ) (l : List A) → take (min n (length l)) l ≡ take n l
   take-min zero l = rw zero-min
   take-min (suc n) [] = rw min-zero

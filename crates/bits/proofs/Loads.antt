@@ -7,10 +7,10 @@ use native.Mathlib.Nat.{mod-eq-of-lt}
 use native.Mathlib.Omega.{arith}
 use native.Mathlib.Numerals.{add-one}
 use lib.ListN.{length, getD, take, drop, length-drop}
-use lib.Seq.{getD-drop, take-suc, take-add, drop-drop, length-take-le}
+use lib.Seq.{getD-drop, take-suc, take-add, drop-drop}
 use Rattle.bits.specs.Bits.{value, bitsOf, bits}
 use Rattle.bits.proofs.Numbers.{length-bitsOf, value-append, value-bitsOf}
-use Rattle.bits.proofs.Bytes.{length-bits, bits-append}
+use Rattle.bits.proofs.Bytes.{bits-append, length-bits-take}
 
 -- one more byte
 value-byte : (t : List ℕ) (i : ℕ) → i < length t → getD t i 0 < 256
@@ -48,7 +48,7 @@ module _ (s : List ℕ) (from : ℕ) where
       let t : List ℕ = drop from s in
       let late : List ℕ = take 4 (drop 4 t) in
       let size : length (bits late) ≡ 32 =
-      length-bits late ∙ ap (λ (n : ℕ). 8 * n) (length-take-le 4 (drop 4 t) (omega (arith, length-drop 4 t, length-drop from s))) in
+      length-bits-take 4 (drop 4 t) (omega (arith, length-drop 4 t, length-drop from s)) in
       ap (λ (x : List ℕ). value (bits x)) (take-add 4 4 t)
       ∙ ap value (bits-append (take 4 t) late)
       ∙ value-append (bits (take 4 t)) (bits late)

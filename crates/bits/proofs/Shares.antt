@@ -5,10 +5,10 @@ use mathlib.Core.Bool.{Bool}
 use Prim.Native.Nat.{ℕ, suc, _+_, _*_, _/_, _^_, _<_}
 use native.Mathlib.Omega.{arith}
 use lib.ListN.{length, getD, take, drop, length-append}
-use lib.Seq.{take-at, drop-at, length-take-le}
+use lib.Seq.{take-at, drop-at}
 use Rattle.bits.specs.Bits.{bitsOf, bits}
 use Rattle.bits.proofs.Numbers.{length-bitsOf, bitsOf-three}
-use Rattle.bits.proofs.Bytes.{length-bits, bits-split}
+use Rattle.bits.proofs.Bytes.{bits-split, length-bits-take}
 
 pub read-within : (s : List ℕ) (q r n k : ℕ) → q < length s → r + (n + k) ≡ 8 → take n (drop (8 * q + r) (bits s)) ≡ bitsOf n (getD s q 0 / 2 ^ k)
 read-within s q r n k inside byte =
@@ -24,5 +24,5 @@ read-within s q r n k inside byte =
     ∙ simp append-assoc in
     ap (λ (l : List Bool). take n (drop (8 * q + r) l)) layout
     ∙ ap (take n) (drop-at (front ++ high) (own ++ rest) (8 * q + r)
-    (omega (arith, length-append front high, length-bits (take q s), length-bitsOf r (b / 2 ^ (n + k)), length-take-le q s (omega arith))))
+    (omega (arith, length-append front high, length-bits-take q s (omega arith), length-bitsOf r (b / 2 ^ (n + k)))))
     ∙ take-at own rest n (length-bitsOf n (b / 2 ^ k))

@@ -6,12 +6,12 @@ use Prim.Native.Nat.{ℕ, _+_, _-_, _*_, _/_, _%_, _^_, _≤_, _<_}
 use native.Mathlib.Nat.{add-assoc, add-comm, add-mul, mul-assoc, mod-lt}
 use native.Mathlib.Omega.{arith}
 use lib.ListN.{length, take, drop, set, length-append, length-drop, take-append-drop}
-use lib.Seq.{take-at, length-take-le, take-append-le, drop-append-le}
+use lib.Seq.{take-at, take-append-le, drop-append-le}
 use lib.Arith.{digits-lt}
 use lib.Pow.{pow-pos, pow-add, shr-lt, shr-shr, split}
 use Rattle.bits.specs.Bits.{value, bitsOf, bits, splice}
 use Rattle.bits.proofs.Numbers.{length-bitsOf, bitsOf-three, bitsOf-add, bitsOf-mod, bitsOf-parts, bits-of-value}
-use Rattle.bits.proofs.Bytes.{length-bits, bits-append, bits-take, bits-set}
+use Rattle.bits.proofs.Bytes.{length-bits, bits-append, bits-take, bits-set, length-bits-take}
 use Rattle.bits.proofs.Splices.{splice-at, length-splice, splice-splice}
 
 -- ---- one part of a number after the other
@@ -102,14 +102,14 @@ splice-eight s q r n k f inside size lt =
     let own : List Bool = bits (take 8 t) in
     let x : ℕ = value own in
     let eight : length own ≡ r + (n + k) =
-    length-bits (take 8 t) ∙ ap (λ (m : ℕ). 8 * m) (length-take-le 8 t (omega (arith, length-drop q s))) ∙ sym size in
+    length-bits-take 8 t (omega (arith, length-drop q s)) ∙ sym size in
     let layout : bits s ≡ bits (take q s) ++ (bitsOf (r + (n + k)) x ++ bits (drop 8 t)) =
     ap bits (sym (take-append-drop q s)) ∙ bits-append (take q s) t
     ∙ ap (λ (l : List Bool). bits (take q s) ++ l)
     (ap bits (sym (take-append-drop 8 t)) ∙ bits-append (take 8 t) (drop 8 t)
     ∙ ap (λ (l : List Bool). l ++ bits (drop 8 t)) (sym (bits-of-value own) ∙ ap (λ (m : ℕ). bitsOf m x) eight)) in
     ap₂ (λ (l : List Bool) (m : ℕ). splice l (8 * q) (bitsOf m (within x n k f))) layout (sym size)
-    ∙ splice-within x r n k f lt (bits (take q s)) (bits (drop 8 t)) (8 * q) (length-bits (take q s) ∙ ap (λ (m : ℕ). 8 * m) (length-take-le q s (omega arith)))
+    ∙ splice-within x r n k f lt (bits (take q s)) (bits (drop 8 t)) (8 * q) (length-bits-take q s (omega arith))
     ∙ ap (λ (l : List Bool). splice l (8 * q + r) (bitsOf n f)) (sym layout)
 
 -- ---- fewer

@@ -13,7 +13,7 @@ use borrow.Author.Tests.{leb-true, leb-false}
 use Rattle.bits.specs.Bits.{value, bitsOf, bits}
 use Rattle.bits.specs.Element.{windowAt}
 use Rattle.bits.proofs.Numbers.{value-append, value-lt, value-take-fits}
-use Rattle.bits.proofs.Bytes.{length-bits, bits-append, bits-take, bits-drop, take-before}
+use Rattle.bits.proofs.Bytes.{length-bits, bits-append, bits-take, bits-drop, take-before, length-bits-take}
 
 -- the middle of a run, by a division and a remainder
 value-middle : (a b c : List Bool) (w k : ℕ) → length b ≡ w → length c ≡ k → value ((a ++ b) ++ c) / 2 ^ k % 2 ^ w ≡ value b
@@ -124,7 +124,7 @@ module _ (s : List ℕ) (first into : ℕ) (inside : first + 8 ≤ length s) (h 
   eight = bits (take 8 (drop first s))
 
   length-eight : length eight ≡ 64
-  length-eight = length-bits (take 8 (drop first s)) ∙ ap (λ (n : ℕ). 8 * n) (length-take-le 8 (drop first s) (omega (arith, length-drop first s)))
+  length-eight = length-bits-take 8 (drop first s) (omega (arith, length-drop first s))
 
   shifted : value eight * 2 ^ into % 2 ^ 64 / 2 ^ 7 ≡ value (take 57 (drop into eight ++ replicate 57 false))
   shifted =

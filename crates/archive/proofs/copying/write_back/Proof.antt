@@ -5,9 +5,9 @@ use native.Mathlib.Omega.{arith}
 use borrow.Author.Needs.{needs}
 use denote.Ref.{now}
 use lib.ListN.{length, take, drop}
+use Rattle.bits.proofs.Lists.{length-part}
 use Rattle.bits.proofs.Laying.{then}
 use Rattle.archive.specs.Seeking.{nextAt, backOf}
-use Rattle.archive.proofs.Laying.{length-part}
 use Rattle.archive.proofs.copying.write_back.Statement.{statement}
 use Rattle.archive.proofs.copying.write_back.Tie as tie
 
