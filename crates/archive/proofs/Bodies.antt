@@ -8,7 +8,7 @@ use lib.ListN.{length}
 use lib.Dec.{leb, eqb}
 use borrow.Author.Tests.{leb-true}
 use Rattle.bits.specs.Bits.{pick}
-use Rattle.bits.proofs.Tests.{differ, both}
+use Rattle.bits.proofs.Tests.{differ, never, both, picked, by-test}
 use Rattle.grammar.specs.declared.record.Identity.{Identity}
 use Rattle.grammar.specs.declared.record.Record.{Record}
 use Rattle.grammar.specs.Grammar.{networkOf}
@@ -39,23 +39,19 @@ module _ (home : ℕ) (s : List ℕ) (n : ℕ) where
     where
       go : (a b : Bool) → pick (a && b) (Part (userOf found) (found .result)) Other ≡ Other
           → pick a (pick b (Under (entryFor home found n)) Nowhere) Nowhere ≡ Nowhere
-      go true true e = absurd (let z : _≡_ {A = ℕ} 0 1 = cc in omega arith)
+      go true true e = never cc
       go true false e = refl
       go false b e = refl
 
   pub filing-part : {user : Identity} {part network : ℕ} → judgedIs s n ≡ Part user part → network ≡ networkOf home user
       → filingFor home s n ≡ Under (record { network = network; ssi = user .ssi; part = part; bits = record { 0 = n } })
   unfolding filingFor filingOf judgedIs
-  filing-part {user} {part} {network} e f = go (isAccepted (readIs s n .answer)) (mayHold found) e
-    where
-      go : (a b : Bool) → pick (a && b) (Part (userOf found) (found .result)) Other ≡ Part user part
-          → pick a (pick b (Under (entryFor home found n)) Nowhere) Nowhere ≡ Under (record { network = network; ssi = user .ssi; part = part; bits = record { 0 = n } })
-      go true true e =
-          let u : userOf found ≡ user = cc in
-          let p : found .result ≡ part = cc in
-          rw (u, p, f)
-      go true false e = absurd (let z : _≡_ {A = ℕ} 0 1 = cc in omega arith)
-      go false b e = absurd (let z : _≡_ {A = ℕ} 0 1 = cc in omega arith)
+  filing-part {user} {part} e f =
+      let k = picked (isAccepted (readIs s n .answer) && mayHold found) e (λ x. never cc) in
+      let q = both (isAccepted (readIs s n .answer)) (mayHold found) (k .0) in
+      let u : userOf found ≡ user = let x = k .1 in cc in
+      let p : found .result ≡ part = let x = k .1 in cc in
+      rw (q .0, q .1, u, p, f)
 
 -- a body agrees with its entry if that is the one it is filed under
 pub body-filed : (home : ℕ) (h : Held) → bodyAgrees home h ≡ agrees (filingFor home (h .body) (h .entry .bits .0)) (h .entry)
@@ -122,11 +118,7 @@ pub record Fits (h : Held) : Type 0 where
 
 network-small : (home : ℕ) (u : Identity) → home < 16777216 → u .extension < 16777216 → networkOf home u < 16777216
 unfolding networkOf
-network-small home u h k = go (eqb (u .present) 1)
-  where
-    go : (p : Bool) → pick p (u .extension) home < 16777216
-    go true = k
-    go false = h
+network-small home u h k = by-test (λ (x : ℕ). x < 16777216) (eqb (u .present) 1) k h
 
 pub fits : (home : ℕ) (h : Held) → home < 16777216 → Agrees home h → Fits h
 fits home h k a =

@@ -6,7 +6,7 @@ use Prim.Native.Nat.{ℕ, _<_, _≤_}
 use native.Mathlib.Omega.{arith}
 use lib.ListN.{length}
 use Rattle.bits.specs.Bits.{pick}
-use Rattle.bits.proofs.Tests.{and-false, both⁻¹}
+use Rattle.bits.proofs.Tests.{never, and-false, both⁻¹, picked}
 use Rattle.reader.specs.Read.{readIs}
 use Rattle.reader.specs.declared.Answer.{Answer}
 use Rattle.reader.specs.declared.Answer.the-variants as reader
@@ -40,14 +40,10 @@ home-fits b ok = sound b ok .home
 pub filed-under : (home : ℕ) (s : List ℕ) (n : ℕ) {e : Entry} → filingFor home s n ≡ Under e
     → (readIs s n .answer ≡ reader.Accepted) × (mayHold (readIs s n .found) ≡ true) × (entryFor home (readIs s n .found) n ≡ e)
 unfolding filingFor filingOf
-filed-under home s n {e} f = go (isAccepted (readIs s n .answer)) refl (mayHold (readIs s n .found)) refl f
-  where
-    go : (a : Bool) → isAccepted (readIs s n .answer) ≡ a → (m : Bool) → mayHold (readIs s n .found) ≡ m
-        → pick a (pick m (Under (entryFor home (readIs s n .found) n)) Nowhere) Nowhere ≡ Under e
-        → (readIs s n .answer ≡ reader.Accepted) × (mayHold (readIs s n .found) ≡ true) × (entryFor home (readIs s n .found) n ≡ e)
-    go true x true y f = (was-accepted (readIs s n .answer) x, y, cc)
-    go true x false y f = absurd (let z : _≡_ {A = ℕ} 0 1 = cc in omega arith)
-    go false x m y f = absurd (let z : _≡_ {A = ℕ} 0 1 = cc in omega arith)
+filed-under home s n f =
+    let a = picked (isAccepted (readIs s n .answer)) f (λ x. never cc) in
+    let m = picked (mayHold (readIs s n .found)) (a .1) (λ x. never cc) in
+    (was-accepted (readIs s n .answer) (a .0), m .0, let x = m .1 in cc)
 
 -- a PDU that is filed agrees with its entry
 pub offered-agrees : (home : ℕ) (s : List ℕ) (n : ℕ) → readIs s n .answer ≡ reader.Accepted → mayHold (readIs s n .found) ≡ true → Agrees home (heldFor home s n)
@@ -66,7 +62,7 @@ module _ (b s : List ℕ) (n room : ℕ) where
     where
       go : (a : Answer) (m : Bool) → pick (isAccepted a) (pick m (Under (entryFor home (readIs s n .found) n)) Nowhere) Nowhere ≡ Nowhere
           → ifAccepted a (pick m (placed (captured b s n) room) (Refused 6)) ≡ Refused (unfitNumber a)
-      go reader.Accepted true f = absurd (let z : _≡_ {A = ℕ} 0 1 = cc in omega arith)
+      go reader.Accepted true f = never cc
       go reader.Accepted false f = refl
       go (reader.Refused k) m f = refl
 

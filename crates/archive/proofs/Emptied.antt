@@ -1,6 +1,6 @@
 -- The empty archive: what `empty` was given where it wrote, and what it wrote. Assumes nothing.
 use mathlib.Core.Path.{_≡_, refl, sym, ap, _∙_}
-use mathlib.Core.Bool.{Bool, true, false}
+use mathlib.Core.Bool.{true}
 use mathlib.Core.List.{List}
 use Prim.Native.Nat.{ℕ}
 use native.Mathlib.Omega.{arith}
@@ -8,13 +8,13 @@ use lib.ListN.{length, take, drop}
 use lib.Seq.{take-at}
 use lib.Dec.{ltb, leb}
 use borrow.Author.Tests.{ltb-true}
-use Rattle.bits.specs.Bits.{pick}
+use Rattle.bits.proofs.Tests.{never, picked}
 use Rattle.archive.specs.Model.{headerWidth, bytesOf}
 use Rattle.archive.specs.Filing.{keepsRules, wellFormed}
 use Rattle.archive.specs.Reading.{reading, isArchive}
 use Rattle.archive.specs.Keeping.{leaves, emptyOf, emptyIs, emptyOut}
 use Rattle.archive.specs.declared.Archived.{Archived}
-use Rattle.archive.specs.declared.Archived.the-variants.{Bytes, Refused}
+use Rattle.archive.specs.declared.Archived.the-variants.{Bytes}
 use Rattle.archive.proofs.Rules.{is-formed}
 use Rattle.archive.proofs.Writing.{length-written, read-as-written, passes}
 
@@ -24,12 +24,10 @@ empty-formed home h = is-formed (emptyOf home) (record { home = ltb-true home 16
 
 was-empty : (home room m : ℕ) → emptyIs home room ≡ Bytes m → (ltb home 16777216 ≡ true) × (m ≡ headerWidth)
 unfolding emptyIs
-was-empty home room m = go (ltb home 16777216) refl (leb headerWidth room)
-  where
-    go : (p : Bool) → ltb home 16777216 ≡ p → (q : Bool) → pick p (pick q (Bytes headerWidth) (Refused 8)) (Refused 9) ≡ Bytes m → (ltb home 16777216 ≡ true) × (m ≡ headerWidth)
-    go true h true e = (h, cc)
-    go true h false e = absurd (let z : _≡_ {A = ℕ} 0 1 = cc in omega arith)
-    go false h q e = absurd (let z : _≡_ {A = ℕ} 0 1 = cc in omega arith)
+was-empty home room m e =
+    let p = picked (ltb home 16777216) e (λ x. never cc) in
+    let q = picked (leb headerWidth room) (p .1) (λ x. never cc) in
+    (p .0, let x = q .1 in cc)
 
 -- what `empty` writes is an archive that holds nothing
 pub empty-holds : (home : ℕ) (out : List ℕ) (m : ℕ) → emptyIs home (length out) ≡ Bytes m

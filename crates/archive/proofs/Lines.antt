@@ -1,6 +1,5 @@
 -- The listing's parts: their lengths, and the lines of the entries as they stand in an archive's bytes. Assumes nothing.
 use mathlib.Core.Path.{_≡_, refl, sym, ap}
-use mathlib.Core.Bool.{Bool, true, false}
 use mathlib.Core.List.{List, [], _++_}
 use Prim.Native.Nat.{ℕ, zero, suc, _+_, _-_, _≤_, _<_}
 use native.Mathlib.Omega.{arith}
@@ -8,13 +7,13 @@ use native.Mathlib.Nat.{not-suc-le-zero}
 use lib.ListN.{length, length-append}
 use lib.Dec.{leb}
 use borrow.Author.Tests.{leb-true}
-use Rattle.bits.specs.Bits.{pick}
+use Rattle.bits.proofs.Tests.{never, picked}
 use Rattle.archive.specs.Model.{headerWidth, entryWidth}
 use Rattle.archive.specs.Reading.{homeOf, countOf, entryAt, sizeAt, heldFrom, bodiesAt, reading, isArchive}
 use Rattle.archive.specs.Seeking.{linesFrom}
 use Rattle.archive.specs.Listing.{decimal, item, firstLine, line, lines, listing, listIs}
 use Rattle.archive.specs.declared.contents.Entry.{Entry}
-use Rattle.archive.specs.declared.listing.Listed.the-variants.{Bytes, Refused}
+use Rattle.archive.specs.declared.listing.Listed.the-variants.{Bytes}
 use Rattle.archive.proofs.Walks.{home-is, length-heldFrom}
 
 -- ---- lengths
@@ -57,9 +56,8 @@ listing-read b h =
 -- what is listed fits the lent buffer
 pub listed-fits : (b : List ℕ) (room n : ℕ) → listIs b room ≡ Bytes n → n ≤ room
 unfolding listIs
-listed-fits b room n = go (isArchive b) (leb (length (listing (reading b))) room) refl
-  where
-    go : (p q : Bool) → leb (length (listing (reading b))) room ≡ q → pick p (pick q (Bytes (length (listing (reading b)))) (Refused 8)) (Refused 7) ≡ Bytes n → n ≤ room
-    go true true h e = let z : length (listing (reading b)) ≡ n = cc in omega (arith, leb-true (length (listing (reading b))) room h)
-    go true false h e = absurd (let z : _≡_ {A = ℕ} 0 1 = cc in omega arith)
-    go false q h e = absurd (let z : _≡_ {A = ℕ} 0 1 = cc in omega arith)
+listed-fits b room n e =
+    let p = picked (isArchive b) e (λ x. never cc) in
+    let q = picked (leb (length (listing (reading b))) room) (p .1) (λ x. never cc) in
+    let z : length (listing (reading b)) ≡ n = let x = q .1 in cc in
+    omega (arith, leb-true (length (listing (reading b))) room (q .0))

@@ -4,11 +4,11 @@ use mathlib.Core.Bool.{Bool, true, false}
 use mathlib.Core.List.{List}
 use mathlib.Core.Option.{Option}
 use Prim.Native.Nat.{ℕ}
-use native.Mathlib.Omega.{arith}
 use lib.ListN.{length, take, drop}
 use lib.Dec.{leb}
 use Rattle.bits.specs.Bits.{pick}
 use Rattle.bits.specs.Frame.{bytesFor}
+use Rattle.bits.proofs.Tests.{never}
 use Rattle.bits.specs.declared.BitCount.{BitCount}
 use Rattle.archive.specs.Model.{Held, keyFor}
 use Rattle.archive.specs.Reading.{reading, isArchive}
@@ -61,12 +61,12 @@ module _ (b : List ℕ) (network ssi part : ℕ) where
 
     pub not-found : (room : ℕ) → fetchIs b network ssi part ≡ NotHeld → restoreIs b network ssi part room ≡ Refused 11
     not-found room t =
-        let ok = is-archive t (λ (x : NotHeld ≡ NoArchive). let z : _≡_ {A = ℕ} 0 1 = cc in omega arith) in
+        let ok = is-archive t (λ (x : NotHeld ≡ NoArchive). never cc) in
         as-delivered room e ok ∙ ap (λ (o : Option Held). delivered o room) (right t ok)
 
     pub found-at : {off : ℕ} {n : BitCount} → fetchIs b network ssi part ≡ Body off n → (isArchive b ≡ true) × (BodyIs b off n heldFor)
     found-at {off} {n} t =
-        let ok = is-archive t (λ (x : Body off n ≡ NoArchive). let z : _≡_ {A = ℕ} 0 1 = cc in omega arith) in
+        let ok = is-archive t (λ (x : Body off n ≡ NoArchive). never cc) in
         (ok, right t ok)
 
     pub found-body : {off : ℕ} {n : BitCount} (room : ℕ) → fetchIs b network ssi part ≡ Body off n

@@ -1,6 +1,5 @@
 -- The home network; one entry more; what the search finds from an entry on. Assumes nothing.
 use mathlib.Core.Path.{_≡_, refl, ap}
-use mathlib.Core.Bool.{Bool, true, false}
 use mathlib.Core.List.{List, _∷_}
 use Prim.Native.Nat.{ℕ, zero, suc, _+_, _-_, _≤_, _<_}
 use native.Mathlib.Omega.{arith}
@@ -8,7 +7,8 @@ use native.Mathlib.Nat.{not-suc-le-zero}
 use lib.ListN.{length}
 use lib.Dec.{leb}
 use borrow.Author.Tests.{lt-ltb, le-ltb, le-leb, eq-eqb, ne-eqb}
-use Rattle.bits.specs.Bits.{pick, Bytes}
+use Rattle.bits.specs.Bits.{Bytes}
+use Rattle.bits.proofs.Tests.{by-test}
 use Rattle.archive.specs.Model.{keyOf, headerWidth, entryWidth, sizes}
 use Rattle.archive.specs.Reading.{number2, number3, homeOf, sizeAt, heldAt, heldFrom}
 use Rattle.archive.specs.Seeking.{placeOf, seek}
@@ -22,11 +22,7 @@ home-is b h = rw (le-leb headerWidth (length b) h)
 
 pub home-small : (b : List ℕ) → Bytes b → homeOf b < 16777216
 unfolding homeOf
-home-small b y = go (leb headerWidth (length b))
-  where
-    go : (p : Bool) → pick p (number3 b 0) 0 < 16777216
-    go true = number3-small b 0 y
-    go false = omega arith
+home-small b y = by-test (λ (x : ℕ). x < 16777216) (leb headerWidth (length b)) (number3-small b 0 y) (omega arith)
 
 -- ---- one entry more
 

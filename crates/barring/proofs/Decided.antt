@@ -8,7 +8,7 @@ use lib.ListN.{length, take, drop}
 use lib.Dec.{leb, ltb}
 use Rattle.bits.specs.Bits.{pick}
 use Rattle.bits.specs.Frame.{bytesFor}
-use Rattle.bits.proofs.Tests.{both}
+use Rattle.bits.proofs.Tests.{never, both}
 use Rattle.bits.specs.declared.BitCount.{BitCount}
 use Rattle.reader.specs.Read.{readIs}
 use Rattle.rules.specs.Request.{requestRefusal, isUser}
@@ -67,7 +67,7 @@ module _ (b : List ℕ) (q : Request) (e : requestRefusal q ≡ 0) where
   -- the body that is fetched lies within the archive, and the rule applied to it is the decision
   module _ (at : ℕ) (n : BitCount) (f : fetchedFor ≡ Body at n) where
     body : (isArchive b ≡ true) × BodyIs b at n (partIn b q)
-    body = found-as (Body at n) f (λ x. let z : _≡_ {A = ℕ} 0 1 = cc in omega arith)
+    body = found-as (Body at n) f (λ x. never cc)
 
     pub body-within : at + bytesFor (n .0) ≤ length b
     body-within = body .1 .inside
@@ -81,7 +81,7 @@ module _ (b : List ℕ) (q : Request) (e : requestRefusal q ≡ 0) where
 
   pub decide-missing : fetchedFor ≡ fetched.NotHeld → NotHeld ≡ decideIs b q
   decide-missing f =
-      let k = found-as fetched.NotHeld f (λ x. let z : _≡_ {A = ℕ} 0 1 = cc in omega arith) in
+      let k = found-as fetched.NotHeld f (λ x. never cc) in
       sym (decide-held (k .0) ∙ ap (judgedBy (reading b .home) q) (k .1))
 
   pub decide-damaged : fetchedFor ≡ NoArchive → Refused 7 ≡ decideIs b q

@@ -7,10 +7,11 @@ use native.Mathlib.Omega.{arith}
 use borrow.Author.Tests.{le-leb, lt-leb}
 use lib.ListN.{length, take, drop, length-take}
 use lib.Dec.{leb}
-use Rattle.bits.specs.Bits.{pick, bits, value, bitsOf, splice}
+use Rattle.bits.specs.Bits.{bits, value, bitsOf, splice}
 use Rattle.bits.specs.Frame.{bitsIn}
 use Rattle.bits.specs.Element.{elementAt, takeAt, hasRoom, putAt}
 use Rattle.bits.specs.declared.Taken.the-variants.{Element, Short}
+use Rattle.bits.proofs.Tests.{same-pick}
 use Rattle.bits.proofs.Bytes.{length-bits, take-before}
 
 -- ---- taken
@@ -26,10 +27,6 @@ element-short l at w h = rw (lt-leb (at + w) (length l) h)
 take-element : (s : List ℕ) (n at w : ℕ) → 1 ≤ w → w ≤ 32 → takeAt s n at w ≡ elementAt (bitsIn n s) at w
 unfolding takeAt
 take-element s n at w l h = rw (le-leb 1 w l, le-leb w 32 h)
-
-pub same-pick : {A : Type 0} (b : Bool) (t : A) → pick b t t ≡ t
-same-pick true t = refl
-same-pick false t = refl
 
 pub take-none : (s : List ℕ) (n at : ℕ) → takeAt s n at 0 ≡ Short
 unfolding takeAt

@@ -8,6 +8,7 @@ use native.Mathlib.Numerals.{add-one}
 use native.Mathlib.Omega.{arith}
 use lib.ListN.{length, take, drop, getD, set, replicate, length-append, length-replicate, length-set, take-append-drop}
 use lib.Seq.{drop-drop, take-suc-set, drop-set-lt}
+use Rattle.bits.proofs.Tests.{never}
 use Rattle.codec.specs.Codec.{Codec}
 use Rattle.codec.specs.Places.{cons, places}
 use Rattle.codec.specs.Reading.{Answer, got, refused, andNext, readAt}
@@ -121,5 +122,5 @@ module _ {A : Type 0} (c z : Codec A) (none : A) (s : List Bool) (m n from : ℕ
 pub first-print : {A : Type 0} (c z : Codec A) (m n : ℕ) (l : List A) (d : A) → (places c z (suc m) (suc n)) .clean l ≡ true
     → length (c .print (getD l 0 d)) ≤ length ((places c z (suc m) (suc n)) .print l)
 unfolding places cons
-first-print c z m n [] d e = absurd (let z : _≡_ {A = ℕ} 0 1 = cc in omega arith)
+first-print c z m n [] d e = never cc
 first-print c z m n (a ∷ l) d e = omega (arith, length-append (c .print a) ((places c z m n) .print l))

@@ -1,12 +1,11 @@
 -- What a legal value of a part says of the values it is made of, one law for each way to build a codec. Assumes nothing.
-use mathlib.Core.Path.{_≡_, refl, ap}
-use mathlib.Core.Bool.{true, false, _&&_, and-eq-true-iff}
+use mathlib.Core.Path.{_≡_, refl, sym, ap}
+use mathlib.Core.Bool.{true, _&&_}
 use mathlib.Core.List.{List, [], _∷_}
 use Prim.Native.Nat.{ℕ, zero, suc, _^_, _<_}
-use native.Mathlib.Omega.{arith}
 use lib.ListN.{length}
-use lib.Dec.{ltb}
 use Rattle.bits.specs.Lists.{Each}
+use Rattle.bits.proofs.Tests.{differ, both}
 use Rattle.codec.specs.Codec.{Codec, Legal, first}
 use Rattle.codec.specs.Parts.{first-none, narrow, number, is-zero, absent, seq, tested, element, shaped, mark}
 use Rattle.codec.specs.Places.{nil, cons, places}
@@ -15,7 +14,7 @@ use Rattle.codec.specs.Places.{nil, cons, places}
 each-legal : {A B : Type 0} (c : Codec A) (d : Codec B) (a : A) (b : B) → c .clean a && d .clean b ≡ true → first (c .fault a) (d .fault b) ≡ 0
     → Legal c a × Legal d b
 each-legal c d a b clean faultless =
-    let k = and-eq-true-iff (c .clean a) (d .clean b) .0 clean in
+    let k = both (c .clean a) (d .clean b) clean in
     let f = first-none (c .fault a) (d .fault b) faultless in
     (record { clean = k .0; faultless = f .0 }, record { clean = k .1; faultless = f .1 })
 
@@ -36,9 +35,13 @@ pub legal-mark : {A : Type 0} (w v : ℕ) (c : Codec A) (a : A) → Legal (mark 
 unfolding mark
 legal-mark w v c a l = legal-seq _ _ _ (legal-shaped _ _ _ _ _ _ l) .1
 
+pub legal-number : (w v : ℕ) → Legal (number w) v → v < 2 ^ w
+unfolding number
+legal-number w v l = narrow w v (l .faultless)
+
 pub legal-element : (w : ℕ) (refuse : ℕ → ℕ) (v : ℕ) → Legal (element w refuse) v → v < 2 ^ w
-unfolding element number
-legal-element w refuse v l = narrow w v (ltb v (2 ^ w)) refl (legal-tested _ _ _ _ l .faultless)
+unfolding element
+legal-element w refuse v l = legal-number w v (legal-tested _ _ _ _ l)
 
 pub legal-absent : (v : ℕ) → Legal absent v → v ≡ 0
 unfolding absent
@@ -53,9 +56,9 @@ module _ {A : Type 0} {c z : Codec A} (P : A → Type 0) (used : (a : A) → Leg
   pub legal-places : (m n : ℕ) (l : List A) → Legal (places c z m n) l → (length l ≡ m) × Each P l
   unfolding places nil cons
   legal-places zero n [] h = (refl, tt)
-  legal-places zero n (a ∷ l) h = absurd (let e : false ≡ true = h .clean in let q : _≡_ {A = ℕ} 0 1 = cc in omega arith)
-  legal-places (suc m) zero [] h = absurd (let e : false ≡ true = h .clean in let q : _≡_ {A = ℕ} 0 1 = cc in omega arith)
-  legal-places (suc m) (suc n) [] h = absurd (let e : false ≡ true = h .clean in let q : _≡_ {A = ℕ} 0 1 = cc in omega arith)
+  legal-places zero n (a ∷ l) h = differ (sym (h .clean))
+  legal-places (suc m) zero [] h = differ (sym (h .clean))
+  legal-places (suc m) (suc n) [] h = differ (sym (h .clean))
   legal-places (suc m) zero (a ∷ l) h =
       let p = head-tail z (places c z m zero) a l h in
       let t = legal-places m zero l (p .1) in
@@ -64,3 +67,6 @@ module _ {A : Type 0} {c z : Codec A} (P : A → Type 0) (used : (a : A) → Leg
       let p = head-tail c (places c z m n) a l h in
       let t = legal-places m n l (p .1) in
       (ap suc (t .0), (used a (p .0), t .1))
+
+pub legal-length : {A : Type 0} (c z : Codec A) (m n : ℕ) (l : List A) → Legal (places c z m n) l → length l ≡ m
+legal-length c z m n l h = legal-places (λ a. Unit) (λ a x. tt) (λ a x. tt) m n l h .0

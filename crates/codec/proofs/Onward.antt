@@ -5,10 +5,10 @@ use mathlib.Core.List.{List}
 use Prim.Native.Nat.{ℕ, _+_, _^_, _≤_, _<_}
 use native.Mathlib.Nat.{add-zero}
 use native.Mathlib.Omega.{arith}
-use lib.Dec.{ltb}
 use borrow.Author.Tests.{le-leb}
 use Rattle.bits.specs.Frame.{bitsIn}
 use Rattle.bits.specs.declared.Cursor.{Cursor}
+use Rattle.bits.proofs.Tests.{never}
 use Rattle.codec.specs.Codec.{Codec}
 use Rattle.codec.specs.Parts.{first-none, numberFault, narrow, number, tested, element}
 use Rattle.codec.specs.Reading.{Answer, got, refused, andNext, unlessAt, readAt, from, reachedOf, valueOr, elementOf, numberIs, testedIs}
@@ -89,7 +89,7 @@ element-small : (w : ℕ) (refuse : ℕ → ℕ) (s : List Bool) (at v at′ : �
 unfolding element tested number
 element-small w refuse s at v at′ e =
     let h = first-none (numberFault w v) (refuse v) (readAt-legal (element w refuse) s at v at′ e .0 .faultless) in
-    (narrow w v (ltb v (2 ^ w)) refl (h .0), h .1)
+    (narrow w v (h .0), h .1)
 
 -- a number that is not refused is an element
 pub element-got : (w : ℕ) (refuse : ℕ → ℕ) (s : List Bool) (at v at′ : ℕ) → readAt (number w) s at ≡ got v at′ → refuse v ≡ 0 → readAt (element w refuse) s at ≡ got v at′
@@ -111,4 +111,4 @@ element-bound w refuse s p {r} bound e h = subst (λ (r : NumberRead). r .value 
       where
         read : (p : Reached) (v at′ : ℕ) → from p (readAt (element w refuse) s) ≡ got v at′ → v ≤ bound
         read (At c) v at′ f = let k = element-small w refuse s (c .at) v at′ f in h v (k .0) (k .1)
-        read (Refused n q) v at′ f = absurd (let z : _≡_ {A = ℕ} 0 1 = cc in omega arith)
+        read (Refused n q) v at′ f = never cc

@@ -13,6 +13,7 @@ use Rattle.bits.specs.Frame.{bitsIn}
 use Rattle.bits.specs.Element.{elementAt, takeAt}
 use Rattle.bits.specs.declared.Taken.{Taken}
 use Rattle.bits.specs.declared.Taken.the-variants.{Element, Short}
+use Rattle.bits.proofs.Tests.{never}
 use Rattle.bits.proofs.Elements.{element-there, element-short}
 use Rattle.codec.specs.Codec.{Outcome, ok, no, andThen, Right, Codec, Legal}
 use Rattle.codec.specs.Parts.{number, absent, seq, unless, tested, element, shaped, mark, only}
@@ -40,7 +41,7 @@ rest-at c s at (ok b p t) h a at′ r e =
     let q : t ≡ r = cc in
     let q′ : p ≡ at′ = cc in
     rw (← q, ← q′) (sym (ap (λ (n : ℕ). drop n s) (h .3) ∙ sym (drop-drop (length (c .print b)) at s) ∙ ap (drop (length (c .print b))) (h .2) ∙ drop-append-seam (c .print b) t))
-rest-at c s at (no n p) h a at′ r e = absurd (let z : _≡_ {A = ℕ} 0 1 = cc in omega arith)
+rest-at c s at (no n p) h a at′ r e = never cc
 
 module _ {A B : Type 0} (c : Codec A) (k : A → ℕ → List Bool → Outcome B) (s : List Bool) (at : ℕ) where
   then-cases : (o : Outcome A) → c .parse at (drop at s) ≡ o → answer (andThen o k) ≡ andNext (answer o) (λ a at′. answer (k a at′ (drop at′ s)))
@@ -131,7 +132,7 @@ module _ {A : Type 0} (c : Codec A) (s : List Bool) (at : ℕ) where
       let q : b ≡ a = cc in
       let q′ : p ≡ at′ = cc in
       rw (← q, ← q′) (record { clean = h .0; faultless = h .1 }, h .3)
-  legal-cases (no n p) h a at′ e = absurd (let z : _≡_ {A = ℕ} 0 1 = cc in omega arith)
+  legal-cases (no n p) h a at′ e = never cc
 
   pub readAt-legal : (a : A) (at′ : ℕ) → readAt c s at ≡ got a at′ → Legal c a × (at′ ≡ at + length (c .print a))
   unfolding readAt

@@ -1,12 +1,11 @@
 -- How long the writing of a part can be: a law for each way to build one. Assumes nothing.
 use mathlib.Core.Path.{_≡_}
-use mathlib.Core.Bool.{Bool, true, false}
+use mathlib.Core.Bool.{true}
 use mathlib.Core.List.{List, [], _∷_}
 use Prim.Native.Nat.{ℕ, zero, suc, _+_, _*_, _≤_}
 use native.Mathlib.Nat.{suc-mul}
 use native.Mathlib.Omega.{arith}
 use lib.ListN.{length, length-append}
-use Rattle.bits.specs.Bits.{pick}
 use Rattle.bits.proofs.Numbers.{length-bitsOf}
 use Rattle.codec.specs.Codec.{Codec}
 use Rattle.codec.specs.Parts.{number, absent, element, seq, tested, shaped}
@@ -44,10 +43,6 @@ pub size-shaped : {A B : Type 0} (c : Codec A) (to : A → B) (from : B → A) (
     (back : (b : B) → to (from b) ≡ b) {m : ℕ} → Within m c → Within m (shaped c to from there back)
 unfolding shaped
 size-shaped c to from there back h = record { size = λ b. h .size (from b) }
-
-pub size-pick : {A : Type 0} (t : Bool) {c d : Codec A} {n : ℕ} → Within n c → Within n d → Within n (pick t c d)
-size-pick true h k = h
-size-pick false h k = k
 
 size-cons : {A : Type 0} (c : Codec A) (d : Codec (List A)) (k n : ℕ) → Within k c → Within n d → Within (k + n) (cons c d)
 unfolding cons

@@ -4,9 +4,9 @@ use mathlib.Core.Bool.{Bool}
 use mathlib.Core.List.{List, [], _∷_, append-nil}
 use Prim.Native.Nat.{ℕ}
 use native.Mathlib.Nat.{zero-add}
-use native.Mathlib.Omega.{arith}
 use lib.ListN.{length}
 use Rattle.bits.specs.Bits.{pick}
+use Rattle.bits.proofs.Tests.{never}
 use Rattle.codec.specs.Codec.{Outcome, ok, no, andThen, Right, Codec, Legal}
 use Rattle.codec.specs.Places.{isNil}
 use Rattle.codec.specs.Whole.{wholeParse}
@@ -25,12 +25,12 @@ module _ {A : Type 0} (c : Codec A) where
       let q : a′ ≡ a = cc in
       let l : Legal c a′ = record { clean = h .0; faultless = h .1 } in
       (rw q at l, h .2 ∙ append-nil _ ∙ ap (c .print) q)
-  whole-last s a′ at (b ∷ r′) h a n r e = absurd (let z : _≡_ {A = ℕ} 0 1 = cc in omega arith)
+  whole-last s a′ at (b ∷ r′) h a n r e = never cc
 
   whole-first : (s : List Bool) (o : Outcome A) → Right (c .clean) (c .fault) (c .print) 0 s o
       → (a : A) (n : ℕ) (r : List Bool) → andThen o (λ a at r. pick (isNil r) (ok a at r) (no 5 at)) ≡ ok a n r → Legal c a × (s ≡ c .print a)
   whole-first s (ok a′ at r′) h a n r e = whole-last s a′ at r′ h a n r e
-  whole-first s (no k p) h a n r e = absurd (let z : _≡_ {A = ℕ} 0 1 = cc in omega arith)
+  whole-first s (no k p) h a n r e = never cc
 
   -- whatever is read is legal, and it was written so
   pub whole-sound : (s : List Bool) (a : A) (n : ℕ) (r : List Bool) → wholeParse c s ≡ ok a n r → Legal c a × (s ≡ c .print a)

@@ -10,7 +10,7 @@ use lib.Seq.{take-at, drop-at, length-take-le}
 use lib.Dec.{ltb, eqb}
 use borrow.Author.Tests.{eqb-true, ltb-true, ltb-false, lt-ltb, le-ltb}
 use Rattle.bits.specs.Bits.{pick, value, bitsOf}
-use Rattle.bits.proofs.Tests.{both, both⁻¹}
+use Rattle.bits.proofs.Tests.{never, both, both⁻¹, picked}
 use Rattle.bits.proofs.Numbers.{length-bitsOf, value-lt, value-of-bits, bits-of-value}
 use Rattle.codec.specs.Codec.{Outcome, ok, no, andThen, first, Right, Codec}
 
@@ -30,16 +30,15 @@ numberParse w at s = pick (ltb (length s) w) (no 2 at) (ok (value (take w s)) (a
 abbrev pub numberFault : ℕ → ℕ → ℕ
 numberFault w v = pick (ltb v (2 ^ w)) 0 3
 
-pub narrow : (w v : ℕ) (t : Bool) → ltb v (2 ^ w) ≡ t → pick {A = ℕ} t 0 3 ≡ 0 → v < 2 ^ w
-narrow w v true e h = ltb-true v (2 ^ w) e
-narrow w v false e h = absurd (omega arith)
+pub narrow : (w v : ℕ) → numberFault w v ≡ 0 → v < 2 ^ w
+narrow w v h = ltb-true v (2 ^ w) (picked (ltb v (2 ^ w)) h (λ e. omega arith) .0)
 
 pub number-reads : (w v : ℕ) → numberFault w v ≡ 0 → (at : ℕ) (r : List Bool)
     → numberParse w at (bitsOf w v ++ r) ≡ ok v (at + length (bitsOf w v)) r
 number-reads w v h at r =
     let l : length (bitsOf w v) ≡ w = length-bitsOf w v in
     let long : w ≤ length (bitsOf w v ++ r) = omega (arith, length-append (bitsOf w v) r) in
-    simp (le-ltb (length (bitsOf w v ++ r)) w long, take-at (bitsOf w v) r w l, drop-at (bitsOf w v) r w l, value-of-bits w v (narrow w v (ltb v (2 ^ w)) refl h), length-bitsOf)
+    simp (le-ltb (length (bitsOf w v ++ r)) w long, take-at (bitsOf w v) r w l, drop-at (bitsOf w v) r w l, value-of-bits w v (narrow w v h), length-bitsOf)
 
 number-right : (w at : ℕ) (s : List Bool) (t : Bool) → ltb (length s) w ≡ t
     → Right (λ v. true) (numberFault w) (bitsOf w) at s (pick t (no 2 at) (ok (value (take w s)) (at + w) (drop w s)))
@@ -75,7 +74,7 @@ isZero (suc n) = false
 
 pub is-zero : (n : ℕ) → isZero n ≡ true → n ≡ 0
 is-zero zero e = refl
-is-zero (suc n) e = absurd (let z : _≡_ {A = ℕ} 0 1 = cc in omega arith)
+is-zero (suc n) e = never cc
 
 pub absent-reads : (v : ℕ) → isZero v ≡ true → (at : ℕ) (r : List Bool) → _≡_ {A = Outcome ℕ} (ok 0 at r) (ok v (at + 0) r)
 absent-reads v h at r = rw (is-zero v h, add-zero)
@@ -216,17 +215,13 @@ module _ {A B : Type 0} (c : Codec A) (to : A → B) (from : B → A)
 abbrev pub only : ℕ → ℕ → ℕ
 only v x = pick (eqb x v) 0 3
 
-only-zero : (v x : ℕ) (t : Bool) → eqb x v ≡ t → pick {A = ℕ} t 0 3 ≡ 0 → x ≡ v
-only-zero v x true e h = eqb-true x v e
-only-zero v x false e h = absurd (omega arith)
-
 pub mark-there : {A : Type 0} (w v : ℕ) (c : Codec A) (p : ℕ × A) → (seq (element w (only v)) (λ x. c)) .clean p ≡ true
     → (seq (element w (only v)) (λ x. c)) .fault p ≡ 0 → _≡_ {A = ℕ × A} (v, p .1) p
 unfolding seq element tested number
 mark-there w v c p hc hf =
     let f = first-none ((element w (only v)) .fault (p .0)) (c .fault (p .1)) hf in
     let g = first-none (numberFault w (p .0)) (only v (p .0)) (f .0) in
-    let e : p .0 ≡ v = only-zero v (p .0) (eqb (p .0) v) refl (g .1) in
+    let e : p .0 ≡ v = eqb-true (p .0) v (picked (eqb (p .0) v) (g .1) (λ x. omega arith) .0) in
     λ i. (sym e i, p .1)
 
 unfoldable pub mark : {A : Type 0} → ℕ → ℕ → Codec A → Codec A

@@ -4,8 +4,8 @@ use mathlib.Core.Bool.{Bool, true, false}
 use mathlib.Core.List.{List, [], _∷_, _++_}
 use Prim.Native.Nat.{ℕ, zero, suc, _+_}
 use native.Mathlib.Nat.{add-zero}
-use native.Mathlib.Omega.{arith}
 use lib.ListN.{length}
+use Rattle.bits.proofs.Tests.{never}
 use Rattle.codec.specs.Codec.{Outcome, ok, no, andThen, Right, Codec}
 use Rattle.codec.specs.Parts.{seqClean, seqFault, seqPrint, seqParse, seq-reads, seq-sound}
 
@@ -17,7 +17,7 @@ isNil (a ∷ l) = false
 
 pub is-nil : {A : Type 0} (l : List A) → isNil l ≡ true → l ≡ []
 is-nil [] e = refl
-is-nil (a ∷ l) e = absurd (let z : _≡_ {A = ℕ} 0 1 = cc in omega arith)
+is-nil (a ∷ l) e = never cc
 
 pub nil-reads : {A : Type 0} (l : List A) → isNil l ≡ true → (at : ℕ) (r : List Bool) → _≡_ {A = Outcome (List A)} (ok [] at r) (ok l (at + 0) r)
 nil-reads l h at r = rw (is-nil l h, add-zero)
@@ -52,7 +52,7 @@ module _ {A : Type 0} (c : Codec A) (d : Codec (List A)) where
 
   pub cons-reads : (l : List A) → consClean l ≡ true → consFault l ≡ 0 → (at : ℕ) (r : List Bool)
       → consParse at (consPrint l ++ r) ≡ ok l (at + length (consPrint l)) r
-  cons-reads [] hc hf at r = absurd (let z : _≡_ {A = ℕ} 0 1 = cc in omega arith)
+  cons-reads [] hc hf at r = never cc
   cons-reads (a ∷ l) hc hf at r = rw (seq-reads c (λ x. d) (a, l) hc hf at r)
 
   cons-right : (at : ℕ) (s : List Bool) (o : Outcome (A × List A)) → Right (seqClean c (λ x. d)) (seqFault c (λ x. d)) (seqPrint c (λ x. d)) at s o

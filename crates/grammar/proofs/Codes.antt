@@ -8,6 +8,7 @@ use borrow.Author.Tests.{eqb-true, leb-true, eq-eqb, ne-eqb, le-leb, lt-leb}
 use lib.ListN.{length, length-append}
 use lib.Dec.{eqb, leb}
 use Rattle.bits.specs.Bits.{pick, bitsOf}
+use Rattle.bits.proofs.Tests.{both, picked, by-test}
 use Rattle.bits.proofs.Numbers.{length-bitsOf}
 use Rattle.codec.specs.Parts.{number, absent, seq, shaped}
 use Rattle.grammar.specs.SiteSheet.{rangeType, rowOfType, rowOf, entriesOf, refusalIn, rangeRefusal, between}
@@ -44,11 +45,7 @@ above-nine listing code h = rw (ne-eqb code 0 (λ e. omega arith), lt-leb code 8
 
 pub not-single : (code : ℕ) → 8 < code → rangeRefusal of.Numbers code ≡ 3
 unfolding rangeRefusal rangeType
-not-single code h = rw (ne-eqb code 0 (λ e. omega arith), lt-leb code 8 h) (go (eqb code 9))
-  where
-    go : (b : Bool) → refusalIn of.Numbers (pick b FirstAndLast NoRangeType) ≡ 3
-    go true = refl
-    go false = refl
+not-single code h = rw (ne-eqb code 0 (λ e. omega arith), lt-leb code 8 h) (by-test (λ (t : RangeType). refusalIn of.Numbers t ≡ 3) (eqb code 9) refl refl)
 
 -- only range type 9 has two ends
 pub not-nine : (code : ℕ) → (code ≡ 9 → ⊥) → (l : List Identity) → rangeEnds code l ≡ 0
@@ -63,23 +60,15 @@ module _ (a b : Identity) where
 
   pub ends-say : endsRefusal a b ≡ 0 → (a .present ≡ b .present) × (a .extension ≡ b .extension) × (a .ssi ≤ b .ssi)
   unfolding endsRefusal
-  ends-say = go (eqb (a .present) (b .present)) (eqb (a .extension) (b .extension)) (leb (a .ssi) (b .ssi)) refl refl refl
-    where
-      go : (x y z : Bool) → eqb (a .present) (b .present) ≡ x → eqb (a .extension) (b .extension) ≡ y → leb (a .ssi) (b .ssi) ≡ z
-          → pick {A = ℕ} (x && y && z) 0 4 ≡ 0 → (a .present ≡ b .present) × (a .extension ≡ b .extension) × (a .ssi ≤ b .ssi)
-      go true true true p e s h = (eqb-true _ _ p, eqb-true _ _ e, leb-true _ _ s)
-      go true true false p e s h = absurd (omega arith)
-      go true false z p e s h = absurd (omega arith)
-      go false y z p e s h = absurd (omega arith)
+  ends-say h =
+      let agree = eqb (a .present) (b .present) && eqb (a .extension) (b .extension) in
+      let p = both agree (leb (a .ssi) (b .ssi)) (picked (agree && leb (a .ssi) (b .ssi)) h (λ e. omega arith) .0) in
+      let q = both (eqb (a .present) (b .present)) (eqb (a .extension) (b .extension)) (p .0) in
+      (eqb-true _ _ (q .0), eqb-true _ _ (q .1), leb-true _ _ (p .1))
 
 -- a value that is not outside its bounds
 pub between-le : (low high v : ℕ) → between low high v ≡ 0 → v ≤ high
-between-le low high v h = go (leb low v) (leb v high) refl h
-  where
-    go : (a b : Bool) → leb v high ≡ b → pick {A = ℕ} (a && b) 0 3 ≡ 0 → v ≤ high
-    go true true e h = leb-true v high e
-    go true false e h = absurd (omega arith)
-    go false b e h = absurd (omega arith)
+between-le low high v h = leb-true v high (both (leb low v) (leb v high) (picked (leb low v && leb v high) h (λ e. omega arith) .0) .1)
 
 -- an identity has 25 bits, or 49 with its extension
 pub identity-length : (e : Identity) → length (identity .print e) ≡ pick (eqb (e .present) 1) 49 25

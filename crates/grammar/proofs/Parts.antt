@@ -1,10 +1,10 @@
 -- The tests of the grammar answer with 0, 3, 4 and 10; and what every way to build a part keeps, the parts of a PDU have. Assumes nothing.
-use mathlib.Core.Bool.{Bool, true, false, _&&_}
+use mathlib.Core.Bool.{_&&_}
 use mathlib.Core.List.{List}
 use Prim.Native.Nat.{ℕ, zero, suc}
 use lib.ListN.{getD}
 use lib.Dec.{leb, eqb}
-use Rattle.bits.specs.Bits.{pick}
+use Rattle.bits.proofs.Tests.{by-test}
 use Rattle.codec.specs.Codec.{Codec}
 use Rattle.codec.specs.Parts.{number, element, seq, mark}
 use Rattle.codec.specs.Places.{places}
@@ -30,12 +30,8 @@ use Rattle.grammar.specs.declared.record.Services.{Services}
 module _ (Code : ℕ → Type 0) (passed : Code 0) (three : Code 3) (four : Code 4) where
   -- ---- the tests: no refusal, 3 or 4; of the PDU type also 10
 
-  either : {m n : ℕ} (t : Bool) → Code m → Code n → Code (pick t m n)
-  either true h k = h
-  either false h k = k
-
   code-between : (low high v : ℕ) → Code (between low high v)
-  code-between low high v = either (leb low v && leb v high) passed three
+  code-between low high v = by-test Code (leb low v && leb v high) passed three
 
   in-list : (listing : Listing) (t : RangeType) → Code (refusalIn listing t)
   in-list of.Users Empty = three
@@ -75,18 +71,18 @@ module _ (Code : ℕ → Type 0) (passed : Code 0) (three : Code 3) (four : Code
 
   code-result : (v : ℕ) → Code (resultRefusal v)
   unfolding resultRefusal
-  code-result v = either (eqb v 5) three passed
+  code-result v = by-test Code (eqb v 5) three passed
 
   code-kind : Code 10 → (v : ℕ) → Code (kindRefusal v)
   unfolding kindRefusal
-  code-kind ten v = either (leb 11 v && leb v 12) passed (either (leb v 13) ten three)
+  code-kind ten v = by-test Code (leb 11 v && leb v 12) passed (by-test Code (leb v 13) ten three)
 
   code-ends : (code : ℕ) (l : List Identity) → Code (rangeEnds code l)
   unfolding rangeEnds endsRefusal
   code-ends code l =
       let a = getD l 0 zeroIdentity in
       let b = getD l 1 zeroIdentity in
-      either (eqb code 9) (either (eqb (a .present) (b .present) && eqb (a .extension) (b .extension) && leb (a .ssi) (b .ssi)) passed four) passed
+      by-test Code (eqb code 9) (by-test Code (eqb (a .present) (b .present) && eqb (a .extension) (b .extension) && leb (a .ssi) (b .ssi)) passed four) passed
 
   -- ---- the parts
 
@@ -99,10 +95,6 @@ module _ (Code : ℕ → Type 0) (passed : Code 0) (three : Code 3) (four : Code
     unfolding element
     of-element w h = kept .tested (number w) _ (λ v. 0) h (kept .number w)
 
-    of-pick : {A : Type 0} (t : Bool) {c d : Codec A} → P A c → P A d → P A (pick t c d)
-    of-pick true h k = h
-    of-pick false h k = k
-
     of-places : {A : Type 0} {c z : Codec A} → P A c → P A z → (m n : ℕ) → P (List A) (places c z m n)
     unfolding places
     of-places h k zero n = kept .nil
@@ -111,7 +103,7 @@ module _ (Code : ℕ → Type 0) (passed : Code 0) (three : Code 3) (four : Code
 
     of-identity : P Identity identity
     unfolding identity extension
-    of-identity = kept .shaped _ _ _ _ _ (then (kept .number 24) (λ a. then (kept .number 1) (λ p. of-pick (eqb p 1) (kept .number 24) (kept .absent))))
+    of-identity = kept .shaped _ _ _ _ _ (then (kept .number 24) (λ a. then (kept .number 1) (λ p. by-test (P ℕ) (eqb p 1) (kept .number 24) (kept .absent))))
 
     of-noIdentity : P Identity noIdentity
     unfolding noIdentity
@@ -163,18 +155,18 @@ module _ (Code : ℕ → Type 0) (passed : Code 0) (three : Code 3) (four : Code
     unfolding identityPart numberPart
     of-part result =
         let ids = of-identities of.Identities in
-        of-pick (eqb result 1) (kept .shaped _ _ _ _ _ (five ids ids ids of-noExternals of-noExternals))
-        (of-pick (eqb result 2) (kept .shaped _ _ _ _ _ (five ids of-noIdentities of-noIdentities of-externals of-externals)) of-noPart)
+        by-test (P Lists) (eqb result 1) (kept .shaped _ _ _ _ _ (five ids ids ids of-noExternals of-noExternals))
+        (by-test (P Lists) (eqb result 2) (kept .shaped _ _ _ _ _ (five ids of-noIdentities of-noIdentities of-externals of-externals)) of-noPart)
 
     pub of-rest : (kind : ℕ) → P Rest (restOf kind)
     unfolding interrogate interrogateAck
     of-rest kind =
-        of-pick (eqb kind 11)
+        by-test (P Rest) (eqb kind 11)
         (then (of-element 2 (code-between 1 3)) (λ a. then (kept .absent) (λ b. then (kept .absent) (λ c. then of-noServices (λ d. of-noPart)))))
         (then (kept .absent) (λ a. then (of-element 3 code-result) (λ result. then (kept .number 2) (λ c. then of-services (λ d. of-part result)))))
 
     pub of-pdu : Code 10 → P Record pdu
     unfolding pdu mark
     of-pdu ten =
-        kept .shaped _ _ _ _ _ (then (of-element 6 (λ v. either (eqb v ssType) passed three)) (λ x.
+        kept .shaped _ _ _ _ _ (then (of-element 6 (λ v. by-test Code (eqb v ssType) passed three)) (λ x.
         kept .shaped _ _ _ _ _ (then (of-element 5 (code-kind ten)) (λ kind. then (of-identities of.Users) (λ users. of-rest kind)))))

@@ -7,10 +7,11 @@ use native.Mathlib.Omega.{arith}
 use lib.ListN.{length, length-append}
 use lib.Dec.{eqb}
 use Rattle.bits.specs.Bits.{pick}
+use Rattle.bits.proofs.Tests.{by-test}
 use Rattle.codec.specs.Codec.{Codec}
 use Rattle.codec.specs.Parts.{absent, element, seq, shaped, mark, only}
 use Rattle.codec.specs.Places.{places}
-use Rattle.codec.proofs.Sizes.{Within, size-number, size-absent, size-more, size-seq, size-tested, size-element, size-shaped, size-pick, size-places}
+use Rattle.codec.proofs.Sizes.{Within, size-number, size-absent, size-more, size-seq, size-tested, size-element, size-shaped, size-places}
 use Rattle.grammar.specs.SiteSheet.{ssType, entriesOf, rangeRefusal, digitRefusal, serviceRefusal, kindRefusal, resultRefusal, askedRefusal, countRefusal, lengthRefusal}
 use Rattle.grammar.specs.Grammar.{extension, identity, noIdentity, identities, noIdentities, external, noExternal, externals, noExternals, services, noServices, identityPart, numberPart, noPart, partOf, interrogate, interrogateAck, restOf, fromRecord, pdu}
 use Rattle.grammar.specs.declared.site.Listing.{Listing}
@@ -21,7 +22,7 @@ use Rattle.grammar.specs.declared.record.Record.{Record}
 
 size-extension : (present : ℕ) → Within 24 (extension present)
 unfolding extension
-size-extension present = size-pick (eqb present 1) (size-number 24) (size-more size-absent (omega arith))
+size-extension present = by-test (Within _) (eqb present 1) (size-number 24) (size-more size-absent (omega arith))
 
 size-identity : Within 49 identity
 unfolding identity
@@ -33,7 +34,7 @@ size-noIdentity = size-shaped _ _ _ _ _ (size-seq size-absent (λ a. size-seq si
 
 -- a place, used or not
 pub size-identity-place : (used : Bool) → Within 49 (pick used identity noIdentity)
-size-identity-place used = size-pick used size-identity (size-more size-noIdentity (omega arith))
+size-identity-place used = by-test (Within _) used size-identity (size-more size-noIdentity (omega arith))
 
 size-identity-places : (n : ℕ) → Within 392 (places identity noIdentity 8 n)
 size-identity-places n = size-places identity noIdentity 49 size-identity (size-more size-noIdentity (omega arith)) 8 n
@@ -58,7 +59,7 @@ unfolding noExternal
 size-noExternal = size-shaped _ _ _ _ _ (size-seq size-absent (λ a. size-places absent absent 0 size-absent size-absent 24 0))
 
 pub size-external-place : (used : Bool) → Within 101 (pick used external noExternal)
-size-external-place used = size-pick used size-external (size-more size-noExternal (omega arith))
+size-external-place used = by-test (Within _) used size-external (size-more size-noExternal (omega arith))
 
 pub size-externals : Within 812 externals
 unfolding externals
@@ -71,7 +72,7 @@ unfolding noExternals
 size-noExternals = size-shaped _ _ _ _ _ (size-seq size-absent (λ a. size-places noExternal noExternal 0 size-noExternal size-noExternal 8 0))
 
 pub size-service-place : (used : Bool) → Within 3 (pick used (element 3 serviceRefusal) absent)
-size-service-place used = size-pick used (size-element 3 serviceRefusal) (size-more size-absent (omega arith))
+size-service-place used = by-test (Within _) used (size-element 3 serviceRefusal) (size-more size-absent (omega arith))
 
 pub size-services : Within 24 services
 unfolding services
@@ -96,9 +97,9 @@ size-noPart = size-shaped _ _ _ _ _ (size-lists size-noIdentities size-noIdentit
 size-part : (result : ℕ) → Within 2020 (partOf result)
 unfolding identityPart numberPart
 size-part result =
-    size-pick (eqb result 1)
+    by-test (Within _) (eqb result 1)
     (size-shaped _ _ _ _ _ (size-more (size-lists (size-identities of.Identities) (size-identities of.Identities) (size-identities of.Identities) size-noExternals size-noExternals) (omega arith)))
-    (size-pick (eqb result 2)
+    (by-test (Within _) (eqb result 2)
     (size-shaped _ _ _ _ _ (size-lists (size-identities of.Identities) size-noIdentities size-noIdentities size-externals size-externals))
     (size-more size-noPart (omega arith)))
 
@@ -137,4 +138,4 @@ interrogate-size r e = size-pdu r 2 (rw e size-interrogate)
 
 -- An INTERROGATE ACK is at most 2,456 bits, and no PDU is longer.
 pub pdu-size : (r : Record) → length (pdu .print r) ≤ 2456
-pdu-size r = size-pdu r 2049 (size-pick (eqb (r .kind) 11) (size-more size-interrogate (omega arith)) size-ack)
+pdu-size r = size-pdu r 2049 (by-test (Within _) (eqb (r .kind) 11) (size-more size-interrogate (omega arith)) size-ack)

@@ -11,8 +11,7 @@ use Rattle.bits.specs.Bits.{pick, value, bitsOf}
 use Rattle.bits.specs.Frame.{bitsIn, framed}
 use Rattle.bits.specs.Element.{windowAt}
 use Rattle.bits.proofs.Frames.{framed-says, length-pdu}
-use Rattle.bits.proofs.Elements.{same-pick}
-use Rattle.bits.proofs.Tests.{both}
+use Rattle.bits.proofs.Tests.{never, both, same-pick}
 use Rattle.codec.specs.Parts.{number, element, seq, tested, shaped, mark, only}
 use Rattle.codec.specs.Reading.{Answer, got, refused, andNext, readAt}
 use Rattle.codec.proofs.Reading.{andNext-assoc}
@@ -100,7 +99,7 @@ module _ (s : List ℕ) (n : ℕ) (f : framed s n ≡ true) where
     no-user e = go (readAt identity (bitsIn n s) 15) e
       where
         go : (o : Answer Identity) → walked o ≡ Off → judgedOf n (andNext o (λ u p. recordAt interrogateAck (bitsIn n s) 12 (one u) p)) ≡ Other
-        go (got u p) e = absurd (let z : _≡_ {A = ℕ} 0 1 = cc in omega arith)
+        go (got u p) e = never cc
         go (refused k p) e = refl
 
     pub judged-no-user : walk identity (bitsIn n s) 15 ≡ Off → judgedIs s n ≡ Other

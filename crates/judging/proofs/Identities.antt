@@ -1,14 +1,14 @@
 -- An identity, as the window at its place has it. Assumes nothing.
 use mathlib.Core.Path.{_≡_, refl, sym, ap, _∙_, subst}
-use mathlib.Core.Bool.{Bool, true, false}
 use mathlib.Core.List.{List}
 use Prim.Native.Nat.{ℕ, _+_, _/_, _%_, _^_, _≤_, _<_}
 use native.Mathlib.Omega.{arith}
 use lib.ListN.{length, take, drop}
 use lib.Dec.{eqb}
-use Rattle.bits.specs.Bits.{pick, bits, value}
+use Rattle.bits.specs.Bits.{bits, value}
 use Rattle.bits.specs.Frame.{bitsIn}
 use Rattle.bits.specs.Element.{windowAt}
+use Rattle.bits.proofs.Tests.{by-test}
 use Rattle.bits.proofs.Windows.{window-part}
 use Rattle.bits.proofs.Frames.{length-pdu}
 use Rattle.codec.specs.Reading.{got, readAt}
@@ -21,16 +21,12 @@ use Rattle.judging.specs.declared.walking.Walked.the-variants.{Off}
 use Rattle.judging.proofs.Walks.{walk-short}
 use Rattle.judging.proofs.Elements.{number-short}
 
-at-least : (b : Bool) → 25 ≤ pick b 49 25
-at-least true = omega arith
-at-least false = omega arith
-
 module _ {s : List ℕ} {n at : ℕ} (i : Inside s n at) where
   pub identity-short : n < at + 25 → walk identity (bitsIn n s) at ≡ Off
   identity-short h =
       let size = length-pdu s n (i .bytes) in
       walk-short identity (bitsIn n s) at (omega (arith, i .place)) 25
-      (λ a g. subst (λ (x : ℕ). 25 ≤ x) (sym (identity-length a)) (at-least (eqb (a .present) 1))) (omega arith)
+      (λ a g. subst (λ (x : ℕ). 25 ≤ x) (sym (identity-length a)) (by-test (λ (x : ℕ). 25 ≤ x) (eqb (a .present) 1) (omega arith) (omega arith))) (omega arith)
 
   module _ (h : at + 25 ≤ n) where
     there : at + 25 ≤ length (bitsIn n s)

@@ -1,6 +1,6 @@
 -- What judging a PDU says, step by step. Assumes nothing.
 use mathlib.Core.Path.{_≡_, refl, sym, ap, _∙_}
-use mathlib.Core.Bool.{Bool, true, false, _&&_}
+use mathlib.Core.Bool.{Bool, false, _&&_}
 use mathlib.Core.List.{List}
 use Prim.Native.Nat.{ℕ, zero, suc, _+_, _/_, _^_, _≤_, _<_}
 use native.Mathlib.Omega.{arith}
@@ -11,7 +11,7 @@ use Rattle.bits.specs.Bits.{pick, value, bitsOf}
 use Rattle.bits.specs.Frame.{bitsIn}
 use Rattle.bits.specs.Element.{windowAt}
 use Rattle.bits.proofs.Frames.{length-pdu}
-use Rattle.bits.proofs.Elements.{same-pick}
+use Rattle.bits.proofs.Tests.{never, false-unless, both, same-pick}
 use Rattle.codec.specs.Parts.{number, absent, element, seq, tested}
 use Rattle.codec.specs.Reading.{Answer, got, refused, andNext, unlessAt, readAt}
 use Rattle.codec.proofs.Reading.{andNext-assoc, readAt-absent, readAt-seq}
@@ -48,16 +48,11 @@ part-ends n result delivery (got a p) f = go (f p)
     go (refused k q) = sym (same-pick (leb 1 result && leb result 2) 0)
 
 off-part : (n : ℕ) (o : Answer Rest) → walked o ≡ Off → partAfter n o ≡ 0
-off-part n (got rest p) e = absurd (let z : _≡_ {A = ℕ} 0 1 = cc in omega arith)
+off-part n (got rest p) e = never cc
 off-part n (refused k p) e = refl
 
 not-both : (v : ℕ) → (1 ≤ v → v ≤ 2 → ⊥) → leb 1 v && leb v 2 ≡ false
-not-both v k = go (leb 1 v) refl (leb v 2) refl
-  where
-    go : (a : Bool) → leb 1 v ≡ a → (b : Bool) → leb v 2 ≡ b → a && b ≡ false
-    go true e true f = absurd (k (leb-true 1 v e) (leb-true v 2 f))
-    go true e false f = refl
-    go false e b f = refl
+not-both v k = false-unless _ (λ e. let p = both (leb 1 v) (leb v 2) e in k (leb-true 1 v (p .0)) (leb-true v 2 (p .1)))
 
 module _ {s : List ℕ} {n at : ℕ} (i : Inside s n at) where
   size : length (bitsIn n s) ≡ n

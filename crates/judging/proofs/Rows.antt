@@ -8,11 +8,13 @@ use native.Mathlib.Omega.{arith}
 use native.Mathlib.Numerals.{one-add}
 use borrow.Author.Tests.{leb-true, leb-false}
 use lib.ListN.{length, take, drop, length-drop}
-use lib.Seq.{take-add, drop-drop, length-take-le}
+use lib.Seq.{take-add, drop-drop}
 use lib.Arith.{lt-one}
 use lib.Pow.{pow-pos, pow-add, shr-lt}
 use lib.Dec.{eqb, leb}
 use Rattle.bits.specs.Bits.{pick, value}
+use Rattle.bits.proofs.Tests.{by-test, pick-both, pick-ap}
+use Rattle.bits.proofs.Lists.{length-part}
 use Rattle.bits.proofs.Numbers.{value-append, value-take-fits}
 use Rattle.codec.specs.Parts.{element}
 use Rattle.judging.specs.Walk.{walk, passing}
@@ -71,7 +73,7 @@ module _ (refuse : ℕ → ℕ) (w : ℕ) where
       → passing refuse w (j + k) (value (take (a + b) x)) ≡ passing refuse w j (value (take a x)) && passing refuse w k (value (take b (drop a x)))
   row-split j k a b ea eb x h =
       let rest : ℕ = value (take b (drop a x)) in
-      let size : length (take b (drop a x)) ≡ w * k = length-take-le b (drop a x) (omega (arith, length-drop a x)) ∙ eb in
+      let size : length (take b (drop a x)) ≡ w * k = length-part x a b h ∙ eb in
       ap (passing refuse w (j + k))
       (ap value (take-add a b x)
       ∙ value-append (take a x) (take b (drop a x))
@@ -81,18 +83,6 @@ module _ (refuse : ℕ → ℕ) (w : ℕ) where
 -- ---- a walk over them
 
 module _ (refuse : ℕ → ℕ) (w : ℕ) (some : 1 ≤ w) (l : List Bool) where
-  on-pick : (b : Bool) (p : ℕ) (f : ℕ → Walked) → onward (pick b (At p) Off) f ≡ pick b (f p) Off
-  on-pick true p f = refl
-  on-pick false p f = refl
-
-  pick-both : (a b : Bool) (x : Walked) → pick a (pick b x Off) Off ≡ pick (a && b) x Off
-  pick-both true b x = refl
-  pick-both false b x = refl
-
-  first-off : (b : Bool) (p : ℕ) (f : ℕ → Walked) → f p ≡ Off → onward (pick b (At p) Off) f ≡ Off
-  first-off true p f e = e
-  first-off false p f e = refl
-
   -- the first of suc k elements
   first-passing : (k at : ℕ) → at + w + w * k ≤ length l
       → passing refuse w (suc k) (value (take (w + w * k) (drop at l)))
@@ -115,9 +105,9 @@ module _ (refuse : ℕ → ℕ) (w : ℕ) (some : 1 ≤ w) (l : List Bool) where
       let i : at + w + w * k ≤ length l = omega arith in
       let p : at + w + w * k ≡ at + (w + w * k) = omega arith in
       ap (λ (x : Walked). onward x (steps (walk (element w refuse) l) k)) (walk-element w l at some refuse (omega arith))
-      ∙ on-pick (eqb (refuse (value (take w (drop at l)))) 0) (at + w) (steps (walk (element w refuse) l) k)
+      ∙ pick-ap (λ (x : Walked). onward x (steps (walk (element w refuse) l) k)) (eqb (refuse (value (take w (drop at l)))) 0) (At (at + w)) Off
       ∙ ap (λ (x : Walked). pick (eqb (refuse (value (take w (drop at l)))) 0) x Off) (row-there k (at + w) i)
-      ∙ pick-both (eqb (refuse (value (take w (drop at l)))) 0) (passing refuse w k (value (take (w * k) (drop (at + w) l)))) (At (at + w + w * k))
+      ∙ pick-both (eqb (refuse (value (take w (drop at l)))) 0) (passing refuse w k (value (take (w * k) (drop (at + w) l)))) (At (at + w + w * k)) Off
       ∙ ap₂ (λ (b : Bool) (q : ℕ). pick b (At q) Off) (sym (first-passing k at i)) p
       ∙ ap (λ (j : ℕ). pick (passing refuse w (suc k) (value (take j (drop at l)))) (At (at + j)) Off) (sym m)
 
@@ -131,5 +121,5 @@ module _ (refuse : ℕ → ℕ) (w : ℕ) (some : 1 ≤ w) (l : List Bool) where
       go true e rest =
           let j : at + w ≤ length l = leb-true (at + w) (length l) e in
           rw (walk-element w l at some refuse j)
-          (first-off (eqb (refuse (value (take w (drop at l)))) 0) (at + w) (steps (walk (element w refuse) l) k) (rest j))
+          (by-test (λ (x : Walked). onward x (steps (walk (element w refuse) l) k) ≡ Off) (eqb (refuse (value (take w (drop at l)))) 0) (rest j) refl)
       go false e rest = rw (walk-cut w l at some refuse (leb-false (at + w) (length l) e))

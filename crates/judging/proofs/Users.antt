@@ -9,6 +9,7 @@ use lib.ListN.{replicate}
 use lib.Dec.{ltb, leb}
 use Rattle.bits.specs.Bits.{pick}
 use Rattle.bits.specs.Frame.{bitsIn, framed}
+use Rattle.bits.proofs.Tests.{never}
 use Rattle.codec.specs.Parts.{tested}
 use Rattle.codec.specs.Places.{places}
 use Rattle.codec.specs.Reading.{Answer, got, refused, andNext, readAt}
@@ -34,7 +35,7 @@ judgedOf n (got r at) = pick (ltb at n) Other (pick (mayHold r) (Part (userOf r)
 judgedOf n (refused k p) = Other
 
 pub off-judged : (n : ℕ) (o : Answer Record) → walked o ≡ Off → judgedOf n o ≡ Other
-off-judged n (got r p) e = absurd (let z : _≡_ {A = ℕ} 0 1 = cc in omega arith)
+off-judged n (got r p) e = never cc
 off-judged n (refused k p) e = refl
 
 pub judged-unframed : (s : List ℕ) (n : ℕ) → framed s n ≡ false → judgedIs s n ≡ Other

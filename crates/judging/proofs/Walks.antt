@@ -5,6 +5,7 @@ use mathlib.Core.List.{List, _∷_, _++_}
 use Prim.Native.Nat.{ℕ, zero, suc, _+_, _-_, _≤_, _<_}
 use native.Mathlib.Omega.{arith}
 use lib.ListN.{length, drop, length-append, length-drop}
+use Rattle.bits.proofs.Tests.{never}
 use Rattle.codec.specs.Codec.{Outcome, ok, no, Right, Codec, Legal}
 use Rattle.codec.specs.Parts.{seq, shaped}
 use Rattle.codec.specs.Places.{cons, places}
@@ -25,7 +26,7 @@ onward-same Off h = refl
 
 -- nothing follows a walk that is off
 pub off-next : {A B : Type 0} (o : Answer A) (k : A → ℕ → Answer B) → walked o ≡ Off → walked (andNext o k) ≡ Off
-off-next (got a p) k e = absurd (let z : _≡_ {A = ℕ} 0 1 = cc in omega arith)
+off-next (got a p) k e = never cc
 off-next (refused n p) k e = refl
 
 -- a walk does not depend on what is made of the value
@@ -120,7 +121,7 @@ module _ {A : Type 0} (c : Codec A) (l : List Bool) (at : ℕ) (start : at ≤ l
 
   pub walk-inside : {p : ℕ} → walk c l at ≡ At p → p ≤ length l
   walk-inside {p} =
-      walk-cases (λ w. w ≡ At p → p ≤ length l) (λ e. absurd (let z : _≡_ {A = ℕ} 0 1 = cc in omega arith))
+      walk-cases (λ w. w ≡ At p → p ≤ length l) (λ e. never cc)
       (λ a g h e. let q : at + length (c .print a) ≡ p = cc in omega arith)
 
   -- a part that is never so short is not there

@@ -5,7 +5,7 @@ use mathlib.Core.List.{[], _∷_}
 use Prim.Native.Nat.{ℕ, _^_}
 use lib.Dec.{ltb}
 use Rattle.bits.specs.Bits.{pick}
-use Rattle.bits.proofs.Tests.{both}
+use Rattle.bits.proofs.Tests.{both, by-test}
 use Rattle.codec.specs.Codec.{Codec, first}
 use Rattle.codec.specs.Parts.{isZero, is-zero, number, absent, element, seq, tested, shaped, mark}
 use Rattle.codec.specs.Places.{nil, cons}
@@ -23,10 +23,6 @@ pub data ThreeOrFour : ℕ → Type 0 where
   three : ThreeOrFour 3
   four : ThreeOrFour 4
 
-fits : (t : Bool) → ThreeOrFour (pick t 0 3)
-fits true = none
-fits false = three
-
 firstly : {m n : ℕ} → ThreeOrFour m → ThreeOrFour n → ThreeOrFour (first m n)
 firstly none k = k
 firstly three k = three
@@ -39,7 +35,7 @@ Within A c = (a : A) → ThreeOrFour (c .fault a)
 within : Kept ThreeOrFour Within
 unfolding number absent tested seq nil cons shaped
 within = record {
-  number = λ w v. fits (ltb v (2 ^ w));
+  number = λ w v. by-test ThreeOrFour (ltb v (2 ^ w)) none three;
   absent = λ v. none;
   tested = λ c test into codes h a. firstly (h a) (codes a);
   seq = λ c d h k p. firstly (h (p .0)) (k (p .0) (p .1));

@@ -2,7 +2,7 @@
 -- and what was written is read as the same record. Assumes nothing.
 use mathlib.Core.Path.{_≡_, refl, sym, ap, ap₂, _∙_}
 use mathlib.Core.Logic.{_↔_}
-use mathlib.Core.Bool.{Bool, true, false, _&&_}
+use mathlib.Core.Bool.{Bool, true, _&&_}
 use mathlib.Core.List.{List, _++_}
 use Prim.Native.Nat.{ℕ, zero, suc, _≤_}
 use native.Mathlib.Omega.{arith}
@@ -13,7 +13,7 @@ use lib.Dec.{leb}
 use Rattle.bits.specs.Bits.{pick, Bytes}
 use Rattle.bits.specs.Frame.{bytesFor, bitsIn, framed, Framed, pack}
 use Rattle.bits.proofs.Frames.{framed-says, framed-is, framed-pack, length-bitsIn, length-pack, pack-bitsIn, bitsIn-pack}
-use Rattle.bits.proofs.Tests.{both, both⁻¹}
+use Rattle.bits.proofs.Tests.{never, both, both⁻¹, picked}
 use Rattle.bits.specs.declared.BitCount.{BitCount}
 use Rattle.codec.specs.Codec.{Outcome, ok, no, Legal, first}
 use Rattle.codec.specs.Parts.{first-none, numberFault, number, seq, tested, element, shaped, mark, only, isZero}
@@ -34,7 +34,7 @@ use Rattle.pdu.specs.Accepting.{accepting, WritingOf}
 -- ---- what is accepted
 
 refusing-not : {A : Type 0} (k : ℕ) (r : Record) → refusing k ≡ accepting r → A
-refusing-not k r e = absurd (let f : Refused k ≡ Accepted = ap (λ (x : Reading). x .answer) e in let z : _≡_ {A = ℕ} 0 1 = cc in omega arith)
+refusing-not k r e = let f : Refused k ≡ Accepted = ap (λ (x : Reading). x .answer) e in never cc
 
 read-as : (l : List Bool) (r : Record) (o : Outcome Record) → wholeParse pdu l ≡ o → answered o ≡ accepting r → Legal pdu r × (l ≡ pdu .print r)
 read-as l r (ok a at left) e f =
@@ -44,11 +44,7 @@ read-as l r (no k p) e f = refusing-not k r f
 
 framed-first : (s : List ℕ) (n : ℕ) (r : Record) → readIs s n ≡ accepting r → framed s n ≡ true
 unfolding readIs
-framed-first s n r e = go (framed s n) e
-  where
-    go : (t : Bool) → pick t (answered (wholeParse pdu (bitsIn n s))) (refusing 1) ≡ accepting r → t ≡ true
-    go true e = refl
-    go false e = refusing-not 1 r e
+framed-first s n r e = picked (framed s n) e (refusing-not 1 r) .0
 
 pub accepted-framed : (s : List ℕ) (n : ℕ) (r : Record) → readIs s n ≡ accepting r → Framed s n
 accepted-framed s n r e = framed-says s n (framed-first s n r e)
@@ -96,15 +92,11 @@ kind-read r e =
     let b = first-none kind tail (a .1) in
     first-none (numberFault 5 (r .kind)) (kindRefusal (r .kind)) (b .0) .1
 
-picked : (t : Bool) (n : ℕ) → pick t n 3 ≡ 0 → (t ≡ true) × (n ≡ 0)
-picked true n e = (refl, e)
-picked false n e = absurd (omega arith)
-
 -- 3 and 4 are given exactly to the records that are not legal
 pub legal-iff : (r : Record) → (recordRefusal r ≡ 0) ↔ Legal pdu r
 unfolding recordRefusal
 legal-iff r = (
-  λ e. let k = picked (isZero (kindRefusal (r .kind)) && pdu .clean r) (pdu .fault r) e in
+  λ e. let k = picked (isZero (kindRefusal (r .kind)) && pdu .clean r) e (λ x. omega arith) in
       record { clean = both (isZero (kindRefusal (r .kind))) (pdu .clean r) (k .0) .1; faultless = k .1 },
   λ h. let q : isZero (kindRefusal (r .kind)) ≡ true = ap isZero (kind-read r (h .faultless)) in
       let t : isZero (kindRefusal (r .kind)) && pdu .clean r ≡ true = both⁻¹ q (h .clean) in
@@ -122,7 +114,7 @@ module _ (r : Record) (out : List ℕ) where
 
   written-fits : (k n : ℕ) → written (lengthOf r) k ≡ Bits (record { 0 = n }) → (k ≡ 0) × (n ≡ lengthOf r)
   written-fits zero n e = let q : _≡_ {A = BitCount} (record { 0 = lengthOf r }) (record { 0 = n }) = cc in (refl, sym (ap (λ (b : BitCount). b .0) q))
-  written-fits (suc k) n e = absurd (let z : _≡_ {A = ℕ} 0 1 = cc in omega arith)
+  written-fits (suc k) n e = never cc
 
   -- reading what was written gives the same record
   pub read-written : (n : ℕ) → writeIs r out ≡ Bits (record { 0 = n }) → readIs (take (bytesFor n) (outIs r out)) n ≡ accepting r

@@ -1,10 +1,10 @@
 -- What the six rules say together, by cases on which of them applies. Assumes nothing.
-use mathlib.Core.Path.{_≡_, refl, ap}
+use mathlib.Core.Path.{_≡_, ap}
 use mathlib.Core.Bool.{Bool, true, false, not, _&&_}
 use Prim.Native.Nat.{ℕ}
-use native.Mathlib.Omega.{arith}
 use borrow.Author.Tests.{eq-eqb}
 use Rattle.bits.specs.Bits.{pick}
+use Rattle.bits.proofs.Tests.{never, same-pick}
 use Rattle.grammar.specs.declared.record.Record.{Record}
 use Rattle.rules.specs.Matching.{covered}
 use Rattle.rules.specs.Rule.{isExcepted, isRestricted, isOutside, inGroups, bothEmpty, ruling, ruled, outsideGroup, restrictedService, restrictedAddress}
@@ -20,10 +20,7 @@ module _ (home : ℕ) (r : Record) (q : Request) where
   -- an excepted destination is never barred
   pub excepted-allowed : isExcepted home (r .lists) (q .destination) (q .digits) ≡ true → ruling home r q ≡ Allowed
   unfolding ruling ruled
-  excepted-allowed h = rw h (either (covered (r .services) (q .service))) where
-    either : (listed : Bool) → pick (not listed) Allowed Allowed ≡ Allowed
-    either true = refl
-    either false = refl
+  excepted-allowed h = rw h (same-pick (not (covered (r .services) (q .service))) Allowed)
 
   -- an empty group list bars no call for its group
   inside : r .lists .groups .code ≡ 0 → isOutside home (r .lists .groups) (q .group) ≡ false
@@ -33,13 +30,13 @@ module _ (home : ℕ) (r : Record) (q : Request) where
   pub no-groups : r .lists .groups .code ≡ 0 → ruling home r q ≡ Barred outsideGroup → ⊥
   unfolding ruling ruled
   no-groups h e =
-      never (covered (r .services) (q .service)) (isExcepted home (r .lists) (q .destination) (q .digits))
+      apart (covered (r .services) (q .service)) (isExcepted home (r .lists) (q .destination) (q .digits))
       (isRestricted home (r .lists) (q .destination) (q .digits)) (bothEmpty (r .lists) (q .destination)) (rw (inside h) at e)
     where
-      never : (a b c d : Bool)
+      apart : (a b c d : Bool)
           → pick (not a) Allowed (pick b Allowed (pick c (Barred restrictedAddress) (pick d (Barred restrictedService) Allowed))) ≡ Barred outsideGroup → ⊥
-      never false b c d e = let z : _≡_ {A = ℕ} 0 1 = cc in omega arith
-      never true true c d e = let z : _≡_ {A = ℕ} 0 1 = cc in omega arith
-      never true false true d e = let z : _≡_ {A = ℕ} 0 1 = cc in omega arith
-      never true false false true e = let z : _≡_ {A = ℕ} 0 1 = cc in omega arith
-      never true false false false e = let z : _≡_ {A = ℕ} 0 1 = cc in omega arith
+      apart false b c d e = never cc
+      apart true true c d e = never cc
+      apart true false true d e = never cc
+      apart true false false true e = never cc
+      apart true false false false e = never cc

@@ -8,9 +8,10 @@ use lib.ListN.{length}
 use lib.Dec.{eqb}
 use Rattle.bits.specs.Bits.{pick, Bytes}
 use Rattle.bits.specs.Lists.{Each}
+use Rattle.bits.proofs.Tests.{by-test}
 use Rattle.codec.specs.Codec.{Codec, Legal}
 use Rattle.codec.specs.Parts.{absent, seq}
-use Rattle.codec.proofs.Legality.{legal-seq, legal-shaped, legal-tested, legal-mark, legal-element, legal-absent, legal-places}
+use Rattle.codec.proofs.Legality.{legal-seq, legal-shaped, legal-tested, legal-mark, legal-element, legal-absent, legal-places, legal-length}
 use Rattle.grammar.specs.SiteSheet.{entriesOf}
 use Rattle.grammar.specs.Grammar.{identities, noIdentities, external, noExternal, externals, noExternals, services, noServices, identityPart, numberPart, noPart, Rest, interrogate, interrogateAck, fromLists, fromRecord, pdu}
 use Rattle.grammar.specs.declared.site.Listing.{Listing}
@@ -78,19 +79,19 @@ numbers-sized l h = (h .0, go (l .entries) (h .1))
 identities-sized : (k : Listing) (l : Identities) → Legal (identities k) l → SizedIdentities l
 unfolding identities
 identities-sized k l h =
-    legal-places (λ e. Unit) (λ e x. tt) (λ e x. tt) 8 (entriesOf (l .code)) (l .entries) (legal-tested _ _ _ _ (legal-seq _ _ _ (legal-shaped _ _ _ _ _ _ h) .1)) .0
+    legal-length _ _ 8 (entriesOf (l .code)) (l .entries) (legal-tested _ _ _ _ (legal-seq _ _ _ (legal-shaped _ _ _ _ _ _ h) .1))
 
 no-identities-sized : (l : Identities) → Legal noIdentities l → SizedIdentities l
 unfolding noIdentities
-no-identities-sized l h = legal-places (λ e. Unit) (λ e x. tt) (λ e x. tt) 8 0 (l .entries) (legal-seq _ _ _ (legal-shaped _ _ _ _ _ _ h) .1) .0
+no-identities-sized l h = legal-length _ _ 8 0 (l .entries) (legal-seq _ _ _ (legal-shaped _ _ _ _ _ _ h) .1)
 
 services-sized : (s : Services) → Legal services s → length (s .list) ≡ 7
 unfolding services
-services-sized s h = legal-places (λ e. Unit) (λ e x. tt) (λ e x. tt) 7 (s .count) (s .list) (legal-seq _ _ _ (legal-shaped _ _ _ _ _ _ h) .1) .0
+services-sized s h = legal-length _ _ 7 (s .count) (s .list) (legal-seq _ _ _ (legal-shaped _ _ _ _ _ _ h) .1)
 
 no-services-sized : (s : Services) → Legal noServices s → length (s .list) ≡ 7
 unfolding noServices
-no-services-sized s h = legal-places (λ e. Unit) (λ e x. tt) (λ e x. tt) 7 0 (s .list) (legal-seq _ _ _ (legal-shaped _ _ _ _ _ _ h) .1) .0
+no-services-sized s h = legal-length _ _ 7 0 (s .list) (legal-seq _ _ _ (legal-shaped _ _ _ _ _ _ h) .1)
 
 -- ---- the five lists, by the result
 
@@ -149,17 +150,13 @@ ack-small q h =
     let s = legal-seq _ _ _ (legal-seq _ _ _ (legal-seq _ _ _ (legal-seq _ _ _ h .1) .1) .1) in
     (services-sized _ (s .0), part-small (eqb (q .1 .0) 1) (eqb (q .1 .0) 2) _ (s .1))
 
-rest-small : (eleven : Bool) (q : Rest) → Legal (pick eleven interrogate interrogateAck) q → SmallRest q
-rest-small true q h = interrogate-small q h
-rest-small false q h = ack-small q h
-
 module _ (r : Record) (h : Legal pdu r) where
   users : Legal (identities Users) (r .affected) × Legal (pick (eqb (r .kind) 11) interrogate interrogateAck) (fromRecord r .1 .1)
   unfolding pdu
   users = legal-seq _ _ _ (legal-seq _ _ _ (legal-shaped _ _ _ _ _ _ (legal-mark _ _ _ _ h)) .1)
 
   rest : SmallRest (fromRecord r .1 .1)
-  rest = rest-small (eqb (r .kind) 11) (fromRecord r .1 .1) (users .1)
+  rest = let q = fromRecord r .1 .1 in by-test (λ (c : Codec Rest). Legal c q → SmallRest q) (eqb (r .kind) 11) (interrogate-small q) (ack-small q) (users .1)
 
   pub record-sized : SizedRecord r
   record-sized = record { affected = identities-sized _ _ (users .0); services = rest .0; lists = rest .1 .sized }

@@ -1,12 +1,13 @@
 -- Writing by cases: which refusal is given, and when there is none. Assumes nothing.
 use mathlib.Core.Path.{_≡_, refl}
-use mathlib.Core.Bool.{Bool, true, false, and-false}
+use mathlib.Core.Bool.{true, false, and-false}
 use Prim.Native.Nat.{ℕ, zero, suc, _≤_}
 use native.Mathlib.Omega.{arith}
 use borrow.Author.Tests.{leb-true}
 use lib.Dec.{leb}
 use Rattle.bits.specs.Bits.{pick}
 use Rattle.bits.specs.Frame.{bytesFor}
+use Rattle.bits.proofs.Tests.{never, picked}
 use Rattle.bits.specs.declared.BitCount.{BitCount}
 use Rattle.codec.specs.Codec.{first}
 use Rattle.codec.specs.Parts.{isZero, first-none}
@@ -33,11 +34,9 @@ module _ (r : Record) (room : ℕ) where
   -- what is not refused has room
   pub has-room : writeRefusal r room ≡ 0 → bytesFor (lengthOf r) ≤ room
   unfolding writeRefusal
-  has-room e = go (leb (bytesFor (lengthOf r)) room) refl (first-none (recordRefusal r) _ e .1)
-    where
-      go : (t : Bool) → leb (bytesFor (lengthOf r)) room ≡ t → pick {A = ℕ} t 0 8 ≡ 0 → bytesFor (lengthOf r) ≤ room
-      go true e h = leb-true (bytesFor (lengthOf r)) room e
-      go false e h = absurd (omega arith)
+  has-room e =
+      let fits = leb (bytesFor (lengthOf r)) room in
+      leb-true (bytesFor (lengthOf r)) room (picked fits (first-none (recordRefusal r) (pick fits 0 8) e .1) (λ x. omega arith) .0)
 
 -- ---- the answer of a refusal number
 
@@ -50,9 +49,9 @@ written-some bits zero h = absurd (h refl)
 written-some bits (suc n) h = refl
 
 pub refused-some : (bits n : ℕ) {k : ℕ} → written bits n ≡ Refused k → isZero n ≡ false
-refused-some bits zero e = absurd (let z : _≡_ {A = ℕ} 0 1 = cc in omega arith)
+refused-some bits zero e = never cc
 refused-some bits (suc n) e = refl
 
 pub bits-none : (bits n : ℕ) {k : BitCount} → written bits n ≡ Bits k → n ≡ 0
 bits-none bits zero e = refl
-bits-none bits (suc n) e = absurd (let z : _≡_ {A = ℕ} 0 1 = cc in omega arith)
+bits-none bits (suc n) e = never cc
