@@ -4,9 +4,9 @@ use mathlib.Core.Bool.{true}
 use mathlib.Core.List.{List}
 use Prim.Native.Nat.{ℕ}
 use borrow.Author.Needs.{needs}
-use borrow.Author.Tests.{not-true, not-false}
 use denote.Ref.{now}
 use lib.ListN.{length}
+use Rattle.bits.proofs.Tests.{said-no, said-yes}
 use Rattle.reader.specs.Read.{readIs}
 use Rattle.reader.specs.declared.Answer.the-variants.{Accepted}
 use Rattle.judging.specs.Judge.{mayHold}
@@ -25,11 +25,11 @@ use Rattle.archive.proofs.capture.Tie as tie
 returns : tie.Need-returns
 returns c =
     let a = c .before .before .before .before .before .args in
-    let e = no-archive (now (a .archive)) (now (a .body)) (a .n .0) (length (now (a .out))) (sym (c .before .check .ensures) ∙ not-true _ (c .if1 .taken)) in
+    let e = no-archive (now (a .archive)) (now (a .body)) (a .n .0) (length (now (a .out))) (said-no (c .before .check .ensures) (c .if1 .taken)) in
     (sym e, sym (capture-leaves _ _ _ (now (a .out)) e))
 
 ok : (c : tie.Else1) → isArchive (now (c .before .before .before .before .before .args .archive)) ≡ true
-ok c = sym (c .before .check .ensures) ∙ not-false _ (c .if1 .left)
+ok c = said-yes (c .before .check .ensures) (c .if1 .left)
 
 -- the archive's bytes, the PDU, its bit length and the lent buffer
 abbrev b-of : tie.After-filing-of → List ℕ

@@ -3,8 +3,9 @@ use mathlib.Core.Path.{_≡_, sym, ap, _∙_}
 use mathlib.Core.Bool.{true}
 use native.Mathlib.Omega.{arith}
 use borrow.Author.Needs.{needs}
-use borrow.Author.Tests.{not-true, not-false, eq-eqb, ne-eqb}
+use borrow.Author.Tests.{eq-eqb, ne-eqb}
 use denote.Ref.{now}
+use Rattle.bits.proofs.Tests.{said-no, said-yes}
 use Rattle.archive.specs.Reading.{isArchive}
 use Rattle.archive.specs.Restoring.{inRange, fetchIs}
 use Rattle.archive.proofs.Placing.{placeIn}
@@ -13,10 +14,10 @@ use Rattle.archive.proofs.fetch.Statement.{statement}
 use Rattle.archive.proofs.fetch.Tie as tie
 
 ok : (c : tie.Else1) → isArchive (now (c .before .before .before .args .archive)) ≡ true
-ok c = sym (c .before .check .ensures) ∙ not-false _ (c .if1 .left)
+ok c = said-yes (c .before .check .ensures) (c .if1 .left)
 
 within : (c : tie.Else2) → inRange (c .before .before .before .before .before .args .network) (c .before .before .before .before .before .args .ssi) (c .before .before .before .before .before .args .part) ≡ true
-within c = sym (c .before .in-range .ensures) ∙ not-false _ (c .if2 .left)
+within c = said-yes (c .before .in-range .ensures) (c .if2 .left)
 
 -- the answer of the place that was found
 found : (c : tie.After-find)
@@ -30,10 +31,10 @@ found c =
     ∙ sym (ap fetchedOf (c .find .ensures ∙ ap (placeIn (now (a .archive))) (c .before .key-of .ensures)))
 
 returns : tie.Need-returns
-returns c = sym (fetch-none _ _ _ _ (sym (c .before .check .ensures) ∙ not-true _ (c .if1 .taken)))
+returns c = sym (fetch-none _ _ _ _ (said-no (c .before .check .ensures) (c .if1 .taken)))
 
 returns-2 : tie.Need-returns-2
-returns-2 c = sym (fetch-out _ _ _ _ (ok (c .before .before)) (sym (c .before .in-range .ensures) ∙ not-true _ (c .if2 .taken)))
+returns-2 c = sym (fetch-out _ _ _ _ (ok (c .before .before)) (said-no (c .before .in-range .ensures) (c .if2 .taken)))
 
 key-of-requires : tie.Need-key-of-requires
 key-of-requires c κs =

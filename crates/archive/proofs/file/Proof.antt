@@ -4,10 +4,10 @@ use mathlib.Core.List.{List}
 use Prim.Native.Nat.{ℕ, _+_, _-_}
 use native.Mathlib.Omega.{arith}
 use borrow.Author.Needs.{needs}
-use borrow.Author.Tests.{not-true, not-false}
 use denote.Ref.{now}
 use lib.ListN.{length}
 use Rattle.bits.specs.Bits as are
+use Rattle.bits.proofs.Tests.{said-no, said-yes}
 use Rattle.archive.specs.Model.{Held, bytesOf, lengthOf, withinLimits}
 use Rattle.archive.specs.Reading.{heldIn, reading}
 use Rattle.archive.specs.Keeping.{over, put, with}
@@ -70,7 +70,7 @@ spliced-length-requires c κs =
     (inside f, omega (arith, pre .2, pre .1 .bits))
 
 returns : tie.Need-returns
-returns c = (placed-over _ _ (sym (limits (c .before)) ∙ not-true _ (c .if1 .taken)), refl)
+returns c = (placed-over _ _ (said-no (limits (c .before)) (c .if1 .taken)), refl)
 
 returns-2 : tie.Need-returns-2
 returns-2 c = (placed-short _ _ (omega (arith, sized (c .before .before .before))), refl)
@@ -103,7 +103,7 @@ returns-3 c =
     w .0 ∙ length-spliced (b-of f) (f .find .result) (count .count .result + 1 - f .find .result .entries) (h-of f .entry) (h-of f .body) (inside f)
     ∙ sym (within .before .spliced-length .ensures) ∙ sized (within .before)
     in (
-      ap (λ (k : ℕ). Bytes k) l ∙ placed-whole _ _ (sym (limits within) ∙ not-false _ (test .before .if1 .left)) (omega (arith, sized (within .before), test .if2 .left)),
+      ap (λ (k : ℕ). Bytes k) l ∙ placed-whole _ _ (said-yes (limits within) (test .before .if1 .left)) (omega (arith, sized (within .before), test .if2 .left)),
       w .1 ∙ ap (λ (k : List ℕ). over k (now (start .args .out))) e,
     )
 

@@ -4,9 +4,9 @@ use mathlib.Core.Bool.{true}
 use mathlib.Core.List.{List}
 use Prim.Native.Nat.{ℕ}
 use borrow.Author.Needs.{needs}
-use borrow.Author.Tests.{not-true, not-false}
 use denote.Ref.{now}
 use lib.ListN.{length}
+use Rattle.bits.proofs.Tests.{said-no, said-yes}
 use Rattle.archive.specs.Restoring.{inRange, fetchIs, restores, restoreIs}
 use Rattle.archive.specs.declared.Fetched.{Fetched}
 use Rattle.archive.proofs.Restoring.{out-of-range, none-found, not-found, found-at, found-body, restore-leaves}
@@ -16,11 +16,11 @@ use Rattle.archive.proofs.restore.Tie as tie
 returns : tie.Need-returns
 returns c =
     let a = c .before .before .before .before .args in
-    let e = out-of-range (now (a .archive)) (a .network) (a .ssi) (a .part) (length (now (a .out))) (sym (c .before .in-range .ensures) ∙ not-true _ (c .if1 .taken)) in
+    let e = out-of-range (now (a .archive)) (a .network) (a .ssi) (a .part) (length (now (a .out))) (said-no (c .before .in-range .ensures) (c .if1 .taken)) in
     (sym e, sym (restore-leaves _ _ _ _ (now (a .out)) e))
 
 within : (c : tie.Else1) → inRange (c .before .before .before .before .args .network) (c .before .before .before .before .args .ssi) (c .before .before .before .before .args .part) ≡ true
-within c = sym (c .before .in-range .ensures) ∙ not-false _ (c .if1 .left)
+within c = said-yes (c .before .in-range .ensures) (c .if1 .left)
 
 -- what fetch found
 found : (c : tie.After-fetch) {f : Fetched} → c .fetch .result ≡ f

@@ -1,11 +1,11 @@
 -- The request of 34 words or 9; then the decision passed on. Assumes nothing.
-use mathlib.Core.Path.{_≡_, sym, ap, _∙_}
+use mathlib.Core.Path.{_≡_, ap, _∙_}
 use mathlib.Core.Bool.{true}
 use mathlib.Core.List.{List}
 use Prim.Native.Nat.{ℕ}
 use borrow.Author.Needs.{needs}
-use borrow.Author.Tests.{not-true, not-false}
 use denote.Ref.{now}
+use Rattle.bits.proofs.Tests.{said-no, said-yes}
 use Rattle.words.specs.RequestWords.{isRequest, requestFrom}
 use Rattle.words.specs.declared.request.GivenRequest.{GivenRequest}
 use Rattle.words.proofs.Given.{request-given, request-asked}
@@ -24,14 +24,14 @@ given c = ap (λ (g : GivenRequest). g .given) (c .request-from .ensures) ∙ re
 
 returns : tie.Need-returns
 unfolding decideNumber decision
-returns c = let e = sym (given (c .before .before)) ∙ not-true _ (c .if1 .taken) in (rw e, rw e)
+returns c = let e = said-no (given (c .before .before)) (c .if1 .taken) in (rw e, rw e)
 
 -- the words are a request's
 abbrev from-of : tie.After-decide → tie.After-request-from
 from-of c = c .before .before .before
 
 whole : (c : tie.After-decide) → isRequest (words-of (from-of c)) ≡ true
-whole c = sym (given (from-of c)) ∙ not-false _ (c .before .if1 .left)
+whole c = said-yes (given (from-of c)) (c .before .if1 .left)
 
 -- what the decision is
 answer : (c : tie.After-decide) →

@@ -1,12 +1,12 @@
 -- The record of 514 words or 9; then the writer's answer passed on. Assumes nothing.
-use mathlib.Core.Path.{_≡_, sym, ap, _∙_}
+use mathlib.Core.Path.{_≡_, ap, _∙_}
 use mathlib.Core.Bool.{true}
 use mathlib.Core.List.{List}
 use Prim.Native.Nat.{ℕ}
 use borrow.Author.Needs.{needs}
-use borrow.Author.Tests.{not-true, not-false}
 use denote.Ref.{now}
 use lib.ListN.{length}
+use Rattle.bits.proofs.Tests.{said-no, said-yes}
 use Rattle.grammar.specs.declared.record.Record.{Record}
 use Rattle.writer.specs.Write.{writeIs, outIs, writtenNumber}
 use Rattle.words.specs.RecordWords.{areRecord, recordFrom}
@@ -25,14 +25,14 @@ given c = ap (λ (g : GivenRecord). g .given) (c .record-from .ensures) ∙ reco
 
 returns : tie.Need-returns
 unfolding writeNumber writeOut writeBits
-returns c = let e = sym (given (c .before .before)) ∙ not-true _ (c .if1 .taken) in (rw e, (rw e, rw e))
+returns c = let e = said-no (given (c .before .before)) (c .if1 .taken) in (rw e, (rw e, rw e))
 
 -- there are 514 words
 abbrev from-of : tie.After-write → tie.After-record-from
 from-of c = c .before .before .before .before
 
 whole : (c : tie.After-write) → areRecord (length (words-of (from-of c))) ≡ true
-whole c = sym (given (from-of c)) ∙ not-false _ (c .before .before .if1 .left)
+whole c = said-yes (given (from-of c)) (c .before .before .if1 .left)
 
 -- what the writer answers and leaves, for their record
 answer : (c : tie.After-write) →

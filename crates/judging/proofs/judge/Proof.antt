@@ -1,15 +1,15 @@
 -- The frame, the head, the user, and what follows. Assumes nothing.
 use mathlib.Core.Path.{_≡_, sym, ap, ap₂, _∙_}
 use mathlib.Core.Bool.{true}
-use Prim.Native.Nat.{ℕ, _/_, _%_, _^_, _≤_}
+use Prim.Native.Nat.{ℕ, _/_, _^_, _≤_}
 use native.Mathlib.Omega.{arith}
 use borrow.Author.Needs.{needs}
-use borrow.Author.Tests.{not-true, not-false}
 use denote.Ref.{now}
 use Rattle.bits.specs.Frame.{framed}
 use Rattle.bits.specs.Element.{windowAt}
 use Rattle.bits.proofs.Frames.{framed-says}
-use Rattle.grammar.specs.declared.record.Identity.{Identity}
+use Rattle.bits.proofs.Tests.{said-no, said-yes}
+use Rattle.reader.proofs.Windows.{plainIn, wideIn}
 use Rattle.judging.specs.Walk.{Inside, held}
 use Rattle.judging.proofs.Identities.{identity-plain, identity-wide, identity-cut}
 use Rattle.judging.proofs.Users.{judged-unframed}
@@ -18,10 +18,10 @@ use Rattle.judging.proofs.judge.Statement.{statement}
 use Rattle.judging.proofs.judge.Tie as tie
 
 returns : tie.Need-returns
-returns c = sym (judged-unframed _ _ (sym (c .before .is-framed .ensures) ∙ not-true _ (c .if1 .taken)))
+returns c = sym (judged-unframed _ _ (said-no (c .before .is-framed .ensures) (c .if1 .taken)))
 
 frame : (c : tie.Else1) → let a = c .before .before .before .args in framed (now (a .s)) (a .n .0) ≡ true
-frame c = sym (c .before .is-framed .ensures) ∙ not-false _ (c .if1 .left)
+frame c = said-yes (c .before .is-framed .ensures) (c .if1 .left)
 
 returns-2 : tie.Need-returns-2
 returns-2 c = sym (judged-short _ _ (frame (c .before)) (omega arith))
@@ -42,9 +42,8 @@ returns-4 : tie.Need-returns-4
 returns-4 c =
     let d = c .before .before .before .before in
     let w = c .before .before .before .window2 .ensures in
-    let plain : ℕ → Identity = λ x. record { ssi = x / 2 ^ 33; present = 0; extension = 0 } in
     c .held .ensures
-    ∙ ap₂ held (ap plain w) (c .before .part-after .ensures)
+    ∙ ap₂ held (ap plainIn w) (c .before .part-after .ensures)
     ∙ sym (judged-user _ _ (frame (d .before .before .before)) (omega arith) (head d)
     (identity-plain (inside d 15 (omega arith)) (omega arith) (omega arith)))
 
@@ -59,9 +58,8 @@ returns-6 : tie.Need-returns-6
 returns-6 c =
     let d = c .before .before .before .before .before in
     let w = c .before .before .before .before .window2 .ensures in
-    let wide : ℕ → Identity = λ x. record { ssi = x / 2 ^ 33; present = 1; extension = x / 2 ^ 8 % 2 ^ 24 } in
     c .held2 .ensures
-    ∙ ap₂ held (ap wide w) (c .before .part-after2 .ensures)
+    ∙ ap₂ held (ap wideIn w) (c .before .part-after2 .ensures)
     ∙ sym (judged-user _ _ (frame (d .before .before .before)) (omega arith) (head d)
     (identity-wide (inside d 15 (omega arith)) (omega arith) (omega arith) (omega arith)))
 

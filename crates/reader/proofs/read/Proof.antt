@@ -2,9 +2,9 @@
 use mathlib.Core.Path.{_≡_, sym, _∙_}
 use mathlib.Core.Bool.{true}
 use borrow.Author.Needs.{needs}
-use borrow.Author.Tests.{not-true, not-false}
 use denote.Ref.{now}
 use Rattle.bits.specs.Frame.{framed}
+use Rattle.bits.proofs.Tests.{said-no, said-yes}
 use Rattle.codec.specs.Reading.{from}
 use Rattle.codec.proofs.Onward.{placed-got, placed-refused}
 use Rattle.reader.proofs.Answers.{not-framed, refused-inside, bits-left, accepted-whole}
@@ -13,10 +13,10 @@ use Rattle.reader.proofs.read.Statement.{statement}
 use Rattle.reader.proofs.read.Tie as tie
 
 returns : tie.Need-returns
-returns c = c .refused .ensures ∙ sym (not-framed _ _ (sym (c .before .before .is-framed .ensures) ∙ not-true _ (c .before .if1 .taken)))
+returns c = c .refused .ensures ∙ sym (not-framed _ _ (said-no (c .before .before .is-framed .ensures) (c .before .if1 .taken)))
 
 is-framed : (c : tie.After-record-of) → framed (now (c .before .before .before .before .args .s)) (c .before .before .before .before .args .n .0) ≡ true
-is-framed c = sym (c .before .before .is-framed .ensures) ∙ not-false _ (c .before .if1 .left)
+is-framed c = said-yes (c .before .before .is-framed .ensures) (c .before .if1 .left)
 
 returns-2 : tie.Need-returns-2
 unfolding from

@@ -1,20 +1,20 @@
 -- The tests are made in the order of the rules. Assumes nothing.
 use mathlib.Core.Path.{sym, _∙_}
 use borrow.Author.Needs.{needs}
+use Rattle.bits.proofs.Tests.{said-no, said-yes}
 use Rattle.rules.specs.Rule.{ruled, ruling}
-use Rattle.rules.proofs.Answers.{no, yes}
 use Rattle.rules.proofs.rule.Statement.{statement}
 use Rattle.rules.proofs.rule.Tie as tie
 
 returns : tie.Need-returns
 unfolding ruled ruling
-returns c = rw (no (c .before .covers .ensures) (c .if1 .taken))
+returns c = rw (said-no (c .before .covers .ensures) (c .if1 .taken))
 
 returns-2 : tie.Need-returns-2
 unfolding ruled ruling
 returns-2 c =
     let d = c .before .before .before .before in
-    rw (yes (d .before .covers .ensures) (d .if1 .left), sym (c .before .is-excepted .ensures) ∙ c .if2 .taken)
+    rw (said-yes (d .before .covers .ensures) (d .if1 .left), sym (c .before .is-excepted .ensures) ∙ c .if2 .taken)
 
 returns-3 : tie.Need-returns-3
 unfolding ruled ruling
@@ -22,7 +22,7 @@ returns-3 c =
     let e = c .before .before in
     let d = e .before .before .before .before in
     rw (
-      yes (d .before .covers .ensures) (d .if1 .left),
+      said-yes (d .before .covers .ensures) (d .if1 .left),
       sym (e .before .is-excepted .ensures) ∙ e .if2 .left,
       sym (c .before .is-restricted .ensures) ∙ c .if3 .taken,
     )
@@ -34,7 +34,7 @@ returns-4 c =
     let e = f .before .before in
     let d = e .before .before .before .before in
     rw (
-      yes (d .before .covers .ensures) (d .if1 .left),
+      said-yes (d .before .covers .ensures) (d .if1 .left),
       sym (e .before .is-excepted .ensures) ∙ e .if2 .left,
       sym (f .before .is-restricted .ensures) ∙ f .if3 .left,
       sym (c .before .is-outside .ensures) ∙ c .if4 .taken,
@@ -48,7 +48,7 @@ returns-5 c =
     let e = f .before .before in
     let d = e .before .before .before .before in
     rw (
-      yes (d .before .covers .ensures) (d .if1 .left),
+      said-yes (d .before .covers .ensures) (d .if1 .left),
       sym (e .before .is-excepted .ensures) ∙ e .if2 .left,
       sym (f .before .is-restricted .ensures) ∙ f .if3 .left,
       sym (g .before .is-outside .ensures) ∙ g .if4 .left,
@@ -63,7 +63,7 @@ returns-6 c =
     let e = f .before .before in
     let d = e .before .before .before .before in
     rw (
-      yes (d .before .covers .ensures) (d .if1 .left),
+      said-yes (d .before .covers .ensures) (d .if1 .left),
       sym (e .before .is-excepted .ensures) ∙ e .if2 .left,
       sym (f .before .is-restricted .ensures) ∙ f .if3 .left,
       sym (g .before .is-outside .ensures) ∙ g .if4 .left,

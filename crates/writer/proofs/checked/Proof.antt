@@ -3,10 +3,10 @@ use mathlib.Core.Path.{_≡_, sym, ap, ap₂, _∙_}
 use Prim.Native.Nat.{ℕ}
 use native.Mathlib.Nat.{zero-add}
 use borrow.Author.Needs.{needs}
-use borrow.Author.Tests.{not-true, not-false}
 use lib.Dec.{leb}
 use Rattle.bits.specs.Bits.{pick}
 use Rattle.bits.specs.Frame.{bytesFor}
+use Rattle.bits.proofs.Tests.{said-no, said-yes}
 use Rattle.codec.specs.Codec.{first}
 use Rattle.writer.specs.Write.{lengthOf, writeRefusal, written}
 use Rattle.writer.specs.declared.Written.the-variants.{Bits}
@@ -23,7 +23,7 @@ returns-2 : tie.Need-returns-2
 returns-2 c =
     let t = c .before .before in
     let a = t .before .before .before .args in
-    rw (not-clean (a .r) (a .room) (sym (t .tally-record .ensures .clean) ∙ not-true _ (c .if2 .taken)))
+    rw (not-clean (a .r) (a .room) (said-no (t .tally-record .ensures .clean) (c .if2 .taken)))
 
 size : (c : tie.After-tally-record) → c .tally-record .result .bits ≡ lengthOf (c .before .before .before .args .r)
 size c = c .tally-record .ensures .bits ∙ zero-add (lengthOf (c .before .before .before .args .r))
@@ -38,7 +38,7 @@ given c =
     let t = d .before .before in
     let k = t .before in
     let a = k .before .before .args in
-    then-fault (a .r) (a .room) (sym (k .before .kind-refusal .ensures) ∙ k .if1 .left) (sym (t .tally-record .ensures .clean) ∙ not-false _ (d .if2 .left))
+    then-fault (a .r) (a .room) (sym (k .before .kind-refusal .ensures) ∙ k .if1 .left) (said-yes (t .tally-record .ensures .clean) (d .if2 .left))
     ∙ sym (ap₂ first (t .tally-record .ensures .refusal) (c .room-refusal .ensures ∙ ap (λ (n : ℕ). pick (leb (bytesFor n) (a .room)) 0 8) (size t)))
 
 returns-3 : tie.Need-returns-3

@@ -6,12 +6,12 @@ use Prim.Native.Nat.{ℕ, _+_, _-_, _*_, _≤_}
 use native.Mathlib.Nat.{add-sub-cancel-left}
 use native.Mathlib.Omega.{arith}
 use borrow.Author.Needs.{needs}
-use borrow.Author.Tests.{leb-true, not-true, not-false}
+use borrow.Author.Tests.{leb-true}
 use denote.Ref.{now}
 use lib.ListN.{length, take, drop}
 use lib.Dec.{leb}
 use Rattle.bits.specs.Frame.{bytesFor}
-use Rattle.bits.proofs.Tests.{both}
+use Rattle.bits.proofs.Tests.{both, said-no, said-yes}
 use Rattle.archive.specs.Model.{Held, keyFor, keyOf, bodySize, withinLimits}
 use Rattle.archive.specs.Filing.{bodyAgrees}
 use Rattle.archive.specs.Reading.{number3, heldAt, isArchive}
@@ -35,7 +35,7 @@ returns-2 : tie.Need-returns-2 Inv-loop μ-loop
 returns-2 c =
     let count = c .before .before in
     let b = now (count .before .before .before .before .args .archive) in
-    let e : withinLimits (count .count .result) (length b) ≡ false = sym (c .before .within-limits .ensures) ∙ not-true _ (c .if2 .taken) in
+    let e : withinLimits (count .count .result) (length b) ≡ false = said-no (c .before .within-limits .ensures) (c .if2 .taken) in
     sym (over-limits b (rw (count .count .ensures .0) at e))
 
 returns-3 : tie.Need-returns-3 Inv-loop μ-loop
@@ -47,7 +47,7 @@ loop-holds c =
     let count = within .before in
     let known = count .before .before .before in
     let b = now (known .before .args .archive) in
-    let e : withinLimits (count .count .result) (length b) ≡ true = sym (within .within-limits .ensures) ∙ not-false _ (c .before .if2 .left) in
+    let e : withinLimits (count .count .result) (length b) ≡ true = said-yes (within .within-limits .ensures) (c .before .if2 .left) in
     let h : count .before .home .result ≡ number3 b 0 = count .before .home .ensures ∙ home-is b (omega arith) in (
       omega arith,
       omega arith,
@@ -96,7 +96,7 @@ returns-6 : tie.Need-returns-6 Inv-loop μ-loop
 returns-6 c =
     let bytes = c .before .before .before .before in
     let loop = bytes .before .before .before .before .before .before in
-    sym (loop .loop .inv .3 ∙ rest-bad (b-of loop) _ _ _ _ _ (bytes .before .before .before .before .before .loop-test .taken) (sym (agrees (c .before)) ∙ not-true _ (c .if6 .taken)))
+    sym (loop .loop .inv .3 ∙ rest-bad (b-of loop) _ _ _ _ _ (bytes .before .before .before .before .before .loop-test .taken) (said-no (agrees (c .before)) (c .if6 .taken)))
 
 loop-again : tie.Need-loop-again Inv-loop μ-loop
 loop-again c =
@@ -108,7 +108,7 @@ loop-again c =
       omega arith,
       omega arith,
       loop .loop .inv .3
-          ∙ rest-next b _ _ _ _ _ (high .before .before .before .loop-test .taken) (omega (arith, key (high .before))) (sym (agrees (c .before)) ∙ not-false _ (c .if6 .left))
+          ∙ rest-next b _ _ _ _ _ (high .before .before .before .loop-test .taken) (omega (arith, key (high .before))) (said-yes (agrees (c .before)) (c .if6 .left))
           ∙ (λ i. restOk b (home-of loop) (sym (key (high .before)) i) (loop .loop .left - 1) (loop .loop .at + 9) (loop .loop .off + sym (size bytes) i)),
     )
 

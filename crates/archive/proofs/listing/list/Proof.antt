@@ -1,13 +1,14 @@
 -- Each test is the definition's own, and the whole text is written at the front. Assumes nothing.
-use mathlib.Core.Path.{_≡_, sym, ap, _∙_}
+use mathlib.Core.Path.{_≡_, ap}
 use mathlib.Core.Bool.{true, false}
 use Prim.Native.Nat.{ℕ}
 use native.Mathlib.Omega.{arith}
 use borrow.Author.Needs.{needs}
-use borrow.Author.Tests.{not-true, not-false, le-leb, lt-leb}
+use borrow.Author.Tests.{le-leb, lt-leb}
 use denote.Ref.{now}
 use lib.ListN.{length}
 use lib.Dec.{leb}
+use Rattle.bits.proofs.Tests.{said-no, said-yes}
 use Rattle.archive.specs.Reading.{reading, isArchive}
 use Rattle.archive.specs.Listing.{listing, listIs, listOut}
 use Rattle.archive.specs.declared.listing.Listed.the-variants.{Bytes}
@@ -17,12 +18,12 @@ use Rattle.archive.proofs.listing.list.Tie as tie
 
 -- the bytes are an archive
 ok : (c : tie.Else1) → isArchive (now (c .before .before .before .before .args .archive)) ≡ true
-ok c = sym (c .before .check .ensures) ∙ not-false _ (c .if1 .left)
+ok c = said-yes (c .before .check .ensures) (c .if1 .left)
 
 returns : tie.Need-returns
 unfolding listIs listOut
 returns c =
-    let e : isArchive (now (c .before .before .before .before .args .archive)) ≡ false = sym (c .before .check .ensures) ∙ not-true _ (c .if1 .taken) in
+    let e : isArchive (now (c .before .before .before .before .args .archive)) ≡ false = said-no (c .before .check .ensures) (c .if1 .taken) in
     (rw e, rw e)
 
 returns-2 : tie.Need-returns-2

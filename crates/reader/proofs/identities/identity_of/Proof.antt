@@ -1,13 +1,13 @@
 -- An identity from one window, or part by part. Assumes nothing.
-use mathlib.Core.Path.{sym, _∙_}
 use Prim.Native.Nat.{_+_, _≤_}
 use native.Mathlib.Omega.{arith}
 use borrow.Author.Needs.{needs}
-use borrow.Author.Tests.{leb-true, not-false}
+use borrow.Author.Tests.{leb-true}
 use lib.ListN.{length, length-take}
 use denote.Ref.{now}
 use Rattle.bits.specs.Bits.{bits}
 use Rattle.bits.specs.Frame.{bitsIn}
+use Rattle.bits.proofs.Tests.{said-yes}
 use Rattle.codec.specs.Reading.{from}
 use Rattle.reader.specs.Reader.{identityIs}
 use Rattle.reader.proofs.Windows.{identity-plain, identity-wide}
@@ -20,7 +20,7 @@ returns-2 c = rw (c .before .before .before .before .start .given .1) (c .identi
 there : (c : tie.Else1) →
     let a = c .before .before .before .before .before .before .args in
     c .before .before .before .start .given .0 .0 .at + 49 ≤ length (bitsIn (a .n .0) (now (a .s)))
-there c = leb-true _ _ (sym (c .before .are-there .ensures) ∙ not-false _ (c .if1 .left))
+there c = leb-true _ _ (said-yes (c .before .are-there .ensures) (c .if1 .left))
 
 short : (c : tie.Else1) →
     let a = c .before .before .before .before .before .before .args in

@@ -2,49 +2,49 @@
 use mathlib.Core.Path.{_≡_}
 use mathlib.Core.Bool.{true, _&&_}
 use borrow.Author.Needs.{needs}
+use Rattle.bits.proofs.Tests.{said-no, said-yes}
 use Rattle.rules.specs.Request.{isUser, isService, isDestination, isGroup, requestRefusal}
-use Rattle.rules.proofs.Answers.{no, yes}
 use Rattle.rules.proofs.request.request_refusal.Statement.{statement}
 use Rattle.rules.proofs.request.request_refusal.Tie as tie
 
 -- what the tests that were passed say
 user : (c : tie.Else1) → isUser (c .before .before .before .args .request .user) ≡ true
-user c = yes (c .before .is-user .ensures) (c .if1 .left)
+user c = said-yes (c .before .is-user .ensures) (c .if1 .left)
 
 served : (c : tie.Else2) → let r = c .before .before .before .before .before .args .request in isUser (r .user) && isService (r .service) ≡ true
-served c = rw (user (c .before .before)) (yes (c .before .is-service .ensures) (c .if2 .left))
+served c = rw (user (c .before .before)) (said-yes (c .before .is-service .ensures) (c .if2 .left))
 
 reached : (c : tie.Else3)
     → let r = c .before .before .before .before .before .before .before .args .request in
     isUser (r .user) && isService (r .service) && isDestination (r .destination) ≡ true
-reached c = rw (served (c .before .before)) (yes (c .before .is-destination .ensures) (c .if3 .left))
+reached c = rw (served (c .before .before)) (said-yes (c .before .is-destination .ensures) (c .if3 .left))
 
 grouped : (c : tie.Else4)
     → let r = c .before .before .before .before .before .before .before .before .before .args .request in
     isUser (r .user) && isService (r .service) && isDestination (r .destination) && isGroup (r .group) ≡ true
-grouped c = rw (reached (c .before .before)) (yes (c .before .is-group .ensures) (c .if4 .left))
+grouped c = rw (reached (c .before .before)) (said-yes (c .before .is-group .ensures) (c .if4 .left))
 
 returns : tie.Need-returns
 unfolding requestRefusal
-returns c = rw (no (c .before .is-user .ensures) (c .if1 .taken))
+returns c = rw (said-no (c .before .is-user .ensures) (c .if1 .taken))
 
 returns-2 : tie.Need-returns-2
 unfolding requestRefusal
-returns-2 c = rw (user (c .before .before), no (c .before .is-service .ensures) (c .if2 .taken))
+returns-2 c = rw (user (c .before .before), said-no (c .before .is-service .ensures) (c .if2 .taken))
 
 returns-3 : tie.Need-returns-3
 unfolding requestRefusal
-returns-3 c = rw (served (c .before .before), no (c .before .is-destination .ensures) (c .if3 .taken))
+returns-3 c = rw (served (c .before .before), said-no (c .before .is-destination .ensures) (c .if3 .taken))
 
 returns-4 : tie.Need-returns-4
 unfolding requestRefusal
-returns-4 c = rw (reached (c .before .before), no (c .before .is-group .ensures) (c .if4 .taken))
+returns-4 c = rw (reached (c .before .before), said-no (c .before .is-group .ensures) (c .if4 .taken))
 
 returns-5 : tie.Need-returns-5
 unfolding requestRefusal
 returns-5 c =
     let d = c .before .before in
-    rw (grouped (d .before .before), ← d .digits-used .ensures, no (c .before .has-digits .ensures) (c .if5 .taken))
+    rw (grouped (d .before .before), ← d .digits-used .ensures, said-no (c .before .has-digits .ensures) (c .if5 .taken))
 
 returns-6 : tie.Need-returns-6
 unfolding requestRefusal
@@ -53,8 +53,8 @@ returns-6 c =
     rw (
       grouped (d .before .before),
       ← d .digits-used .ensures,
-      yes (c .before .before .before .has-digits .ensures) (c .before .before .if5 .left),
-      no (c .before .is-clear .ensures) (c .if6 .taken),
+      said-yes (c .before .before .before .has-digits .ensures) (c .before .before .if5 .left),
+      said-no (c .before .is-clear .ensures) (c .if6 .taken),
     )
 
 returns-7 : tie.Need-returns-7
@@ -64,8 +64,8 @@ returns-7 c =
     rw (
       grouped (d .before .before),
       ← d .digits-used .ensures,
-      yes (c .before .before .before .has-digits .ensures) (c .before .before .if5 .left),
-      yes (c .before .is-clear .ensures) (c .if6 .left),
+      said-yes (c .before .before .before .has-digits .ensures) (c .before .before .if5 .left),
+      said-yes (c .before .is-clear .ensures) (c .if6 .left),
     )
 
 pub request-refusal-spec : {M : Type 1} → statement M

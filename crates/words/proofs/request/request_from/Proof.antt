@@ -1,7 +1,7 @@
 -- As many words as a request has, which are one's, or none. Assumes nothing.
-use mathlib.Core.Path.{sym, _∙_}
 use borrow.Author.Needs.{needs}
-use borrow.Author.Tests.{eq-eqb, ne-eqb, not-true, not-false}
+use borrow.Author.Tests.{eq-eqb, ne-eqb}
+use Rattle.bits.proofs.Tests.{said-no, said-yes}
 use Rattle.words.specs.RequestWords.{givenRequest}
 use Rattle.words.proofs.request.request_from.Statement.{statement}
 use Rattle.words.proofs.request.request_from.Tie as tie
@@ -15,7 +15,7 @@ unfolding givenRequest
 returns-2 c =
     let test = c .before in
     let are = test .before in
-    rw (eq-eqb _ _ (are .before .if1 .left), sym (are .are-request .ensures) ∙ not-true _ (test .if2 .taken)) (c .no-request2 .ensures)
+    rw (eq-eqb _ _ (are .before .if1 .left), said-no (are .are-request .ensures) (test .if2 .taken)) (c .no-request2 .ensures)
 
 returns-3 : tie.Need-returns-3
 unfolding givenRequest
@@ -24,7 +24,7 @@ returns-3 c =
     let are = test .before in
     rw (
       eq-eqb _ _ (are .before .if1 .left),
-      sym (are .are-request .ensures) ∙ not-false _ (test .if2 .left),
+      said-yes (are .are-request .ensures) (test .if2 .left),
       c .fields-from .ensures,
     )
 
