@@ -7,8 +7,8 @@ use native.Mathlib.Nat.{pow-suc}
 use lib.ListN.{length, length-append}
 use lib.Dec.{ltb}
 use borrow.Author.Tests.{lt-ltb, le-ltb}
-use mathlib.Core.Bool.{Bool, true, false}
 use Rattle.bits.specs.Bits.{pick}
+use Rattle.bits.proofs.Tests.{by-test}
 use Rattle.archive.specs.Listing.{digit, digits, decimal}
 
 -- any two limits that leave no digit out
@@ -38,11 +38,9 @@ few : (j k n : ℕ) → n < 10 ^ suc j → length (digits k n) ≤ suc j
 unfolding digits
 few j zero n h = omega arith
 few zero (suc k) n h = rw (lt-ltb n 10 h) (omega arith)
-few (suc j) (suc k) n h = go (ltb n 10) (few j k (n / 10) (omega (arith, pow-suc 10 (suc j))))
-  where
-    go : (p : Bool) → length (digits k (n / 10)) ≤ suc j → length (pick p (digit n ∷ []) (digits k (n / 10) ++ (digit (n % 10) ∷ []))) ≤ suc (suc j)
-    go true l = omega arith
-    go false l = simp length-append (omega arith)
+few (suc j) (suc k) n h =
+    let l = few j k (n / 10) (omega (arith, pow-suc 10 (suc j))) in
+    by-test (λ (s : List ℕ). length s ≤ suc (suc j)) (ltb n 10) (omega arith) (simp length-append (omega arith))
 
 pub within : (j n : ℕ) → n < 10 ^ suc j → length (decimal n) ≤ suc j
 unfolding decimal

@@ -12,6 +12,7 @@ use lib.Dec.{leb}
 use borrow.Author.Tests.{leb-true, leb-false}
 use Rattle.bits.specs.Bits.{value, bitsOf, bits}
 use Rattle.bits.specs.Element.{windowAt}
+use Rattle.bits.proofs.Lists.{length-part}
 use Rattle.bits.proofs.Numbers.{value-append, value-lt, value-take-fits}
 use Rattle.bits.proofs.Bytes.{length-bits, bits-append, bits-take, bits-drop, take-before, length-bits-take}
 
@@ -30,7 +31,7 @@ value-part l k w n inside size =
     sym (take-append-drop (k + w) l) ∙ ap (λ (x : List Bool). x ++ drop (k + w) l) (take-add k w l) in
     ap (λ (x : List Bool). value x / 2 ^ (n - k - w) % 2 ^ w) whole
     ∙ value-middle (take k l) (take w (drop k l)) (drop (k + w) l) w (n - k - w)
-    (length-take-le w (drop k l) (omega (arith, length-drop k l))) (omega (arith, length-drop (k + w) l))
+    (length-part l k w (omega arith)) (omega (arith, length-drop (k + w) l))
 
 -- ---- zeros after a run
 

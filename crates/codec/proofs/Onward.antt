@@ -10,11 +10,12 @@ use Rattle.bits.specs.Frame.{bitsIn}
 use Rattle.bits.specs.declared.Cursor.{Cursor}
 use Rattle.bits.proofs.Tests.{never}
 use Rattle.codec.specs.Codec.{Codec}
-use Rattle.codec.specs.Parts.{first-none, numberFault, narrow, number, tested, element}
+use Rattle.codec.specs.Parts.{first-none, numberFault, number, tested, element}
 use Rattle.codec.specs.Reading.{Answer, got, refused, andNext, unlessAt, readAt, from, reachedOf, valueOr, elementOf, numberIs, testedIs}
 use Rattle.codec.specs.declared.Reached.{Reached}
 use Rattle.codec.specs.declared.Reached.the-variants.{At, Refused}
 use Rattle.codec.specs.declared.NumberRead.{NumberRead}
+use Rattle.codec.proofs.Legality.{legal-element}
 use Rattle.codec.proofs.Reading.{readAt-tested, readAt-legal}
 
 -- an answer as where it leaves reading, and a value
@@ -88,8 +89,8 @@ tested-element w refuse s p {read} {k} e f =
 element-small : (w : ℕ) (refuse : ℕ → ℕ) (s : List Bool) (at v at′ : ℕ) → readAt (element w refuse) s at ≡ got v at′ → (v < 2 ^ w) × (refuse v ≡ 0)
 unfolding element tested number
 element-small w refuse s at v at′ e =
-    let h = first-none (numberFault w v) (refuse v) (readAt-legal (element w refuse) s at v at′ e .0 .faultless) in
-    (narrow w v (h .0), h .1)
+    let l = readAt-legal (element w refuse) s at v at′ e .0 in
+    (legal-element w refuse v l, first-none (numberFault w v) (refuse v) (l .faultless) .1)
 
 -- a number that is not refused is an element
 pub element-got : (w : ℕ) (refuse : ℕ → ℕ) (s : List Bool) (at v at′ : ℕ) → readAt (number w) s at ≡ got v at′ → refuse v ≡ 0 → readAt (element w refuse) s at ≡ got v at′

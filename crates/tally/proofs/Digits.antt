@@ -10,6 +10,7 @@ use lib.Seq.{slice, slice-cons, slice-empty, take-all, take-nil, drop-nil}
 use lib.Dec.{leb, ltb, eqb}
 use borrow.Author.Tests.{leb-true, leb-false, lt-leb, lt-ltb, eqb-false, eq-eqb, ne-eqb}
 use Rattle.bits.specs.Bits.{pick, bitsOf}
+use Rattle.bits.proofs.Tests.{by-test}
 use Rattle.bits.proofs.Numbers.{length-bitsOf}
 use Rattle.bits.proofs.Lists.{take-min, drop-min}
 use Rattle.bits.specs.Lists.{every}
@@ -42,15 +43,11 @@ module _ (d : ℕ) where
   unfolding digitRefusal digitOf
   refused h = rw (lt-leb d 9 (omega arith), ne-eqb d 10 (omega arith), ne-eqb d 11 (omega arith), ne-eqb d 12 (omega arith))
 
-first-three : (b : Bool) → first (pick {A = ℕ} b 0 3) 3 ≡ 3
-first-three true = refl
-first-three false = refl
-
 digit-fault : (d : ℕ) → first (numberFault 4 d) (digitRefusal d) ≡ pick (leb d 12) 0 3
 digit-fault d = go (leb d 12) refl where
   go : (b : Bool) → leb d 12 ≡ b → first (numberFault 4 d) (digitRefusal d) ≡ pick b 0 3
   go true e = let h = leb-true d 12 e in rw (lt-ltb d 16 (omega arith)) (legal d (leb d 9) h refl)
-  go false e = ap (first (numberFault 4 d)) (refused d (leb-false d 12 e)) ∙ first-three (ltb d 16)
+  go false e = ap (first (numberFault 4 d)) (refused d (leb-false d 12 e)) ∙ by-test (λ (n : ℕ). first n 3 ≡ 3) (ltb d 16) refl refl
 
 zero-leb : (d : ℕ) → isZero d ≡ leb d 0
 zero-leb zero = refl

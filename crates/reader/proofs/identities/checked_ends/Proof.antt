@@ -1,13 +1,13 @@
 -- A refusal that came before is passed on; then the ends' own, at the second. Assumes nothing.
 use mathlib.Core.Path.{_≡_, refl, sym, ap, _∙_}
-use mathlib.Core.Bool.{Bool, true, false, _&&_}
+use mathlib.Core.Bool.{_&&_}
 use mathlib.Core.List.{List}
 use Prim.Native.Nat.{ℕ, _+_, _≤_}
 use native.Mathlib.Omega.{arith}
 use borrow.Author.Needs.{needs}
 use lib.ListN.{getD, replicate}
 use lib.Dec.{eqb, leb}
-use Rattle.bits.specs.Bits.{pick}
+use Rattle.bits.proofs.Tests.{by-test}
 use Rattle.bits.specs.declared.Cursor.{Cursor}
 use Rattle.codec.specs.Reading.{from}
 use Rattle.codec.specs.declared.Reached.{Reached}
@@ -46,11 +46,9 @@ nine code l h = rw h
 
 four : (a b : Identity) → (endsRefusal a b ≡ 0 → ⊥) → endsRefusal a b ≡ 4
 unfolding endsRefusal
-four a b h = go (eqb (a .present) (b .present) && eqb (a .extension) (b .extension) && leb (a .ssi) (b .ssi)) h
-  where
-    go : (t : Bool) → (pick {A = ℕ} t 0 4 ≡ 0 → ⊥) → pick {A = ℕ} t 0 4 ≡ 4
-    go true h = absurd (h refl)
-    go false h = refl
+four a b =
+    by-test (λ (n : ℕ). (n ≡ 0 → ⊥) → n ≡ 4) (eqb (a .present) (b .present) && eqb (a .extension) (b .extension) && leb (a .ssi) (b .ssi))
+    (λ h. absurd (h refl)) (λ h. refl)
 
 returns : tie.Need-returns
 unfolding from entriesIs endsIs

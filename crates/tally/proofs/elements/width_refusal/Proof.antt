@@ -1,6 +1,5 @@
 -- A number is below a power of two exactly if nothing is left of it when it is shifted so far. Assumes nothing.
-use mathlib.Core.Path.{_≡_, refl}
-use mathlib.Core.Bool.{Bool, true, false}
+use mathlib.Core.Path.{_≡_}
 use Prim.Native.Nat.{ℕ, _+_, _*_, _/_, _^_, _<_}
 use native.Mathlib.Nat.{lt-div-mul-add, div-eq-of-lt}
 use native.Mathlib.Omega.{arith}
@@ -8,7 +7,7 @@ use borrow.Author.Needs.{needs}
 use borrow.Author.Tests.{ltb-true, lt-ltb}
 use lib.Dec.{ltb}
 use lib.Pow.{pow-pos}
-use Rattle.bits.specs.Bits.{pick}
+use Rattle.bits.proofs.Tests.{false-unless}
 use Rattle.codec.specs.Parts.{numberFault}
 use Rattle.tally.proofs.elements.width_refusal.Statement.{statement}
 use Rattle.tally.proofs.elements.width_refusal.Tie as tie
@@ -19,11 +18,7 @@ fits w v e =
     rw (lt-ltb v (2 ^ w) (omega arith))
 
 wide : (w v : ℕ) → (v / 2 ^ w ≡ 0 → ⊥) → 3 ≡ numberFault w v
-wide w v h = go (ltb v (2 ^ w)) refl
-  where
-    go : (t : Bool) → ltb v (2 ^ w) ≡ t → 3 ≡ pick {A = ℕ} t 0 3
-    go true e = absurd (h (div-eq-of-lt (ltb-true v (2 ^ w) e)))
-    go false e = refl
+wide w v h = rw (false-unless (ltb v (2 ^ w)) (λ e. h (div-eq-of-lt (ltb-true v (2 ^ w) e))))
 
 returns : tie.Need-returns
 returns c = fits (c .before .args .width) (c .before .args .value) (c .if1 .taken)
