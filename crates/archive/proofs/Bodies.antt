@@ -49,8 +49,8 @@ module _ (home : ℕ) (s : List ℕ) (n : ℕ) where
   filing-part {user} {part} e f =
       let k = picked (isAccepted (readIs s n .answer) && mayHold found) e (λ x. never cc) in
       let q = both (isAccepted (readIs s n .answer)) (mayHold found) (k .0) in
-      let u : userOf found ≡ user = let x = k .1 in cc in
-      let p : found .result ≡ part = let x = k .1 in cc in
+      let u : userOf found ≡ user = cc (k .1) in
+      let p : found .result ≡ part = cc (k .1) in
       rw (q .0, q .1, u, p, f)
 
 -- a body agrees with its entry if that is the one it is filed under

@@ -40,7 +40,7 @@ was-placed a room m e =
     let within = withinLimits (length (a .held)) (lengthOf a) in
     let p = picked (within && leb (lengthOf a) room) e (λ x. never cc) in
     let q = both within (leb (lengthOf a) room) (p .0) in
-    (q .0, leb-true (lengthOf a) room (q .1), let x = p .1 in cc)
+    (q .0, leb-true (lengthOf a) room (q .1), cc (p .1))
 
 if-accepted : (a : Answer) {r : Archived} {m : ℕ} → ifAccepted a r ≡ Bytes m → (a ≡ reader.Accepted) × (r ≡ Bytes m)
 if-accepted reader.Accepted e = (refl, e)

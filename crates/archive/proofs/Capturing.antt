@@ -43,7 +43,7 @@ unfolding filingFor filingOf
 filed-under home s n f =
     let a = picked (isAccepted (readIs s n .answer)) f (λ x. never cc) in
     let m = picked (mayHold (readIs s n .found)) (a .1) (λ x. never cc) in
-    (was-accepted (readIs s n .answer) (a .0), m .0, let x = m .1 in cc)
+    (was-accepted (readIs s n .answer) (a .0), m .0, cc (m .1))
 
 -- a PDU that is filed agrees with its entry
 pub offered-agrees : (home : ℕ) (s : List ℕ) (n : ℕ) → readIs s n .answer ≡ reader.Accepted → mayHold (readIs s n .found) ≡ true → Agrees home (heldFor home s n)

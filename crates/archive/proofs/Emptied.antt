@@ -27,7 +27,7 @@ unfolding emptyIs
 was-empty home room m e =
     let p = picked (ltb home 16777216) e (λ x. never cc) in
     let q = picked (leb headerWidth room) (p .1) (λ x. never cc) in
-    (p .0, let x = q .1 in cc)
+    (p .0, cc (q .1))
 
 -- what `empty` writes is an archive that holds nothing
 pub empty-holds : (home : ℕ) (out : List ℕ) (m : ℕ) → emptyIs home (length out) ≡ Bytes m

@@ -59,5 +59,5 @@ unfolding listIs
 listed-fits b room n e =
     let p = picked (isArchive b) e (λ x. never cc) in
     let q = picked (leb (length (listing (reading b))) room) (p .1) (λ x. never cc) in
-    let z : length (listing (reading b)) ≡ n = let x = q .1 in cc in
+    let z : length (listing (reading b)) ≡ n = cc (q .1) in
     omega (arith, leb-true (length (listing (reading b))) room (q .0))
