@@ -5,11 +5,11 @@ use mathlib.Core.Bool.{Bool, true, false}
 use mathlib.Core.List.{List}
 use mathlib.Core.Option.{Option, none, some}
 use Prim.Native.Nat.{ℕ}
-use native.Mathlib.Omega.{arith}
 use lib.ListN.{length, take}
 use lib.Dec.{eqb}
 use Rattle.bits.specs.Bits.{pick}
 use Rattle.bits.specs.declared.BitCount.{BitCount}
+use Rattle.bits.proofs.Tests.{never}
 use Rattle.reader.specs.Read.{readIs}
 use Rattle.rules.specs.Request.{requestRefusal}
 use Rattle.rules.specs.Rule.{ruling}
@@ -57,6 +57,6 @@ unfolding decideIs
 not-held-not-allowed b q h e = go (eqb (requestRefusal q) 0) (isArchive b) (rw h at e)
   where
     go : (p t : Bool) → pick p (pick t NotHeld (Refused 7)) (Refused (requestRefusal q)) ≡ Allowed → ⊥
-    go true true x = let z : _≡_ {A = ℕ} 0 1 = cc in omega arith
-    go true false x = let z : _≡_ {A = ℕ} 0 1 = cc in omega arith
-    go false t x = let z : _≡_ {A = ℕ} 0 1 = cc in omega arith
+    go true true x = never cc
+    go true false x = never cc
+    go false t x = never cc

@@ -5,7 +5,7 @@ use Prim.Native.Nat.{ℕ, zero, suc, _+_, min, _≤_}
 use native.Mathlib.Nat.{zero-min, min-zero, suc-min-suc}
 use native.Mathlib.Omega.{arith}
 use lib.ListN.{length, take, drop, length-drop}
-use lib.Seq.{length-take-le}
+use lib.Seq.{slice, take-all, length-take-le}
 
 module _ {A : Type 0} where
   pub length-part : (l : List A) (at n : ℕ) → at + n ≤ length l → length (take n (drop at l)) ≡ n
@@ -20,3 +20,10 @@ module _ {A : Type 0} where
   drop-min zero l = rw zero-min
   drop-min (suc n) [] = rw min-zero
   drop-min (suc n) (a ∷ l) = rw suc-min-suc (drop-min n l)
+
+  -- a count beyond the places of an array uses them all
+  pub take-used : (l : List A) (n : ℕ) {m u : ℕ} → length l ≡ m → u ≡ min n m → take u l ≡ take n l
+  take-used l n h e = rw (e, ← h) (take-min n l)
+
+  pub drop-used : (l : List A) (n : ℕ) {m u : ℕ} → length l ≡ m → u ≡ min n m → slice u m l ≡ drop n l
+  drop-used l n {m} h e = rw (take-all m l (omega arith), e, ← h) (drop-min n l)

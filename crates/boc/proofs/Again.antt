@@ -8,7 +8,7 @@ use Rattle.bits.specs.Bits.{Bytes}
 use Rattle.grammar.specs.declared.record.Record.{Record}
 use Rattle.reader.specs.Read.{readIs}
 use Rattle.reader.specs.declared.Answer.the-variants.{Accepted}
-use Rattle.pdu.specs.Accepting.{accepting}
+use Rattle.pdu.specs.Accepted.{acceptedAs}
 use Rattle.pdu.proofs.RoundTrip.{accepted-legal, written-read}
 use Rattle.words.specs.RecordWords.{recordWords}
 use Rattle.words.specs.Sized.{SizedRecord}
@@ -20,7 +20,7 @@ module _ (s : List ℕ) (n : ℕ) (words : List ℕ) (l : length words ≡ 514) 
   abbrev found : Record
   found = readIs s n .found
 
-  whole : readIs s n ≡ accepting found
+  whole : readIs s n ≡ acceptedAs found
   whole = λ i. record { answer = a i; found = found }
 
   sized : SizedRecord found

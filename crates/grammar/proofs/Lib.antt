@@ -3,3 +3,5 @@ pub mod Arrays
 pub mod Digits
 pub mod Sizes
 pub mod Parts
+pub mod Steps
+pub mod Windows

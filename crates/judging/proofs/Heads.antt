@@ -20,8 +20,9 @@ use Rattle.grammar.specs.Grammar.{identity, identities, interrogateAck, pdu}
 use Rattle.grammar.specs.declared.record.Identity.{Identity}
 use Rattle.grammar.specs.declared.record.Record.{Record}
 use Rattle.grammar.specs.declared.site.Listing.the-variants as of
+use Rattle.grammar.proofs.Steps.{identities-at}
 use Rattle.reader.specs.Reader.{recordAt}
-use Rattle.reader.proofs.Steps.{identities-at, pdu-at}
+use Rattle.reader.proofs.Records.{pdu-at}
 use Rattle.judging.specs.Walk.{walked, walk, Inside, partAfter, held}
 use Rattle.judging.specs.Judge.{mayHold, userOf, judgedIs}
 use Rattle.judging.specs.declared.Judged.the-variants.{Part, Other}

@@ -14,8 +14,8 @@ use Rattle.bits.proofs.Frames.{length-pdu}
 use Rattle.codec.specs.Reading.{got, readAt}
 use Rattle.grammar.specs.Grammar.{extension, identity}
 use Rattle.grammar.proofs.Codes.{identity-length}
-use Rattle.reader.proofs.Windows as reader
-use Rattle.reader.proofs.Windows.{plainIn, wideIn, up-to-extension}
+use Rattle.grammar.proofs.Windows as reader
+use Rattle.grammar.proofs.Windows.{plainIn, wideIn, up-to-extension}
 use Rattle.judging.specs.Walk.{walked, walk, Inside}
 use Rattle.judging.specs.declared.walking.Walked.the-variants.{Off}
 use Rattle.judging.proofs.Walks.{walk-short}

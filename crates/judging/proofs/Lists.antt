@@ -15,7 +15,7 @@ use Rattle.grammar.specs.Grammar.{identity, noIdentity, rangeEnds, secondEnd, i
 use Rattle.grammar.proofs.Codes.{single, above-nine, not-single, not-nine}
 use Rattle.grammar.specs.declared.record.Identity.{Identity}
 use Rattle.grammar.specs.declared.site.Listing.the-variants as of
-use Rattle.reader.proofs.Steps.{identityLists, numberLists, identityPart-at, numberPart-at}
+use Rattle.grammar.proofs.Steps.{identityLists, numberLists, identityPart-at, numberPart-at}
 use Rattle.judging.specs.Walk.{walked, walk, range, Inside}
 use Rattle.judging.specs.declared.walking.Walked.the-variants.{Off}
 use Rattle.judging.proofs.Walks.{onward, onward-same, walked-three, walk-seq, walk-shaped}

@@ -17,7 +17,7 @@ use Rattle.codec.proofs.Filling.{places-rest}
 use Rattle.grammar.specs.Grammar.{identity, noIdentity, zeroIdentity, endsRefusal, rangeEnds, secondEnd}
 use Rattle.grammar.specs.declared.record.Identity.{Identity}
 use Rattle.grammar.proofs.Codes.{ends-say}
-use Rattle.reader.proofs.Steps.{noIdentity-at}
+use Rattle.grammar.proofs.Steps.{noIdentity-at}
 use Rattle.judging.specs.Walk.{walked, walk, range, Inside}
 use Rattle.judging.specs.declared.walking.Walked.the-variants.{At, Off}
 use Rattle.judging.proofs.Walks.{off-next}

@@ -19,9 +19,9 @@ use Rattle.grammar.specs.Grammar.{identity, noIdentity, zeroIdentity, rangeEnds
 use Rattle.grammar.specs.declared.record.Identity.{Identity}
 use Rattle.grammar.specs.declared.record.Identities.{Identities}
 use Rattle.grammar.specs.declared.record.Record.{Record}
+use Rattle.grammar.proofs.Steps.{noIdentity-at}
 use Rattle.reader.specs.Reader.{recordAt}
 use Rattle.reader.proofs.Answers.{not-framed, refused-inside, bits-left, accepted-whole}
-use Rattle.reader.proofs.Steps.{noIdentity-at}
 use Rattle.judging.specs.Walk.{walked, partAfter, held}
 use Rattle.judging.specs.Judge.{mayHold, userOf, judgedIs}
 use Rattle.judging.specs.declared.Judged.{Judged}

@@ -16,11 +16,11 @@ use Rattle.grammar.specs.declared.record.Identity.{Identity}
 use Rattle.grammar.specs.declared.record.Record.{Record}
 use Rattle.reader.specs.Read.{readIs}
 use Rattle.reader.specs.declared.Answer.the-variants.{Accepted}
-use Rattle.pdu.specs.Accepting.{accepting}
+use Rattle.pdu.specs.Accepted.{acceptedAs}
 use Rattle.pdu.proofs.RoundTrip as trip
 
 module _ (s : List ℕ) (n : ℕ) (e : readIs s n .answer ≡ Accepted) where
-  with-record : readIs s n ≡ accepting (readIs s n .found)
+  with-record : readIs s n ≡ acceptedAs (readIs s n .found)
   with-record = λ i. record { answer = e i; found = readIs s n .found }
 
   pub accepted-framed : Framed s n

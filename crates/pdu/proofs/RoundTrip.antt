@@ -29,42 +29,42 @@ use Rattle.writer.specs.Write.{recordRefusal, lengthOf, writeRefusal, written, 
 use Rattle.reader.specs.declared.Answer.the-variants.{Accepted, Refused}
 use Rattle.reader.specs.declared.Reading.{Reading}
 use Rattle.writer.specs.declared.Written.the-variants.{Bits}
-use Rattle.pdu.specs.Accepting.{accepting, WritingOf}
+use Rattle.pdu.specs.Accepted.{acceptedAs, WritingOf}
 
 -- ---- what is accepted
 
-refusing-not : {A : Type 0} (k : ℕ) (r : Record) → refusing k ≡ accepting r → A
+refusing-not : {A : Type 0} (k : ℕ) (r : Record) → refusing k ≡ acceptedAs r → A
 refusing-not k r e = let f : Refused k ≡ Accepted = ap (λ (x : Reading). x .answer) e in never cc
 
-read-as : (l : List Bool) (r : Record) (o : Outcome Record) → wholeParse pdu l ≡ o → answered o ≡ accepting r → Legal pdu r × (l ≡ pdu .print r)
+read-as : (l : List Bool) (r : Record) (o : Outcome Record) → wholeParse pdu l ≡ o → answered o ≡ acceptedAs r → Legal pdu r × (l ≡ pdu .print r)
 read-as l r (ok a at left) e f =
     let q : a ≡ r = ap (λ (x : Reading). x .found) f in
     rw q at (whole-sound pdu l a at left e)
 read-as l r (no k p) e f = refusing-not k r f
 
-framed-first : (s : List ℕ) (n : ℕ) (r : Record) → readIs s n ≡ accepting r → framed s n ≡ true
+framed-first : (s : List ℕ) (n : ℕ) (r : Record) → readIs s n ≡ acceptedAs r → framed s n ≡ true
 unfolding readIs
 framed-first s n r e = picked (framed s n) e (refusing-not 1 r) .0
 
-pub accepted-framed : (s : List ℕ) (n : ℕ) (r : Record) → readIs s n ≡ accepting r → Framed s n
+pub accepted-framed : (s : List ℕ) (n : ℕ) (r : Record) → readIs s n ≡ acceptedAs r → Framed s n
 accepted-framed s n r e = framed-says s n (framed-first s n r e)
 
-pub accepted-legal : (s : List ℕ) (n : ℕ) (r : Record) → readIs s n ≡ accepting r → Legal pdu r
+pub accepted-legal : (s : List ℕ) (n : ℕ) (r : Record) → readIs s n ≡ acceptedAs r → Legal pdu r
 unfolding readIs
 accepted-legal s n r e =
-    let e′ : answered (wholeParse pdu (bitsIn n s)) ≡ accepting r = rw (framed-first s n r e) at e in
+    let e′ : answered (wholeParse pdu (bitsIn n s)) ≡ acceptedAs r = rw (framed-first s n r e) at e in
     read-as (bitsIn n s) r (wholeParse pdu (bitsIn n s)) refl e′ .0
 
-accepted-writing : (s : List ℕ) (n : ℕ) (r : Record) → Bytes s → readIs s n ≡ accepting r → WritingOf s n r
+accepted-writing : (s : List ℕ) (n : ℕ) (r : Record) → Bytes s → readIs s n ≡ acceptedAs r → WritingOf s n r
 unfolding readIs
 accepted-writing s n r b e =
     let f = framed-first s n r e in
     let fr = framed-says s n f in
-    let e′ : answered (wholeParse pdu (bitsIn n s)) ≡ accepting r = rw f at e in
+    let e′ : answered (wholeParse pdu (bitsIn n s)) ≡ acceptedAs r = rw f at e in
     let k = read-as (bitsIn n s) r (wholeParse pdu (bitsIn n s)) refl e′ in
     record { legal = k .0; size = sym (length-bitsIn s n fr) ∙ ap length (k .1); bytes = sym (pack-bitsIn s n b fr) ∙ ap pack (k .1) }
 
-writing-accepted : (s : List ℕ) (n : ℕ) (r : Record) → WritingOf s n r → readIs s n ≡ accepting r
+writing-accepted : (s : List ℕ) (n : ℕ) (r : Record) → WritingOf s n r → readIs s n ≡ acceptedAs r
 unfolding readIs
 writing-accepted s n r w =
     let fr : Framed (pack (pdu .print r)) (lengthOf r) = framed-pack (pdu .print r) (omega (arith, pdu-size r)) in
@@ -72,7 +72,7 @@ writing-accepted s n r w =
     ∙ rw (framed-is (pack (pdu .print r)) (lengthOf r) fr, bitsIn-pack (pdu .print r), whole-reads pdu r (w .legal))
 
 -- exactly the writings of legal records are accepted
-pub accepted-iff : (s : List ℕ) (n : ℕ) (r : Record) → Bytes s → (readIs s n ≡ accepting r) ↔ WritingOf s n r
+pub accepted-iff : (s : List ℕ) (n : ℕ) (r : Record) → Bytes s → (readIs s n ≡ acceptedAs r) ↔ WritingOf s n r
 accepted-iff s n r b = (accepted-writing s n r b, writing-accepted s n r)
 
 -- and a PDU is the writing of one record only
@@ -117,7 +117,7 @@ module _ (r : Record) (out : List ℕ) where
   written-fits (suc k) n e = never cc
 
   -- reading what was written gives the same record
-  pub read-written : (n : ℕ) → writeIs r out ≡ Bits (record { 0 = n }) → readIs (take (bytesFor n) (outIs r out)) n ≡ accepting r
+  pub read-written : (n : ℕ) → writeIs r out ≡ Bits (record { 0 = n }) → readIs (take (bytesFor n) (outIs r out)) n ≡ acceptedAs r
   unfolding writeIs outIs writeRefusal
   read-written n e =
       let k = written-fits (writeRefusal r (length out)) n e in
@@ -131,7 +131,7 @@ module _ (r : Record) (out : List ℕ) where
       })
 
 -- writing what was read gives the same bits, in the same bytes
-pub written-read : (s : List ℕ) (n : ℕ) (r : Record) (out : List ℕ) → Bytes s → readIs s n ≡ accepting r → length s ≤ length out
+pub written-read : (s : List ℕ) (n : ℕ) (r : Record) (out : List ℕ) → Bytes s → readIs s n ≡ acceptedAs r → length s ≤ length out
     → (writeIs r out ≡ Bits (record { 0 = n })) × (outIs r out ≡ s ++ drop (length s) out)
 written-read s n r out b e room =
     let w = accepted-writing s n r b e in

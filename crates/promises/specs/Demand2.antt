@@ -13,11 +13,11 @@ use Rattle.grammar.specs.declared.record.Record.{Record}
 use Rattle.reader.specs.Read.{readIs}
 use Rattle.writer.specs.Write.{lengthOf, writeIs, outIs}
 use Rattle.writer.specs.declared.Written.the-variants.{Bits}
-use Rattle.pdu.specs.Accepting.{accepting, WritingOf}
+use Rattle.pdu.specs.Accepted.{acceptedAs, WritingOf}
 use Rattle.pdu.proofs.RoundTrip as trip
 
 -- A PDU of n bits in the bytes s is accepted with a record exactly if it is the writing of that record, and the record is legal.
-pub read-exactly-legal : (s : List ℕ) (n : ℕ) (r : Record) → Bytes s → (readIs s n ≡ accepting r) ↔ WritingOf s n r
+pub read-exactly-legal : (s : List ℕ) (n : ℕ) (r : Record) → Bytes s → (readIs s n ≡ acceptedAs r) ↔ WritingOf s n r
 read-exactly-legal = trip.accepted-iff
 
 -- It is the writing of one record only.
@@ -29,10 +29,10 @@ pub legal-written : (r : Record) (out : List ℕ) → Legal pdu r → bytesFor (
 legal-written r out l h = trip.written-legal r out l h .0
 
 -- Writing what was read gives the same bits, in the same bytes, and leaves the bytes after them.
-pub write-gives-the-bits : (s : List ℕ) (n : ℕ) (r : Record) (out : List ℕ) → Bytes s → readIs s n ≡ accepting r → length s ≤ length out
+pub write-gives-the-bits : (s : List ℕ) (n : ℕ) (r : Record) (out : List ℕ) → Bytes s → readIs s n ≡ acceptedAs r → length s ≤ length out
     → (writeIs r out ≡ Bits (record { 0 = n })) × (outIs r out ≡ s ++ drop (length s) out)
 write-gives-the-bits = trip.written-read
 
 -- Reading what was written gives the same record.
-pub read-gives-the-record : (r : Record) (out : List ℕ) (n : ℕ) → writeIs r out ≡ Bits (record { 0 = n }) → readIs (take (bytesFor n) (outIs r out)) n ≡ accepting r
+pub read-gives-the-record : (r : Record) (out : List ℕ) (n : ℕ) → writeIs r out ≡ Bits (record { 0 = n }) → readIs (take (bytesFor n) (outIs r out)) n ≡ acceptedAs r
 read-gives-the-record = trip.read-written

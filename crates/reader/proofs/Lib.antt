@@ -1,5 +1,4 @@
-pub mod Steps
+pub mod Records
 pub mod Readers
 pub mod Answers
-pub mod Windows
 pub mod Digits

@@ -2,23 +2,14 @@
 use mathlib.Core.Path.{_≡_}
 use mathlib.Core.Bool.{Bool, true, false}
 use mathlib.Core.List.{List, []}
-use Prim.Native.Nat.{ℕ, _+_, _≤_, _<_, min}
+use Prim.Native.Nat.{ℕ, _+_, _≤_, _<_}
 use native.Mathlib.Numerals.{add-one}
 use native.Mathlib.Omega.{arith}
-use lib.ListN.{length, getD, take, drop, length-take, drop-of-length-le}
+use lib.ListN.{length, getD, take, length-take, drop-of-length-le}
 use lib.Dec.{eqb}
-use lib.Seq.{slice, slice-cons, take-all}
-use Rattle.bits.proofs.Lists.{take-min, drop-min}
+use lib.Seq.{slice, slice-cons}
 use Rattle.bits.specs.Lists.{some, every}
 use Rattle.rules.specs.Matching.{same}
-
--- a count beyond the places of an array uses them all
-module _ {A : Type 0} where
-  pub take-used : (l : List A) (n : ℕ) {m u : ℕ} → length l ≡ m → u ≡ min n m → take u l ≡ take n l
-  take-used l n h e = rw (e, ← h) (take-min n l)
-
-  pub drop-used : (l : List A) (n : ℕ) {m u : ℕ} → length l ≡ m → u ≡ min n m → slice u m l ≡ drop n l
-  drop-used l n {m} h e = rw (take-all m l (omega arith), e, ← h) (drop-min n l)
 
 module _ {A : Type 0} (f : A → Bool) (l : List A) (d : A) {i n : ℕ} (h : i < n) (k : n ≤ length l) {x : Bool} where
   -- a search goes on past an element that does not pass, and ends at one that does

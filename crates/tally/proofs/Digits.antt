@@ -6,13 +6,13 @@ use Prim.Native.Nat.{ℕ, zero, suc, _+_, _*_, _≤_, _<_, min}
 use native.Mathlib.Numerals.{add-one}
 use native.Mathlib.Omega.{arith}
 use lib.ListN.{length, take, drop, getD, length-append}
-use lib.Seq.{slice, slice-cons, slice-empty, take-all, take-nil, drop-nil}
+use lib.Seq.{slice, slice-cons, slice-empty, take-nil, drop-nil}
 use lib.Dec.{leb, ltb, eqb}
 use borrow.Author.Tests.{leb-true, leb-false, lt-leb, lt-ltb, eqb-false, eq-eqb, ne-eqb}
 use Rattle.bits.specs.Bits.{pick, bitsOf}
 use Rattle.bits.proofs.Tests.{by-test}
 use Rattle.bits.proofs.Numbers.{length-bitsOf}
-use Rattle.bits.proofs.Lists.{take-min, drop-min}
+use Rattle.bits.proofs.Lists.{take-used, drop-used}
 use Rattle.bits.specs.Lists.{every}
 use Rattle.codec.specs.Codec.{first}
 use Rattle.codec.specs.Parts.{isZero, numberFault, number, absent, element, tested}
@@ -104,9 +104,8 @@ pub digits-tallied : (n k : ℕ) (l : List ℕ) (start : Tally) (clean legal : B
     → (r : Tally) → r .clean ≡ start .clean && clean → r .refusal ≡ first (start .refusal) (pick legal 0 3) → r .bits ≡ start .bits + 4 * k
     → Tallies (places (element 4 digitRefusal) absent 24 n) l start r
 digits-tallied n k l start clean legal full few hl hc r rc rr rb =
-    let used : k ≡ min n (length l) = omega arith in
-    let early : take k l ≡ take n l = ap (λ (i : ℕ). take i l) used ∙ take-min n l in
-    let late : slice k 24 l ≡ drop n l = ap (drop k) (take-all 24 l (omega arith)) ∙ ap (λ (i : ℕ). drop i l) used ∙ drop-min n l in
+    let early : take k l ≡ take n l = take-used l n full few in
+    let late : slice k 24 l ≡ drop n l = drop-used l n full few in
     let fault : pick legal 0 3 ≡ places (element 4 digitRefusal) absent 24 n .fault l =
     ap (λ (b : Bool). pick b 0 3) (hl ∙ ap (noneAbove 12) early) ∙ sym (digits-fault 24 n l full) in
     let zero : clean ≡ places (element 4 digitRefusal) absent 24 n .clean l = hc ∙ ap (noneAbove 0) late ∙ sym (digits-clean 24 n l full) in

@@ -9,7 +9,7 @@ use lib.ListN.{length}
 use lib.Dec.{ltb, eqb}
 use borrow.Author.Tests.{eqb-true, eq-eqb, ltb-true, ltb-false, lt-ltb, le-ltb}
 use Rattle.bits.specs.Bits.{pick}
-use Rattle.bits.proofs.Tests.{differ, false-unless, both, both⁻¹}
+use Rattle.bits.proofs.Tests.{never, differ, false-unless, both, both⁻¹}
 use Rattle.reader.specs.Read.{refusalOf, readIs}
 use Rattle.reader.specs.declared.Answer.{Answer}
 use Rattle.reader.specs.declared.Answer.the-variants as reader
@@ -80,8 +80,7 @@ module _ (b s : List ℕ) (n room : ℕ) where
   accepted-not : readIs s n .answer ≡ reader.Refused 0 → ⊥
   accepted-not f =
       let a : readIs s n .answer ≡ reader.Accepted = reading-kept.promise .success s n (ap refusalOf f) .0 in
-      let z : _≡_ {A = ℕ} 0 1 = cc in
-      omega arith
+      never cc
 
   row : Both (number b s n room)
   row = go (isArchive b) refl (readIs s n .answer) refl (mayHold (readIs s n .found)) refl

@@ -7,7 +7,7 @@ use native.Mathlib.Omega.{arith}
 use Rattle.bits.specs.Bits.{pick}
 use Rattle.bits.specs.Frame.{bitsIn, framed, Framed}
 use Rattle.bits.proofs.Frames.{framed-says, framed-is}
-use Rattle.bits.proofs.Tests.{differ, false-unless}
+use Rattle.bits.proofs.Tests.{never, differ, false-unless}
 use Rattle.codec.specs.Codec.{Outcome, ok, no, andThen, Right, Legal}
 use Rattle.codec.specs.Places.{isNil}
 use Rattle.codec.specs.Whole.{wholeParse}
@@ -20,7 +20,7 @@ use Rattle.grammar.specs.declared.record.Record.{Record}
 use Rattle.reader.specs.Read.{refusalOf, answered, refusing, readIs}
 use Rattle.reader.specs.declared.Answer.the-variants.{Accepted, Refused}
 use Rattle.reader.specs.declared.Reading.{Reading}
-use Rattle.pdu.specs.Accepting.{accepting}
+use Rattle.pdu.specs.Accepted.{acceptedAs}
 use Rattle.promises.specs.Answers.{OneOf}
 use Rattle.promises.specs.Demand1.Reading.{number, Given, accepted, unframed, stopped, left-over, numbers, Promise}
 use Rattle.promises.proofs.Tables.{exactly}
@@ -84,7 +84,7 @@ module _ (s : List ℕ) (n : ℕ) where
 
   succeeds : (k : ℕ) → Given s n k → k ≡ 0 → (readIs s n .answer ≡ Accepted) × Legal pdu (readIs s n .found) × (bitsIn n s ≡ pdu .print (readIs s n .found))
   succeeds k (accepted r f l e) z =
-      let x : readIs s n ≡ accepting r = whole f ∙ rw (e, whole-reads pdu r l) in
+      let x : readIs s n ≡ acceptedAs r = whole f ∙ rw (e, whole-reads pdu r l) in
       rw x (refl, l, e)
   succeeds k (unframed f) z = absurd (omega arith)
   succeeds k (stopped m f h) z = absurd (omega arith)
@@ -98,7 +98,7 @@ module _ (s : List ℕ) (n : ℕ) where
       same m e = ap refusing cc
 
       go : (t : Bool) (o : Outcome Record) → pick t (answered o) (refusing 1) .answer ≡ Refused k → pick t (answered o) (refusing 1) ≡ refusing k
-      go true (ok a at r) e = absurd (let z : _≡_ {A = ℕ} 0 1 = cc in omega arith)
+      go true (ok a at r) e = never cc
       go true (no m p) e = same m e
       go false o e = same 1 e
 

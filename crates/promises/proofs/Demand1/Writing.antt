@@ -9,7 +9,7 @@ use lib.Dec.{leb}
 use borrow.Author.Tests.{leb-true, leb-false, lt-leb}
 use Rattle.bits.specs.Bits.{pick}
 use Rattle.bits.specs.Frame.{bytesFor, pack}
-use Rattle.bits.proofs.Tests.{differ, false-unless, and-false}
+use Rattle.bits.proofs.Tests.{never, differ, false-unless, and-false}
 use Rattle.codec.specs.Codec.{first}
 use Rattle.codec.specs.Parts.{isZero, is-zero}
 use Rattle.codec.specs.Faults.{Faults}
@@ -76,7 +76,7 @@ module _ (r : Record) (out : List ℕ) where
   leaves k = go (writeRefusal r (length out))
     where
       go : (w : ℕ) → written (lengthOf r) w ≡ Refused k → pick (isZero w) (pack (pdu .print r) ++ drop (bytesFor (lengthOf r)) out) out ≡ out
-      go zero e = absurd (let z : _≡_ {A = ℕ} 0 1 = cc in omega arith)
+      go zero e = never cc
       go (suc w) e = refl
 
 pub promise : Promise

@@ -5,7 +5,7 @@ use borrow.Author.Needs.{needs}
 use Rattle.bits.specs.Frame.{bitsIn}
 use Rattle.grammar.specs.Grammar.{external, noExternal}
 use Rattle.grammar.specs.Zero.{zeroNumber}
-use Rattle.reader.proofs.Steps.{noExternal-at}
+use Rattle.grammar.proofs.Steps.{noExternal-at}
 use Rattle.judging.specs.Walk.{walk}
 use Rattle.judging.proofs.Walks.{Walking, walking-on, walking-off, walking-done, walk-places}
 use Rattle.judging.proofs.Windows.{inside-next}

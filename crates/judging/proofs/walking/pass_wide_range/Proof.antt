@@ -9,7 +9,7 @@ use Rattle.bits.specs.Element.{windowAt}
 use Rattle.codec.specs.Reading.{got, readAt}
 use Rattle.grammar.specs.Grammar.{identity}
 use Rattle.grammar.proofs.Codes.{ends-agree, ends-say}
-use Rattle.reader.proofs.Windows.{wideIn}
+use Rattle.grammar.proofs.Windows.{wideIn}
 use Rattle.judging.specs.Walk.{Inside}
 use Rattle.judging.specs.declared.walking.Walked.the-variants.{At}
 use Rattle.judging.proofs.Identities.{identity-wide}

@@ -7,9 +7,9 @@ use Rattle.codec.specs.Reading.{from}
 use Rattle.codec.proofs.Onward.{placed-got, placed-refused}
 use Rattle.codec.proofs.Filling.{Filling, filling-start, filling-got, filling-refused, filling-done}
 use Rattle.grammar.specs.Grammar.{identity, noIdentity, zeroIdentity}
+use Rattle.grammar.proofs.Steps.{noIdentity-at}
 use Rattle.reader.specs.Reader.{entriesIs}
 use Rattle.reader.proofs.Readers.{identity-read}
-use Rattle.reader.proofs.Steps.{noIdentity-at}
 use Rattle.reader.proofs.identities.entries_of.Statement.{statement}
 use Rattle.reader.proofs.identities.entries_of.Tie as tie
 

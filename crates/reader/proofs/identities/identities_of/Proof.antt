@@ -19,8 +19,8 @@ use Rattle.grammar.specs.Grammar.{identity, noIdentity, zeroIdentity, rangeEnds
 use Rattle.grammar.specs.declared.record.Identity.{Identity}
 use Rattle.grammar.specs.declared.site.Row.{Row}
 use Rattle.grammar.proofs.Codes.{entriesOf-le}
+use Rattle.grammar.proofs.Steps.{identities-at}
 use Rattle.reader.specs.Reader.{EndsFit, entriesIs, endsIs, identitiesIs}
-use Rattle.reader.proofs.Steps.{identities-at}
 use Rattle.reader.proofs.Readers.{entries-read}
 use Rattle.reader.proofs.identities.identities_of.Statement.{statement}
 use Rattle.reader.proofs.identities.identities_of.Tie as tie

@@ -3,8 +3,8 @@ use mathlib.Core.Path.{_∙_, sym, ap}
 use borrow.Author.Needs.{needs}
 use Rattle.codec.specs.Reading.{elementOf}
 use Rattle.codec.proofs.Onward.{from-same, go-on, number-read}
+use Rattle.grammar.proofs.Steps.{identity-at}
 use Rattle.reader.specs.Reader.{identityIs}
-use Rattle.reader.proofs.Steps.{identity-at}
 use Rattle.reader.proofs.identities.identity_by_parts.Statement.{statement}
 use Rattle.reader.proofs.identities.identity_by_parts.Tie as tie
 

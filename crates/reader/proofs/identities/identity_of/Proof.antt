@@ -9,8 +9,8 @@ use Rattle.bits.specs.Bits.{bits}
 use Rattle.bits.specs.Frame.{bitsIn}
 use Rattle.bits.proofs.Tests.{said-yes}
 use Rattle.codec.specs.Reading.{from}
+use Rattle.grammar.proofs.Windows.{identity-plain, identity-wide}
 use Rattle.reader.specs.Reader.{identityIs}
-use Rattle.reader.proofs.Windows.{identity-plain, identity-wide}
 use Rattle.reader.proofs.identities.identity_of.Statement.{statement}
 use Rattle.reader.proofs.identities.identity_of.Tie as tie
 

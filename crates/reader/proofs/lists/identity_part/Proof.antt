@@ -5,8 +5,8 @@ use Rattle.codec.specs.Reading.{got, from}
 use Rattle.codec.proofs.Onward.{from-same, go-on}
 use Rattle.grammar.specs.declared.record.Numbers.{Numbers}
 use Rattle.grammar.specs.declared.record.Lists.{Lists}
+use Rattle.grammar.proofs.Steps.{identityPart-at}
 use Rattle.reader.specs.Reader.{listsIs}
-use Rattle.reader.proofs.Steps.{identityPart-at}
 use Rattle.reader.proofs.Readers.{identities-read}
 use Rattle.reader.proofs.lists.identity_part.Statement.{statement}
 use Rattle.reader.proofs.lists.identity_part.Tie as tie

@@ -6,8 +6,8 @@ use borrow.Author.Tests.{ne-eqb}
 use Rattle.codec.specs.Reading.{got, from}
 use Rattle.codec.proofs.Onward.{from-same}
 use Rattle.grammar.specs.declared.record.Lists.{Lists}
+use Rattle.grammar.proofs.Steps.{noPart-at}
 use Rattle.reader.specs.Reader.{listsIs}
-use Rattle.reader.proofs.Steps.{noPart-at}
 use Rattle.reader.proofs.lists.lists_of.Statement.{statement}
 use Rattle.reader.proofs.lists.lists_of.Tie as tie
 

@@ -6,8 +6,8 @@ use borrow.Author.Needs.{needs}
 use Rattle.codec.proofs.Onward.{from-same, go-on, number-read, element-bound}
 use Rattle.grammar.specs.SiteSheet.{lengthRefusal}
 use Rattle.grammar.proofs.Codes.{between-le}
+use Rattle.grammar.proofs.Steps.{external-at}
 use Rattle.reader.specs.Reader.{externalIs}
-use Rattle.reader.proofs.Steps.{external-at}
 use Rattle.reader.proofs.Readers.{digits-read}
 use Rattle.reader.proofs.numbers.external_of.Statement.{statement}
 use Rattle.reader.proofs.numbers.external_of.Tie as tie

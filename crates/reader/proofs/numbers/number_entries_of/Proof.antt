@@ -8,9 +8,9 @@ use Rattle.codec.proofs.Onward.{placed-got, placed-refused}
 use Rattle.codec.proofs.Filling.{Filling, filling-start, filling-got, filling-refused, filling-done}
 use Rattle.grammar.specs.Grammar.{external, noExternal}
 use Rattle.grammar.specs.Zero.{zeroNumber}
+use Rattle.grammar.proofs.Steps.{noExternal-at}
 use Rattle.reader.specs.Reader.{numberEntriesIs}
 use Rattle.reader.proofs.Readers.{external-read}
-use Rattle.reader.proofs.Steps.{noExternal-at}
 use Rattle.reader.proofs.numbers.number_entries_of.Statement.{statement}
 use Rattle.reader.proofs.numbers.number_entries_of.Tie as tie
 

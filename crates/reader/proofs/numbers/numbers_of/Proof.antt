@@ -12,8 +12,8 @@ use Rattle.grammar.specs.SiteSheet.{entriesOf}
 use Rattle.grammar.specs.Grammar.{external, noExternal}
 use Rattle.grammar.specs.declared.site.Row.{Row}
 use Rattle.grammar.proofs.Codes.{entriesOf-le}
+use Rattle.grammar.proofs.Steps.{externals-at}
 use Rattle.reader.specs.Reader.{numberEntriesIs, numbersIs}
-use Rattle.reader.proofs.Steps.{externals-at}
 use Rattle.reader.proofs.Readers.{number-entries-read}
 use Rattle.reader.proofs.numbers.numbers_of.Statement.{statement}
 use Rattle.reader.proofs.numbers.numbers_of.Tie as tie

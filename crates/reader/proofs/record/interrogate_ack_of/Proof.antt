@@ -4,7 +4,7 @@ use borrow.Author.Needs.{needs}
 use Rattle.codec.specs.Reading.{elementOf}
 use Rattle.codec.proofs.Onward.{from-same, go-on, number-read, tested-element}
 use Rattle.reader.specs.Reader.{recordIs}
-use Rattle.reader.proofs.Steps.{interrogateAck-at}
+use Rattle.reader.proofs.Records.{interrogateAck-at}
 use Rattle.reader.proofs.Readers.{services-read, lists-read}
 use Rattle.reader.proofs.record.interrogate_ack_of.Statement.{statement}
 use Rattle.reader.proofs.record.interrogate_ack_of.Tie as tie

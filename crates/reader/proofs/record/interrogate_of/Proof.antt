@@ -7,7 +7,7 @@ use Rattle.grammar.specs.declared.record.Services.{Services}
 use Rattle.grammar.specs.declared.record.Lists.{Lists}
 use Rattle.grammar.specs.declared.record.Record.{Record}
 use Rattle.reader.specs.Reader.{recordIs}
-use Rattle.reader.proofs.Steps.{interrogate-at}
+use Rattle.reader.proofs.Records.{interrogate-at}
 use Rattle.reader.proofs.record.interrogate_of.Statement.{statement}
 use Rattle.reader.proofs.record.interrogate_of.Tie as tie
 

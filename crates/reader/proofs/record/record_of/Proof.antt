@@ -8,7 +8,7 @@ use Rattle.codec.specs.Reading.{from, readAt, elementOf}
 use Rattle.codec.proofs.Onward.{from-same, go-on, number-read, tested-element}
 use Rattle.grammar.specs.Grammar.{pdu, restOf}
 use Rattle.reader.specs.Reader.{recordAt}
-use Rattle.reader.proofs.Steps.{pdu-at}
+use Rattle.reader.proofs.Records.{pdu-at}
 use Rattle.reader.proofs.Readers.{identities-read}
 use Rattle.reader.proofs.record.record_of.Statement.{statement}
 use Rattle.reader.proofs.record.record_of.Tie as tie

@@ -4,8 +4,8 @@ use borrow.Author.Needs.{needs}
 use Rattle.codec.proofs.Onward.{from-same, go-on, number-read, element-bound}
 use Rattle.grammar.specs.SiteSheet.{countRefusal}
 use Rattle.grammar.proofs.Codes.{between-le}
+use Rattle.grammar.proofs.Steps.{services-at}
 use Rattle.reader.specs.Reader.{servicesIs}
-use Rattle.reader.proofs.Steps.{services-at}
 use Rattle.reader.proofs.Readers.{service-list-read}
 use Rattle.reader.proofs.services.services_of.Statement.{statement}
 use Rattle.reader.proofs.services.services_of.Tie as tie

@@ -7,9 +7,10 @@ use lib.ListN.{length, take}
 use lib.Seq.{slice}
 use borrow.Author.Needs.{needs}
 use Rattle.bits.specs.Lists.{some}
+use Rattle.bits.proofs.Lists.{take-used}
 use Rattle.grammar.proofs.Arrays.{services-length}
 use Rattle.rules.specs.Matching.{isCovering, covered}
-use Rattle.rules.proofs.Search.{take-used, passed, found, some-end}
+use Rattle.rules.proofs.Search.{passed, found, some-end}
 use Rattle.rules.proofs.matching.covers.Statement.{statement}
 use Rattle.rules.proofs.matching.covers.Tie as tie
 

@@ -7,9 +7,10 @@ use lib.ListN.{take}
 use lib.Seq.{slice}
 use borrow.Author.Needs.{needs}
 use Rattle.bits.specs.Lists.{some}
+use Rattle.bits.proofs.Lists.{take-used}
 use Rattle.grammar.specs.Grammar.{zeroIdentity}
 use Rattle.rules.specs.Matching.{isEntry}
-use Rattle.rules.proofs.Search.{take-used, passed, found, some-end}
+use Rattle.rules.proofs.Search.{passed, found, some-end}
 use Rattle.rules.proofs.matching.is_single.Statement.{statement}
 use Rattle.rules.proofs.matching.is_single.Tie as tie
 

@@ -11,12 +11,13 @@ use lib.Seq.{slice}
 use borrow.Author.Needs.{needs}
 use borrow.Author.Tests.{eq-eqb, ne-eqb}
 use Rattle.bits.specs.Lists.{some}
+use Rattle.bits.proofs.Lists.{take-used}
 use Rattle.grammar.specs.SiteSheet.{entriesOf}
 use Rattle.grammar.specs.declared.site.Row.{Row}
 use Rattle.grammar.specs.declared.record.Number.{Number}
 use Rattle.grammar.proofs.Arrays.{numbers-length, each-digits-length}
 use Rattle.rules.specs.Matching.{same, isNumber, numberAmong}
-use Rattle.rules.proofs.Search.{take-used, passed, found, some-end, agrees, differs, same-end}
+use Rattle.rules.proofs.Search.{passed, found, some-end, agrees, differs, same-end}
 use Rattle.rules.proofs.matching.number_among.Statement.{statement}
 use Rattle.rules.proofs.matching.number_among.Tie as tie
 

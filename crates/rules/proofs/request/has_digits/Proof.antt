@@ -7,8 +7,9 @@ use lib.Seq.{slice}
 use borrow.Author.Needs.{needs}
 use borrow.Author.Tests.{eq-eqb, ne-eqb}
 use Rattle.bits.specs.Lists.{every}
+use Rattle.bits.proofs.Lists.{take-used}
 use Rattle.rules.specs.Request.{isDigit}
-use Rattle.rules.proofs.Search.{take-used, stays, fails, every-end}
+use Rattle.rules.proofs.Search.{stays, fails, every-end}
 use Rattle.rules.proofs.request.has_digits.Statement.{statement}
 use Rattle.rules.proofs.request.has_digits.Tie as tie
 

@@ -7,8 +7,9 @@ use lib.Seq.{slice}
 use borrow.Author.Needs.{needs}
 use borrow.Author.Tests.{eq-eqb, ne-eqb}
 use Rattle.bits.specs.Lists.{every}
+use Rattle.bits.proofs.Lists.{drop-used}
 use Rattle.rules.specs.Request.{isUnused}
-use Rattle.rules.proofs.Search.{drop-used, stays, fails, every-end}
+use Rattle.rules.proofs.Search.{stays, fails, every-end}
 use Rattle.rules.proofs.request.is_clear.Statement.{statement}
 use Rattle.rules.proofs.request.is_clear.Tie as tie
 

@@ -12,9 +12,9 @@ use Rattle.codec.specs.Parts.{number}
 use Rattle.codec.specs.Reading.{Answer, got, andNext, readAt}
 use Rattle.codec.proofs.Reading.{readAt-absent}
 use Rattle.codec.proofs.Windows.{number-in-window}
 use Rattle.grammar.specs.Grammar.{extension, identity}
 use Rattle.grammar.specs.declared.record.Identity.{Identity}
-use Rattle.reader.proofs.Steps.{identity-at}
+use Rattle.grammar.proofs.Steps.{identity-at}
 
 -- an identity without an extension and one with it, in the window at their place
 abbrev pub plainIn : ℕ → Identity

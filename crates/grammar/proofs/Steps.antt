@@ -3,20 +3,19 @@ use mathlib.Core.Path.{_≡_}
 use mathlib.Core.Bool.{Bool}
 use mathlib.Core.List.{List}
 use Prim.Native.Nat.{ℕ}
-use Rattle.codec.specs.Parts.{number, absent, element, tested, only}
+use Rattle.codec.specs.Parts.{number, absent, element, tested}
 use Rattle.codec.specs.Places.{places}
 use Rattle.codec.specs.Reading.{got, andNext, readAt}
-use Rattle.codec.proofs.Reading.{andNext-assoc, readAt-seq, readAt-absent, readAt-shaped, mark-at}
+use Rattle.codec.proofs.Reading.{andNext-assoc, readAt-seq, readAt-absent, readAt-shaped}
 use Rattle.codec.proofs.Filling.{places-rest}
-use Rattle.grammar.specs.SiteSheet.{ssType, entriesOf, rangeRefusal, digitRefusal, serviceRefusal, kindRefusal, resultRefusal, askedRefusal, countRefusal, lengthRefusal}
-use Rattle.grammar.specs.Grammar.{extension, identity, noIdentity, zeroIdentity, rangeEnds, secondEnd, identities, noIdentities, external, noExternal, externals, noExternals, services, noServices, identityPart, numberPart, noPart, partOf, interrogate, interrogateAck, restOf, pdu}
+use Rattle.grammar.specs.SiteSheet.{entriesOf, rangeRefusal, digitRefusal, serviceRefusal, countRefusal, lengthRefusal}
+use Rattle.grammar.specs.Grammar.{extension, identity, noIdentity, zeroIdentity, rangeEnds, secondEnd, identities, noIdentities, external, noExternal, externals, noExternals, services, noServices, identityPart, numberPart, noPart}
 use Rattle.grammar.specs.Zero.{zeroIdentities, zeroNumber, zeroNumbers, zeroServices, zeroLists}
 use Rattle.grammar.specs.declared.record.Identities.{Identities}
 use Rattle.grammar.specs.declared.record.Numbers.{Numbers}
 use Rattle.grammar.specs.declared.record.Lists.{Lists}
 use Rattle.grammar.specs.declared.site.Listing.{Listing}
 use Rattle.grammar.specs.declared.site.Listing.the-variants as of
-use Rattle.reader.specs.Reader.{recordAt}
 
 module _ (s : List Bool) (at : ℕ) where
   pub identity-at : readAt identity s at ≡ andNext (readAt (number 24) s at) (λ ssi at₁. andNext (readAt (number 1) s at₁) (λ present at₂.
@@ -67,7 +66,7 @@ module _ (s : List Bool) (at : ℕ) where
   unfolding noExternals
   noExternals-at = simp (readAt-shaped, readAt-seq, readAt-absent, places-rest noExternal noExternal s zeroNumber (noExternal-at s) 8)
 
-  noServices-at : readAt noServices s at ≡ got zeroServices at
+  pub noServices-at : readAt noServices s at ≡ got zeroServices at
   unfolding noServices
   noServices-at = simp (readAt-shaped, readAt-seq, readAt-absent, places-rest absent absent s 0 (readAt-absent s) 7)
 
@@ -94,22 +93,3 @@ module _ (s : List Bool) (at : ℕ) where
   unfolding noPart
   noPart-at =
       rw (readAt-shaped, readAt-seq, noIdentities-at, readAt-seq, noIdentities-at, readAt-seq, noIdentities-at, readAt-seq, noExternals-at, noExternals-at)
-
--- ---- what follows the affected users, and the whole
-
-module _ (s : List Bool) (kind : ℕ) (affected : Identities) (at : ℕ) where
-  pub interrogate-at : recordAt interrogate s kind affected at ≡ andNext (readAt (element 2 askedRefusal) s at) (λ asked at₁.
-      got (record { kind = kind; affected = affected; asked = asked; result = 0; delivery = 0; services = zeroServices; lists = zeroLists }) at₁)
-  unfolding recordAt interrogate
-  interrogate-at = simp (readAt-seq, andNext-assoc, readAt-absent, noServices-at, noPart-at)
-
-  pub interrogateAck-at : recordAt interrogateAck s kind affected at ≡ andNext (readAt (element 3 resultRefusal) s at) (λ result at₁.
-      andNext (readAt (number 2) s at₁) (λ delivery at₂. andNext (readAt services s at₂) (λ services at₃. andNext (readAt (partOf result) s at₃) (λ lists at₄.
-      got (record { kind = kind; affected = affected; asked = 0; result = result; delivery = delivery; services = services; lists = lists }) at₄))))
-  unfolding recordAt interrogateAck
-  interrogateAck-at = simp (readAt-seq, andNext-assoc, readAt-absent)
-
-pub pdu-at : (s : List Bool) (at : ℕ) → readAt pdu s at ≡ andNext (readAt (element 6 (only ssType)) s at) (λ ss at₁. andNext (readAt (element 5 kindRefusal) s at₁) (λ kind at₂.
-    andNext (readAt (identities of.Users) s at₂) (λ affected at₃. recordAt (restOf kind) s kind affected at₃)))
-unfolding pdu recordAt
-pdu-at s at = simp (mark-at, readAt-shaped, readAt-seq, andNext-assoc)
