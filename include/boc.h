@@ -3,7 +3,7 @@
  * keeps INTERROGATE ACKs in an archive, restores them, and decides calls from it. Link libboc.a.
  *
  * Every function returns 0, or the number of a refusal (enum boc_refusal). What it answers besides, a length or a
- * decision, goes through its last pointer. A refused call changes no byte of any buffer and leaves that number alone;
+ * decision, goes through its last pointer. A refused call changes no byte of any buffer and leaves what is behind that pointer as it was;
  * an accepted one leaves the bytes after what it wrote.
  *
  * Buffers. A buffer is a pointer and a length, in bytes or in words of 32 bits. The pointer is valid for that length
@@ -16,7 +16,7 @@
  * call writes is its own until it returns.
  *
  * Stack. A call needs less than 9 KiB of stack: no function calls itself or has a frame of varying size, and the
- * deepest call, boc_decide, took 8,848 bytes on x86-64, most of them for the record that it reads (docs/BENCHMARKS.md).
+ * deepest call, boc_decide, took 8,848 bytes on x86-64, most of them for copies of the record that it reads (docs/BENCHMARKS.md).
  * The tests refuse more than 16 KiB; allow that much on another processor.
  *
  * PDU. A PDU is a number of bits, most significant bit first, in exactly that number divided by 8, rounded up, of

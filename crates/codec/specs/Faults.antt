@@ -1,4 +1,4 @@
--- With which number a value is refused that is to be written, in the words of document 01: "3 and 4 in the same order as reading".
+-- The number with which a value that is to be written is refused, in the words of document 01: "3 and 4 in the same order as reading".
 -- Nothing here writes: all that stands before the refused element or range is legal.
 use mathlib.Core.Path.{_≡_}
 use mathlib.Core.Bool.{true}
@@ -12,7 +12,7 @@ use Rattle.codec.specs.Places.{cons}
 pub data Faults : (A : Type 0) → Codec A → A → ℕ → Type 1 where
   -- 3: a value wider than its element
   wide : (w v : ℕ) → 2 ^ w ≤ v → Faults ℕ (number w) v 3
-  -- 3, 10, 4: the element or the range can be written, and its test refuses it
+  -- 3, 4 (10 for a PDU type, which writing has refused with 3 before): the element or the range can be written, and its test refuses it
   refused : {A : Type 0} (c : Codec A) (test into : A → ℕ) (a : A) (k : ℕ) → Legal c a → test a ≡ suc k → Faults A (tested c test into) a (suc k)
   -- a part of it is refused
   untested : {A : Type 0} (c : Codec A) (test into : A → ℕ) (a : A) (k : ℕ) → Faults A c a k → Faults A (tested c test into) a k

@@ -1,4 +1,4 @@
--- Each part, step by step: what a reader in this order follows. Assumes nothing.
+-- Each part of a PDU as its elements, in the order in which a reader takes them. Assumes nothing.
 use mathlib.Core.Path.{_≡_}
 use mathlib.Core.Bool.{Bool}
 use mathlib.Core.List.{List}

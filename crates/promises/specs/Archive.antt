@@ -1,4 +1,4 @@
--- What 7 and 6 are given for: bytes that are no archive, and a PDU that no archive entry may hold.
+-- Which bytes are an archive (otherwise 7), that they have one reading and a true count, and which PDUs no archive entry may hold (6).
 use mathlib.Core.Path.{_≡_, refl, sym, _∙_, subst}
 use mathlib.Core.Logic.{_↔_}
 use mathlib.Core.Bool.{true, false}

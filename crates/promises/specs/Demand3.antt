@@ -21,7 +21,7 @@ use Rattle.archive.proofs.History as history
 use Rattle.barring.specs.Decide.{partFor, partIn, decideIs}
 use Rattle.barring.proofs.History as deciding
 
--- An empty archive of a home network, of which `empty` wrote m bytes; and PDUs offered one after another, each with the buffer lent for it.
+-- The empty archive of a home network, the m bytes that `empty` wrote; and PDUs offered one after another, each with the buffer lent for it.
 -- After a refusal one goes on with the old archive.
 module _ (home : ℕ) (lent : List ℕ) (m : ℕ) (e : emptyIs home (length lent) ≡ Bytes m) (offers : List Offer) where
   abbrev pub archive : List ℕ

@@ -1,4 +1,4 @@
--- When a list names a user or an external number. `missing` is the network that a missing extension means.
+-- When a list names a user, an external number or a service. `missing` is the network that a missing extension means.
 use Prim.Native.Nat.{ℕ}
 use mathlib.Core.Bool.{Bool, true, false, _&&_, _||_}
 use mathlib.Core.List.{List, [], _∷_}

@@ -50,7 +50,7 @@ abbrev pub inGroups : ℕ → Identities → Group → Bool
 inGroups missing groups (Of u) = identityAmong missing groups u
 inGroups missing groups NoGroup = false
 
--- the group list isn't empty, and it has not the call's group, or the call has none
+-- the group list isn't empty, and either the call has no group or its group is not in the list
 unfoldable pub isOutside : ℕ → Identities → Group → Bool
 isOutside missing groups group = not (isEmpty (groups .code)) && not (inGroups missing groups group)
 

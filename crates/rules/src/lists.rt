@@ -38,7 +38,7 @@ pub(crate) fn is_restricted(
     }
 }
 
-// The group list isn't empty, and it has not the call's group, or the call has none.
+// The group list isn't empty, and either the call has no group or its group is not in the list.
 pub(crate) fn is_outside(groups: Identities, missing: u32, group: Group) -> bool
     ensures { λ r. ⌜ r ≡ isOutside missing groups group ⌝ }
 {

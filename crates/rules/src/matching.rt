@@ -1,4 +1,4 @@
-// Whether a list names a user or an external number. `missing` is the network that a missing extension means.
+// Whether a list names a user, an external number or a service. `missing` is the network that a missing extension means.
 use crate::request::User;
 use bits::DigitCount;
 use grammar::record::Identities;

@@ -48,4 +48,5 @@ pub record Promise : Type 1 where
   -- "an accepted one and its record, or a refusal number": the record is legal, and its writing is the PDU
   pub success : (s : List ℕ) (n : ℕ) → number s n ≡ 0
       → (readIs s n .answer ≡ Accepted) × Legal pdu (readIs s n .found) × (bitsIn n s ≡ pdu .print (readIs s n .found))
+  -- "A refusal returns its number only": the record beside it is the record of zeros
   pub refusal : (s : List ℕ) (n k : ℕ) → readIs s n .answer ≡ Refused k → readIs s n ≡ refusing k
