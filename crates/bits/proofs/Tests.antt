@@ -57,3 +57,8 @@ pick-both false u a b = refl
 pub pick-ap : {A B : Type 0} (f : A → B) (t : Bool) (a b : A) → f (pick t a b) ≡ pick t (f a) (f b)
 pick-ap f true a b = refl
 pick-ap f false a b = refl
+
+-- a test that the first passes and the second does not is the one by which it was picked
+pub pick-told : {A : Type 0} (f : A → Bool) (t : Bool) {a b : A} → f a ≡ true → f b ≡ false → f (pick t a b) ≡ t
+pick-told f true h k = h
+pick-told f false h k = k

@@ -45,11 +45,11 @@ pub extern "C" fn boc_write(words: &[u32], out: &mut [u8], count: &mut usize) ->
     ensures { λ _. ⌜ now (out .exit) ≡ writeOut (now (words .entry)) (now (out .entry)) ⌝ }
     ensures { λ _. ⌜ now (count .exit) ≡ writeBits (now (words .entry)) (now (out .entry)) (now (count .entry)) ⌝ }
 {
-    let given = record::record_from(words);
-    if !given.given {
+    let spelt = record::record_from(words);
+    if !spelt.given {
         return 9;
     }
-    match pdu::write(given.found, out) {
+    match pdu::write(spelt.found, out) {
         Written::Bits(length) => {
             *count = length.0;
             0
@@ -125,11 +125,11 @@ pub extern "C" fn boc_decide(held: &[u8], words: &[u32], verdict: &mut u32) -> u
     ensures { λ r. ⌜ r ≡ decideNumber (now (held .entry)) (now (words .entry)) ⌝ }
     ensures { λ _. ⌜ now (verdict .exit) ≡ decision (now (held .entry)) (now (words .entry)) (now (verdict .entry)) ⌝ }
 {
-    let given = request::request_from(words);
-    if !given.given {
+    let spelt = request::request_from(words);
+    if !spelt.given {
         return 9;
     }
-    match barring::decide(held, given.asked) {
+    match barring::decide(held, spelt.asked) {
         Decision::Barred(cause) => {
             *verdict = cause;
             0

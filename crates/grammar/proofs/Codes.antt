@@ -4,14 +4,14 @@ use mathlib.Core.Bool.{Bool, true, false, _&&_}
 use mathlib.Core.List.{List, [], _++_}
 use Prim.Native.Nat.{ℕ, zero, suc, _≤_, _<_}
 use native.Mathlib.Omega.{arith}
-use borrow.Author.Tests.{eqb-true, leb-true, eq-eqb, ne-eqb, le-leb, lt-leb}
+use borrow.Author.Tests.{eqb-true, eqb-false, leb-true, leb-false, eq-eqb, ne-eqb, le-leb, lt-leb}
 use lib.ListN.{length, length-append}
 use lib.Dec.{eqb, leb}
 use Rattle.bits.specs.Bits.{pick, bitsOf}
 use Rattle.bits.proofs.Tests.{both, picked, by-test}
 use Rattle.bits.proofs.Numbers.{length-bitsOf}
 use Rattle.codec.specs.Parts.{number, absent, seq, shaped}
-use Rattle.grammar.specs.SiteSheet.{rangeType, rowOfType, rowOf, entriesOf, refusalIn, rangeRefusal, between}
+use Rattle.grammar.specs.SiteSheet.{rangeType, rowOfType, rowOf, entriesOf, refusalIn, rangeRefusal, digitOf, digitRefusal, between}
 use Rattle.grammar.specs.Grammar.{extension, identity, endsRefusal, rangeEnds}
 use Rattle.grammar.specs.declared.record.Identity.{Identity}
 use Rattle.grammar.specs.declared.site.RangeType.{RangeType}
@@ -93,3 +93,33 @@ identity-length e = go (eqb (e .present) 1)
           length-bitsOf 24 (e .ssi),
           length-bitsOf 1 (e .present),
         )
+
+-- ---- digits
+
+module _ (d : ℕ) where
+  third : (b : Bool) → d ≤ 12 → leb d 9 ≡ false → eqb d 10 ≡ false → eqb d 11 ≡ b → digitRefusal d ≡ 0
+  unfolding digitRefusal digitOf
+  third true h e f g = rw (e, f, g)
+  third false h e f g = rw (e, f, g, eq-eqb d 12 (omega (arith, leb-false d 9 e, eqb-false d 10 f, eqb-false d 11 g)))
+
+  second : (b : Bool) → d ≤ 12 → leb d 9 ≡ false → eqb d 10 ≡ b → digitRefusal d ≡ 0
+  unfolding digitRefusal digitOf
+  second true h e f = rw (e, f)
+  second false h e f = third (eqb d 11) h e f refl
+
+  legal : (b : Bool) → d ≤ 12 → leb d 9 ≡ b → digitRefusal d ≡ 0
+  unfolding digitRefusal digitOf
+  legal true h e = rw e
+  legal false h e = second (eqb d 10) h e refl
+
+  refused : 12 < d → digitRefusal d ≡ 3
+  unfolding digitRefusal digitOf
+  refused h = rw (lt-leb d 9 (omega arith), ne-eqb d 10 (omega arith), ne-eqb d 11 (omega arith), ne-eqb d 12 (omega arith))
+
+-- 0 to 12, and no other
+pub digit-refusal : (d : ℕ) → digitRefusal d ≡ pick (leb d 12) 0 3
+digit-refusal d = go (leb d 12) refl
+  where
+    go : (b : Bool) → leb d 12 ≡ b → digitRefusal d ≡ pick b 0 3
+    go true e = legal d (leb d 9) (leb-true d 12 e) refl
+    go false e = refused d (leb-false d 12 e)

@@ -7,8 +7,8 @@ use native.Mathlib.Numerals.{add-one}
 use native.Mathlib.Omega.{arith}
 use lib.ListN.{length, take, drop, getD, length-append}
 use lib.Seq.{slice, slice-cons, slice-empty, take-nil, drop-nil}
-use lib.Dec.{leb, ltb, eqb}
-use borrow.Author.Tests.{leb-true, leb-false, lt-leb, lt-ltb, eqb-false, eq-eqb, ne-eqb}
+use lib.Dec.{leb, ltb}
+use borrow.Author.Tests.{leb-true, lt-leb, lt-ltb}
 use Rattle.bits.specs.Bits.{pick, bitsOf}
 use Rattle.bits.proofs.Tests.{by-test}
 use Rattle.bits.proofs.Numbers.{length-bitsOf}
@@ -17,37 +17,19 @@ use Rattle.bits.specs.Lists.{every}
 use Rattle.codec.specs.Codec.{first}
 use Rattle.codec.specs.Parts.{isZero, numberFault, number, absent, element, tested}
 use Rattle.codec.specs.Places.{nil, cons, places}
-use Rattle.grammar.specs.SiteSheet.{digitOf, digitRefusal}
+use Rattle.grammar.specs.SiteSheet.{digitRefusal}
+use Rattle.grammar.proofs.Codes.{digit-refusal}
 use Rattle.tally.specs.Tally.{Tallies, noneAbove}
 use Rattle.tally.specs.declared.Tally.{Tally}
 
 -- ---- one digit
 
-module _ (d : ℕ) where
-  third : (b : Bool) → d ≤ 12 → leb d 9 ≡ false → eqb d 10 ≡ false → eqb d 11 ≡ b → digitRefusal d ≡ 0
-  unfolding digitRefusal digitOf
-  third true h e f g = rw (e, f, g)
-  third false h e f g = rw (e, f, g, eq-eqb d 12 (omega (arith, leb-false d 9 e, eqb-false d 10 f, eqb-false d 11 g)))
-
-  second : (b : Bool) → d ≤ 12 → leb d 9 ≡ false → eqb d 10 ≡ b → digitRefusal d ≡ 0
-  unfolding digitRefusal digitOf
-  second true h e f = rw (e, f)
-  second false h e f = third (eqb d 11) h e f refl
-
-  legal : (b : Bool) → d ≤ 12 → leb d 9 ≡ b → digitRefusal d ≡ 0
-  unfolding digitRefusal digitOf
-  legal true h e = rw e
-  legal false h e = second (eqb d 10) h e refl
-
-  refused : 12 < d → digitRefusal d ≡ 3
-  unfolding digitRefusal digitOf
-  refused h = rw (lt-leb d 9 (omega arith), ne-eqb d 10 (omega arith), ne-eqb d 11 (omega arith), ne-eqb d 12 (omega arith))
-
 digit-fault : (d : ℕ) → first (numberFault 4 d) (digitRefusal d) ≡ pick (leb d 12) 0 3
-digit-fault d = go (leb d 12) refl where
-  go : (b : Bool) → leb d 12 ≡ b → first (numberFault 4 d) (digitRefusal d) ≡ pick b 0 3
-  go true e = let h = leb-true d 12 e in rw (lt-ltb d 16 (omega arith)) (legal d (leb d 9) h refl)
-  go false e = ap (first (numberFault 4 d)) (refused d (leb-false d 12 e)) ∙ by-test (λ (n : ℕ). first n 3 ≡ 3) (ltb d 16) refl refl
+digit-fault d = ap (first (numberFault 4 d)) (digit-refusal d) ∙ go (leb d 12) refl
+  where
+    go : (b : Bool) → leb d 12 ≡ b → first (numberFault 4 d) (pick b 0 3) ≡ pick b 0 3
+    go true e = let h = leb-true d 12 e in rw (lt-ltb d 16 (omega arith))
+    go false e = by-test (λ (n : ℕ). first n 3 ≡ 3) (ltb d 16) refl refl
 
 zero-leb : (d : ℕ) → isZero d ≡ leb d 0
 zero-leb zero = refl

@@ -1,6 +1,6 @@
 -- Words that are read as a legal record, or as a request in its range, are exactly its words. Assumes nothing.
 use mathlib.Core.Path.{_≡_, refl, sym, _∙_}
-use mathlib.Core.Bool.{Bool, true, false, _&&_, _||_, or-false}
+use mathlib.Core.Bool.{Bool, true, false, _&&_, _||_}
 use mathlib.Core.List.{List, [], _∷_}
 use Prim.Native.Nat.{ℕ, zero, suc, _+_, _*_, _<_}
 use native.Mathlib.Omega.{arith}
@@ -11,16 +11,17 @@ use lib.Dec.{eqb, leb}
 use Rattle.bits.specs.Bits.{pick, Bytes}
 use Rattle.bits.specs.Lists.{every, Each}
 use Rattle.bits.proofs.Bytes.{bytes-append}
-use Rattle.bits.proofs.Tests.{both}
+use Rattle.bits.proofs.Tests.{both, picked}
 use Rattle.codec.specs.Codec.{Legal}
-use Rattle.grammar.specs.SiteSheet.{refusalOfDigit, digitOf, digitRefusal}
+use Rattle.grammar.specs.SiteSheet.{digitRefusal}
 use Rattle.grammar.specs.Grammar.{pdu}
-use Rattle.grammar.specs.declared.site.Digit.the-variants.{Decimal, Star, Hash, Plus, NoDigit}
+use Rattle.grammar.proofs.Codes.{digit-refusal}
 use Rattle.rules.specs.Request.{isDestination, digitsUsed, isDigit, isUnused}
 use Rattle.rules.specs.declared.request.Destination.the-variants.{Identity, Number}
 use Rattle.words.specs.RecordWords.{word, entriesFrom, narrow, narrowed, numberFrom, numbersFrom, listsFrom, recordWords, recordFrom}
 use Rattle.words.specs.RequestWords.{areDestination, areGroup, areRequest, userFrom, destinationFrom, requestWords, requestFrom}
 use Rattle.words.proofs.RecordInverse.{record-forth}
+use Rattle.words.proofs.RequestParts.{no-length}
 use Rattle.words.proofs.RequestInverse.{request-forth}
 use Rattle.words.proofs.LegalRecords.{Small, SmallNumber, numbers-small}
 
@@ -54,16 +55,10 @@ legal-words w l h =
 -- ---- requests
 
 digit-small : (d : ℕ) → isDigit d ≡ true → Small d
-unfolding isDigit digitRefusal digitOf
-digit-small d = go (leb d 9) refl (eqb d 10) refl (eqb d 11) refl (eqb d 12) refl
-  where
-    go : (p : Bool) → leb d 9 ≡ p → (q : Bool) → eqb d 10 ≡ q → (r : Bool) → eqb d 11 ≡ r → (s : Bool) → eqb d 12 ≡ s
-        → eqb (refusalOfDigit (pick p (Decimal d) (pick q Star (pick r Hash (pick s Plus NoDigit))))) 0 ≡ true → Small d
-    go true e q f r g s h x = omega (arith, leb-true d 9 e)
-    go false e true f r g s h x = omega (arith, eqb-true d 10 f)
-    go false e false f true g s h x = omega (arith, eqb-true d 11 g)
-    go false e false f false g true h x = omega (arith, eqb-true d 12 h)
-    go false e false f false g false h x = absurd (omega (arith, eqb-true 3 0 x))
+unfolding isDigit
+digit-small d h =
+    let few = picked (leb d 12) (sym (digit-refusal d) ∙ eqb-true (digitRefusal d) 0 h) (λ x. omega arith) in
+    omega (arith, leb-true d 12 (few .0))
 
 digits-small : (u : ℕ) (s : List ℕ) → every isDigit (take u s) ≡ true → every isUnused (drop u s) ≡ true → Each Small s
 unfolding every isUnused
@@ -82,10 +77,7 @@ length-byte w = go (eqb (word w 3) 1) refl
   where
     go : (p : Bool) → eqb (word w 3) 1 ≡ p → p && eqb (word w 6) 0 || eqb (word w 3) 2 && (eqb (word w 4) 0 && eqb (word w 5) 0) ≡ true
         → isDestination (pick p (Identity (userFrom w 4)) (Number (record { 0 = narrow (word w 6) }))) ≡ true → word w 6 < 256
-    go true k e h =
-        let one : word w 3 ≡ 1 = eqb-true (word w 3) 1 k in
-        let none : word w 6 ≡ 0 = eqb-true (word w 6) 0 (sym (or-false (eqb (word w 6) 0)) ∙ rw one at e) in
-        omega arith
+    go true k e h = omega (arith, no-length (word w 3) (word w 6) (eqb (word w 4) 0 && eqb (word w 5) 0) (eqb-true (word w 3) 1 k) e)
     go false k e h =
         let few = both (leb 1 (narrow (word w 6))) (leb (narrow (word w 6)) 24) h in
         omega (arith, leb-true (narrow (word w 6)) 24 (few .1))

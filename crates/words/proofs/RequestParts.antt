@@ -70,6 +70,10 @@ module _ (w : List ℕ) (g : Group) (e : (k : ℕ) → word w (31 + k) ≡ word 
 zeros : (a b : ℕ) → eqb a 0 && eqb b 0 ≡ true → (a ≡ 0) × (b ≡ 0)
 zeros a b e = let z = both (eqb a 0) (eqb b 0) e in (eqb-true a 0 (z .0), eqb-true b 0 (z .1))
 
+-- an identity has no length
+pub no-length : (kind used : ℕ) (rest : Bool) → kind ≡ 1 → eqb used 0 || eqb kind 2 && rest ≡ true → used ≡ 0
+no-length kind used rest one e = eqb-true used 0 (sym (or-false (eqb used 0)) ∙ rw one at e)
+
 module _ (kind network ssi used : ℕ) (h : used < 256) where
   abbrev pub choose : Bool → Destination
   choose p = pick p (Identity (record { network = network; ssi = ssi })) (Number (record { 0 = narrow used }))
@@ -79,7 +83,7 @@ module _ (kind network ssi used : ℕ) (h : used < 256) where
   unfolding destinationWords
   destination-forth true k e =
       let one : kind ≡ 1 = eqb-true kind 1 k in
-      let none : used ≡ 0 = eqb-true used 0 (sym (or-false (eqb used 0)) ∙ rw one at e) in
+      let none = no-length kind used (eqb network 0 && eqb ssi 0) one e in
       λ i. sym one i ∷ network ∷ ssi ∷ sym none i ∷ []
   destination-forth false k e =
       let two = both (eqb kind 2) (eqb network 0 && eqb ssi 0) e in

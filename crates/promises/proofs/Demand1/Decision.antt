@@ -114,13 +114,17 @@ module _ (q : Request) where
     back k (unranged r) = ap decidedNumber (answer false (isArchive b) (false-unless test (λ e. r (in-range e))) refl)
     back k (damaged r a) = ap decidedNumber (answer true false (passes r) a)
 
-    succeeds : (k : ℕ) → Given b q k → k ≡ 0 → Decided (decideIs b q)
-    succeeds k (success r a) z = subst Decided (sym (answer true true (passes r) a)) decided
-    succeeds k (unranged r) z = absurd (omega arith)
-    succeeds k (damaged r a) z = absurd (omega arith)
+    -- what is decided is in its range, and from an archive
+    pub accepted : (k : ℕ) → Given b q k → k ≡ 0 → Ranged q × (isArchive b ≡ true)
+    accepted k (success r a) z = (r, a)
+    accepted k (unranged r) z = absurd (omega arith)
+    accepted k (damaged r a) z = absurd (omega arith)
+
+    succeeds : number b q ≡ 0 → Decided (decideIs b q)
+    succeeds e = let s = accepted (number b q) (row .0) e in subst Decided (sym (answer true true (passes (s .0)) (s .1))) decided
 
 pub promise : Promise
 promise = record {
   table = λ b q. exactly (Given b q) (row q b .0) (row q b .1) (back q b);
-  success = λ b q e. succeeds q b (number b q) (row q b .0) e;
+  success = λ b q e. succeeds q b e;
 }

@@ -2,7 +2,7 @@
 use mathlib.Core.Path.{_≡_, refl, sym, ap, _∙_, subst}
 use mathlib.Core.Bool.{Bool, true, false, _&&_}
 use mathlib.Core.List.{List, [], _∷_, _++_}
-use Prim.Native.Nat.{ℕ, zero, suc}
+use Prim.Native.Nat.{ℕ, zero, suc, _≤_}
 use native.Mathlib.Omega.{arith}
 use lib.ListN.{length, drop}
 use lib.Dec.{leb}
@@ -10,7 +10,7 @@ use borrow.Author.Tests.{leb-true, leb-false, lt-leb}
 use Rattle.bits.specs.Bits.{pick}
 use Rattle.bits.specs.Frame.{bytesFor, pack}
 use Rattle.bits.proofs.Tests.{never, differ, false-unless, and-false}
-use Rattle.codec.specs.Codec.{first}
+use Rattle.codec.specs.Codec.{Legal, first}
 use Rattle.codec.specs.Parts.{isZero, is-zero}
 use Rattle.codec.specs.Faults.{Faults}
 use Rattle.codec.proofs.Faulting.{faults-refused, Faulted, Faulting, faulting}
@@ -63,13 +63,17 @@ module _ (r : Record) (out : List ℕ) where
   back k (faulty m z c h) = rw (z, c, faults-refused h)
   back k (no-room l h) = rw (legal-iff r .1 l, lt-leb _ _ h)
 
-  succeeds : (k : ℕ) → Given r out k → k ≡ 0
+  -- what is written is legal, and has room
+  pub accepted : (k : ℕ) → Given r out k → k ≡ 0 → Legal pdu r × (bytesFor (lengthOf r) ≤ length out)
+  accepted k (success l h) z = (l, h)
+  accepted k (unread f) z = absurd (omega arith)
+  accepted k (unclean e) z = absurd (omega arith)
+  accepted k (faulty m y c h) z = absurd (omega arith)
+  accepted k (no-room l h) z = absurd (omega arith)
+
+  succeeds : number r out ≡ 0
       → (writeIs r out ≡ Bits (record { 0 = lengthOf r })) × (outIs r out ≡ pack (pdu .print r) ++ drop (bytesFor (lengthOf r)) out)
-  succeeds k (success l h) z = written-legal r out l h
-  succeeds k (unread f) z = absurd (omega arith)
-  succeeds k (unclean e) z = absurd (omega arith)
-  succeeds k (faulty m y c h) z = absurd (omega arith)
-  succeeds k (no-room l h) z = absurd (omega arith)
+  succeeds e = let a = accepted (number r out) (row .0) e in written-legal r out (a .0) (a .1)
 
   leaves : (k : ℕ) → writeIs r out ≡ Refused k → outIs r out ≡ out
   unfolding writeIs outIs
@@ -82,6 +86,6 @@ module _ (r : Record) (out : List ℕ) where
 pub promise : Promise
 promise = record {
   table = λ r out. exactly (Given r out) (row r out .0) (row r out .1) (back r out);
-  success = λ r out e. succeeds r out (number r out) (row r out .0) e;
+  success = succeeds;
   refusal = leaves;
 }
