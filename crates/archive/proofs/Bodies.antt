@@ -20,7 +20,7 @@ use Rattle.judging.specs.Judge.{isAccepted, mayHold, userOf, judgedIs}
 use Rattle.judging.specs.declared.Judged.the-variants.{Part, Other}
 use Rattle.archive.specs.Model.{Held, bodySize}
 use Rattle.archive.specs.Filing.{entryFor, filingOf, agrees, bodyAgrees}
-use Rattle.archive.specs.Seeking.{EntryFits, filingFor}
+use Rattle.archive.specs.Inner.{EntryFits, filingFor}
 use Rattle.archive.specs.declared.contents.Entry.{Entry}
 use Rattle.archive.specs.declared.filing.Filing.{Filing}
 use Rattle.archive.specs.declared.filing.Filing.the-variants.{Under, Nowhere}

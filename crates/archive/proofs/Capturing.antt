@@ -15,7 +15,7 @@ use Rattle.archive.specs.Model.{bytesOf, Archive, lengthOf, withinLimits
 use Rattle.archive.specs.Filing.{entryFor, filingOf}
 use Rattle.archive.specs.Reading.{homeOf, reading, isArchive}
 use Rattle.archive.specs.Keeping.{leaves, heldFor, captured, ifAccepted, placed, captureIs, captureOut}
-use Rattle.archive.specs.Seeking.{filingFor, unfitNumber}
+use Rattle.archive.specs.Inner.{filingFor, unfitNumber}
 use Rattle.archive.specs.declared.Archived.{Archived}
 use Rattle.archive.specs.declared.Archived.the-variants.{Bytes, Refused}
 use Rattle.archive.specs.declared.contents.Entry.{Entry}

@@ -7,11 +7,11 @@ use native.Mathlib.Nat.{le-of-suc-le-suc, not-suc-le-zero, zero-add, add-sub-can
 use native.Mathlib.Numerals.{add-one}
 use lib.ListN.{length, getD, take, drop, set, length-append, drop-of-length-le}
 use lib.Seq.{take-all, drop-drop}
-use Rattle.bits.specs.Laying.{Laid}
+use Rattle.bits.specs.Inner.{Laid}
 use Rattle.bits.proofs.Lists.{length-part}
 use Rattle.archive.specs.Model.{headerWidth, entryWidth, headerBytes, entryBytes}
 use Rattle.archive.specs.Keeping.{over}
-use Rattle.archive.specs.Seeking.{nextAt, restAt, Within, frontOf, backOf, spliced, splicedLength}
+use Rattle.archive.specs.Inner.{nextAt, restAt, Within, frontOf, backOf, spliced, splicedLength}
 use Rattle.archive.specs.declared.checking.Place.{Place}
 use Rattle.archive.specs.declared.contents.Entry.{Entry}
 

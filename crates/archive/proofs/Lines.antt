@@ -10,7 +10,7 @@ use borrow.Author.Tests.{leb-true}
 use Rattle.bits.proofs.Tests.{never, picked}
 use Rattle.archive.specs.Model.{headerWidth, entryWidth}
 use Rattle.archive.specs.Reading.{homeOf, countOf, entryAt, sizeAt, heldFrom, bodiesAt, reading, isArchive}
-use Rattle.archive.specs.Seeking.{linesFrom}
+use Rattle.archive.specs.Inner.{linesFrom}
 use Rattle.archive.specs.Listing.{decimal, item, firstLine, line, lines, listing, listIs}
 use Rattle.archive.specs.declared.contents.Entry.{Entry}
 use Rattle.archive.specs.declared.listing.Listed.the-variants.{Bytes}

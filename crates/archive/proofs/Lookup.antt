@@ -16,7 +16,7 @@ use Rattle.archive.specs.Model.{Held, keyFor, keyOf, entryWidth, bodySiz
 use Rattle.archive.specs.Filing.{keepsRules}
 use Rattle.archive.specs.Reading.{heldAt, sizeAt, heldFrom, bodiesAt, heldIn, reading, isArchive}
 use Rattle.archive.specs.Restoring.{inRange, bodyFrom, fetchIs, lookup}
-use Rattle.archive.specs.Seeking.{seek}
+use Rattle.archive.specs.Inner.{seek}
 use Rattle.archive.specs.declared.Fetched.{Fetched}
 use Rattle.archive.specs.declared.Fetched.the-variants.{Body, NotHeld, NoArchive}
 use Rattle.archive.specs.declared.checking.Place.{Place}

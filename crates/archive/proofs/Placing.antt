@@ -10,7 +10,7 @@ use Rattle.bits.specs.Bits as are
 use Rattle.archive.specs.Model.{Held, keyOf, headerWidth, entryWidth, headerBytes, entryBytes, contentsOf, bodiesOf, bytesOf, bodySize, sizes, lengthOf}
 use Rattle.archive.specs.Reading.{number3, countOf, bodiesAt, heldIn, reading, isArchive}
 use Rattle.archive.specs.Keeping.{put, with}
-use Rattle.archive.specs.Seeking.{seek, nextAt, restAt, Within, frontOf, backOf, spliced, splicedLength}
+use Rattle.archive.specs.Inner.{seek, nextAt, restAt, Within, frontOf, backOf, spliced, splicedLength}
 use Rattle.archive.specs.declared.checking.Place.{Place}
 use Rattle.archive.proofs.Rules.{AllFit, all-fit}
 use Rattle.archive.proofs.Walks.{home-is, length-heldFrom}

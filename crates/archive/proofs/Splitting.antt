@@ -9,7 +9,7 @@ use lib.Dec.{ltb, eqb}
 use Rattle.bits.specs.Frame.{bytesFor}
 use Rattle.archive.specs.Model.{Held, keyOf, entryWidth, entryBytes, contentsOf, bodiesOf, bodySize, sizes}
 use Rattle.archive.specs.Keeping.{put}
-use Rattle.archive.specs.Seeking.{seek}
+use Rattle.archive.specs.Inner.{seek}
 use Rattle.archive.specs.declared.checking.Place.{Place}
 use Rattle.archive.proofs.Rules.{AllFit, no-more, and-fit}
 

@@ -8,7 +8,7 @@ use borrow.Author.Tests.{eq-eqb, ne-eqb, lt-ltb, le-leb}
 use Rattle.bits.proofs.Tests.{differ, both⁻¹}
 use Rattle.archive.specs.Model.{keyFor}
 use Rattle.archive.specs.Restoring.{inRange}
-use Rattle.archive.specs.Seeking.{EntryFits}
+use Rattle.archive.specs.Inner.{EntryFits}
 use Rattle.archive.specs.Filing.{names}
 use Rattle.archive.specs.declared.contents.Entry.{Entry}
 use Rattle.archive.proofs.Tests.{named, is-named}

@@ -11,7 +11,7 @@ use Rattle.bits.specs.Bits.{Bytes}
 use Rattle.bits.proofs.Tests.{by-test}
 use Rattle.archive.specs.Model.{keyOf, headerWidth, entryWidth, sizes}
 use Rattle.archive.specs.Reading.{number2, number3, homeOf, sizeAt, heldAt, heldFrom}
-use Rattle.archive.specs.Seeking.{placeOf, seek}
+use Rattle.archive.specs.Inner.{placeOf, seek}
 
 pub number3-small : (b : List ℕ) (at : ℕ) → Bytes b → number3 b at < 16777216
 number3-small b at y = omega (arith, y at, y (at + 1), y (at + 2))

@@ -5,5 +5,5 @@ pub mod Keeping
 pub mod Restoring
 pub mod History
 pub mod Listing
-pub mod Seeking
+pub mod Inner
 pub mod Examples

@@ -9,7 +9,7 @@ ghost use mathlib.Core.Bool.{true};
 ghost use Prim.Native.Nat.{_≤_};
 ghost use Rattle.archive.specs.Model.{headerWidth};
 ghost use Rattle.archive.specs.Reading.{isArchive, bodiesAt, heldIn};
-ghost use Rattle.archive.specs.Seeking.{seek, nextAt, restAt};
+ghost use Rattle.archive.specs.Inner.{seek, nextAt, restAt};
 
 // Exactly the bytes of a well-formed archive pass.
 pub fn check(archive: &[u8]) -> bool

@@ -5,7 +5,7 @@ ghost use Prim.Native.Nat.{_+_, _≤_, _<_};
 ghost use lib.ListN.{length, getD};
 ghost use Rattle.archive.specs.Model.{keyFor, headerBytes, entryBytes, withinLimits};
 ghost use Rattle.archive.specs.Reading.{number2, number3, homeOf, entryAt};
-ghost use Rattle.archive.specs.Seeking.{EntryFits};
+ghost use Rattle.archive.specs.Inner.{EntryFits};
 
 // Bytes of the header, and of an entry of the contents.
 pub(crate) const HEADER: usize = 5;

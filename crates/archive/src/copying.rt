@@ -8,8 +8,8 @@ use crate::contents::HEADER;
 ghost use mathlib.Core.Path.{_≡_};
 ghost use Prim.Native.Nat.{_+_, _≤_, _<_};
 ghost use lib.ListN.{length};
-ghost use Rattle.bits.specs.Laying.{Laid};
-ghost use Rattle.archive.specs.Seeking.{Within, EntryFits, frontOf, backOf, spliced, backLength, splicedLength};
+ghost use Rattle.bits.specs.Inner.{Laid};
+ghost use Rattle.archive.specs.Inner.{Within, EntryFits, frontOf, backOf, spliced, backLength, splicedLength};
 
 // Writes a body, or another part of an archive, to a place that is as long.
 fn write_body(body: &[u8], place: &mut [u8])

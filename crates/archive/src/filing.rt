@@ -5,7 +5,7 @@ use grammar::site::network_of;
 use judging::Judged;
 ghost use mathlib.Core.Path.{_≡_};
 ghost use Rattle.archive.specs.Filing.{bodyAgrees};
-ghost use Rattle.archive.specs.Seeking.{filingFor};
+ghost use Rattle.archive.specs.Inner.{filingFor};
 
 // The entry under which a PDU is filed; nowhere if it is not legal, or no archive entry may hold it.
 pub enum Filing {

@@ -21,7 +21,7 @@ ghost use Rattle.bits.specs.Frame.{bytesFor};
 ghost use Rattle.reader.specs.Read.{readIs};
 ghost use Rattle.archive.specs.Model.{bytesOf};
 ghost use Rattle.archive.specs.Reading.{isArchive};
-ghost use Rattle.archive.specs.Seeking.{EntryFits, filedIn, unfitNumber};
+ghost use Rattle.archive.specs.Inner.{EntryFits, filedIn, unfitNumber};
 ghost use Rattle.archive.specs.Keeping.{leaves, emptyIs, emptyOut, placed, captureIs, captureOut};
 ghost use Rattle.archive.specs.Restoring.{inRange, fetchIs, restores, restoreIs, restoreOut};
 

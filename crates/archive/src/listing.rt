@@ -10,10 +10,10 @@ ghost use mathlib.Core.Bool.{true};
 ghost use mathlib.Core.List.{_∷_, []};
 ghost use Prim.Native.Nat.{_+_, _*_, _≤_, _<_};
 ghost use lib.ListN.{length};
-ghost use Rattle.bits.specs.Laying.{Laid};
+ghost use Rattle.bits.specs.Inner.{Laid};
 ghost use Rattle.archive.specs.Model.{headerWidth};
 ghost use Rattle.archive.specs.Reading.{countOf, isArchive, reading};
-ghost use Rattle.archive.specs.Seeking.{EntryFits, linesFrom};
+ghost use Rattle.archive.specs.Inner.{EntryFits, linesFrom};
 ghost use Rattle.archive.specs.Listing.{decimal, item, line, firstLine, listing, listIs, listOut};
 
 // The length in bytes of the text that was written, or a refusal number.

@@ -7,7 +7,7 @@ use native.Mathlib.Numerals.{add-one}
 use lib.ListN.{length, set, length-append}
 use lib.Seq.{set-split}
 use Rattle.bits.specs.Bits.{splice}
-use Rattle.bits.specs.Laying.{Laid}
+use Rattle.bits.specs.Inner.{Laid}
 use Rattle.bits.proofs.Splices.{length-splice, splice-nil, splice-splice}
 
 module _ {A : Type 0} where

@@ -1,6 +1,6 @@
 pub mod Lists
 pub mod Bits
-pub mod Laying
+pub mod Inner
 pub mod Frame
 pub mod Element
 pub mod Examples

@@ -11,11 +11,11 @@ use lib.Seq.{drop-drop, take-suc-set, drop-set-lt}
 use Rattle.bits.proofs.Tests.{never}
 use Rattle.codec.specs.Codec.{Codec}
 use Rattle.codec.specs.Places.{cons, places}
-use Rattle.codec.specs.Reading.{Answer, got, refused, andNext, readAt}
+use Rattle.codec.specs.Reading.{Found, got, refused, andNext, readAt}
 use Rattle.codec.proofs.Reading.{readAt-nil, readAt-cons}
 
 -- entries in hand before those that an answer has
-abbrev pub behind : {A : Type 0} → List A → Answer (List A) → Answer (List A)
+abbrev pub behind : {A : Type 0} → List A → Found (List A) → Found (List A)
 behind xs o = andNext o (λ l at. got (xs ++ l) at)
 
 module _ {A : Type 0} (c z : Codec A) (s : List Bool) where
@@ -66,11 +66,11 @@ pub record Filling {A : Type 0} (c z : Codec A) (none : A) (s : List Bool) (m n 
   pub unused : drop i arr ≡ replicate (m - i) none
   pub so-far : readAt (places c z m n) s from ≡ behind (take i arr) (readAt (places c z (m - i) (n - i)) s at)
 
-behind-nil : {A : Type 0} (o : Answer (List A)) → o ≡ behind [] o
+behind-nil : {A : Type 0} (o : Found (List A)) → o ≡ behind [] o
 behind-nil (got l at) = refl
 behind-nil (refused n p) = refl
 
-behind-behind : {A : Type 0} (xs ys : List A) (o : Answer (List A)) → behind xs (behind ys o) ≡ behind (xs ++ ys) o
+behind-behind : {A : Type 0} (xs ys : List A) (o : Found (List A)) → behind xs (behind ys o) ≡ behind (xs ++ ys) o
 behind-behind xs ys (got l at) = rw append-assoc
 behind-behind xs ys (refused n p) = refl
 
@@ -115,8 +115,8 @@ module _ {A : Type 0} (c z : Codec A) (none : A) (s : List Bool) (m n from : ℕ
     filling-done h hz =
         let last : n - i ≡ 0 = omega arith in
         r .so-far ∙ ap (behind (take i arr)) (ap (λ (q : ℕ). readAt (places c z (m - i) q) s at) last ∙ places-rest c z s none hz (m - i) at)
-        ∙ ap {B = Answer (List A)} (λ (t : List A). got (take i arr ++ t) at) (sym (r .unused))
-        ∙ ap {B = Answer (List A)} (λ (t : List A). got t at) (take-append-drop i arr)
+        ∙ ap {B = Found (List A)} (λ (t : List A). got (take i arr ++ t) at) (sym (r .unused))
+        ∙ ap {B = Found (List A)} (λ (t : List A). got t at) (take-append-drop i arr)
 
 -- the first entry is written first
 pub first-print : {A : Type 0} (c z : Codec A) (m n : ℕ) (l : List A) (d : A) → (places c z (suc m) (suc n)) .clean l ≡ true

@@ -15,27 +15,27 @@ use Rattle.bits.specs.declared.Taken.{Taken}
 use Rattle.bits.specs.declared.Taken.the-variants.{Element, Short}
 use Rattle.bits.proofs.Tests.{never}
 use Rattle.bits.proofs.Elements.{element-there, element-short}
-use Rattle.codec.specs.Codec.{Outcome, ok, no, andThen, Right, Codec, Legal}
+use Rattle.codec.specs.Codec.{Outcome, ok, no, andThen, Faithful, Codec, Legal}
 use Rattle.codec.specs.Parts.{number, absent, seq, unless, tested, element, shaped, mark, only}
 use Rattle.codec.specs.Places.{isNil, nil, cons}
 use Rattle.codec.specs.Whole.{wholeParse}
-use Rattle.codec.specs.Reading.{Answer, got, refused, andNext, unlessAt, answer, readAt, elementOf}
+use Rattle.codec.specs.Reading.{Found, got, refused, andNext, unlessAt, answer, readAt, elementOf}
 
-pub andNext-assoc : {A B C : Type 0} (o : Answer A) (j : A → ℕ → Answer B) (k : B → ℕ → Answer C)
+pub andNext-assoc : {A B C : Type 0} (o : Found A) (j : A → ℕ → Found B) (k : B → ℕ → Found C)
     → andNext (andNext o j) k ≡ andNext o (λ a at. andNext (j a at) k)
 andNext-assoc (got a at) j k = refl
 andNext-assoc (refused n p) j k = refl
 
-next-got : {A : Type 0} (o : Answer A) → andNext o (λ a at. got a at) ≡ o
+next-got : {A : Type 0} (o : Found A) → andNext o (λ a at. got a at) ≡ o
 next-got (got a at) = refl
 next-got (refused n p) = refl
 
-pub unlessAt-some : {A : Type 0} (k at : ℕ) (o : Answer A) → (k ≡ 0 → ⊥) → unlessAt k at o ≡ refused k at
+pub unlessAt-some : {A : Type 0} (k at : ℕ) (o : Found A) → (k ≡ 0 → ⊥) → unlessAt k at o ≡ refused k at
 unlessAt-some zero at o h = absurd (h refl)
 unlessAt-some (suc k) at o h = refl
 
 -- what is left after a part is what stands at the next place
-rest-at : {A : Type 0} (c : Codec A) (s : List Bool) (at : ℕ) (o : Outcome A) → Right (c .clean) (c .fault) (c .print) at (drop at s) o
+rest-at : {A : Type 0} (c : Codec A) (s : List Bool) (at : ℕ) (o : Outcome A) → Faithful (c .clean) (c .fault) (c .print) at (drop at s) o
     → (a : A) (at′ : ℕ) (r : List Bool) → o ≡ ok a at′ r → r ≡ drop at′ s
 rest-at c s at (ok b p t) h a at′ r e =
     let q : t ≡ r = cc in
@@ -63,7 +63,7 @@ readAt-seq {A} {B} c d s at =
     (λ i a at′. then-at (d a) (λ b at″ s″. ok (a, b) at″ s″) s at′ i)
 
 -- what the cursor takes, as an answer
-abbrev pub taken : ℕ → Taken → Answer ℕ
+abbrev pub taken : ℕ → Taken → Found ℕ
 taken at (Element v c) = got v (c .at)
 taken at Short = refused 2 at
 
@@ -121,12 +121,12 @@ pub readAt-cons : {A : Type 0} (c : Codec A) (d : Codec (List A)) (s : List Bool
 unfolding readAt cons seq
 readAt-cons {A} c d s at =
     then-at (seq c (λ x. d)) (λ p at′ s′. ok (p .0 ∷ p .1) at′ s′) s at
-    ∙ ap (λ (o : Answer (A × List A)). andNext o (λ p at′. got (p .0 ∷ p .1) at′)) (readAt-seq c (λ x. d) s at)
+    ∙ ap (λ (o : Found (A × List A)). andNext o (λ p at′. got (p .0 ∷ p .1) at′)) (readAt-seq c (λ x. d) s at)
     ∙ simp andNext-assoc
 
 -- what is read is legal, and ends as many bits on as its writing has
 module _ {A : Type 0} (c : Codec A) (s : List Bool) (at : ℕ) where
-  legal-cases : (o : Outcome A) → Right (c .clean) (c .fault) (c .print) at (drop at s) o
+  legal-cases : (o : Outcome A) → Faithful (c .clean) (c .fault) (c .print) at (drop at s) o
       → (a : A) (at′ : ℕ) → answer o ≡ got a at′ → Legal c a × (at′ ≡ at + length (c .print a))
   legal-cases (ok b p t) h a at′ e =
       let q : b ≡ a = cc in

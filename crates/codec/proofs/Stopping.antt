@@ -7,7 +7,7 @@ use lib.ListN.{length, take, drop}
 use lib.Dec.{ltb}
 use borrow.Author.Tests.{lt-ltb, ltb-true}
 use Rattle.bits.specs.Bits.{pick, value}
-use Rattle.codec.specs.Codec.{Outcome, ok, no, andThen, Right, Codec}
+use Rattle.codec.specs.Codec.{Outcome, ok, no, andThen, Faithful, Codec}
 use Rattle.codec.specs.Parts.{number, absent, seq, tested, shaped, unless, seqParse}
 use Rattle.codec.specs.Places.{nil, cons}
 use Rattle.codec.specs.Stops.{Stops, ends, refused, untested, first, second, entries, shape}
@@ -60,13 +60,13 @@ module _ (Code : ℕ → Type 0) where
     unfolding tested
     stops-tested test into codes h at s = go (c .parse at s) (c .sound at s) (h at s)
       where
-        by : (a : A) (at′ : ℕ) (r : List Bool) → Right (c .clean) (c .fault) (c .print) at s (ok a at′ r) → (k : ℕ) → test a ≡ k → Code k
+        by : (a : A) (at′ : ℕ) (r : List Bool) → Faithful (c .clean) (c .fault) (c .print) at s (ok a at′ r) → (k : ℕ) → test a ≡ k → Code k
             → Stopped A (tested c test into) s (unless k (at + into a) (ok a at′ r))
         by a at′ r k zero e code = tt
         by a at′ r k (suc n) e code =
             (subst (λ (l : List Bool). Stops A (tested c test into) l (suc n)) (sym (k .2)) (refused c test into a n r (record { clean = k .0; faultless = k .1 }) e), of-test code)
 
-        go : (o : Outcome A) → Right (c .clean) (c .fault) (c .print) at s o → Stopped A c s o
+        go : (o : Outcome A) → Faithful (c .clean) (c .fault) (c .print) at s o → Stopped A c s o
             → Stopped A (tested c test into) s (andThen o (λ a at′ r. unless (test a) (at + into a) (ok a at′ r)))
         go (ok a at′ r) k x = by a at′ r k (test a) refl (codes a)
         go (no n p) k x = (untested c test into s n (x .0), x .1)
@@ -84,13 +84,13 @@ module _ (Code : ℕ → Type 0) where
     unfolding seq
     stops-seq {B} d h k at s = go (c .parse at s) (c .sound at s) (h at s)
       where
-        go′ : (a : A) (at′ : ℕ) (r : List Bool) → Right (c .clean) (c .fault) (c .print) at s (ok a at′ r) → (o : Outcome B) → Stopped B (d a) r o
+        go′ : (a : A) (at′ : ℕ) (r : List Bool) → Faithful (c .clean) (c .fault) (c .print) at s (ok a at′ r) → (o : Outcome B) → Stopped B (d a) r o
             → Stopped (A × B) (seq c d) s (andThen o (λ b at″ s″. ok (a, b) at″ s″))
         go′ a at′ r y (ok b at″ s″) x = tt
         go′ a at′ r y (no n p) x =
             (subst (λ (l : List Bool). Stops (A × B) (seq c d) l n) (sym (y .2)) (second c d a r n (record { clean = y .0; faultless = y .1 }) (x .0)), x .1)
 
-        go : (o : Outcome A) → Right (c .clean) (c .fault) (c .print) at s o → Stopped A c s o
+        go : (o : Outcome A) → Faithful (c .clean) (c .fault) (c .print) at s o → Stopped A c s o
             → Stopped (A × B) (seq c d) s (andThen o (λ a at′ s′. andThen (d a .parse at′ s′) (λ b at″ s″. ok (a, b) at″ s″)))
         go (ok a at′ r) y x = go′ a at′ r y (d a .parse at′ r) (k a at′ r)
         go (no n p) y x = (first c d s n (x .0), x .1)

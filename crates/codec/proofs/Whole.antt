@@ -7,7 +7,7 @@ use native.Mathlib.Nat.{zero-add}
 use lib.ListN.{length}
 use Rattle.bits.specs.Bits.{pick}
 use Rattle.bits.proofs.Tests.{never}
-use Rattle.codec.specs.Codec.{Outcome, ok, no, andThen, Right, Codec, Legal}
+use Rattle.codec.specs.Codec.{Outcome, ok, no, andThen, Faithful, Codec, Legal}
 use Rattle.codec.specs.Places.{isNil}
 use Rattle.codec.specs.Whole.{wholeParse}
 
@@ -19,7 +19,7 @@ module _ {A : Type 0} (c : Codec A) where
       simp (append-nil, zero-add) at (c .reads a (h .clean) (h .faultless) 0 []) in
       rw e
 
-  whole-last : (s : List Bool) (a′ : A) (at : ℕ) (r′ : List Bool) → Right (c .clean) (c .fault) (c .print) 0 s (ok a′ at r′)
+  whole-last : (s : List Bool) (a′ : A) (at : ℕ) (r′ : List Bool) → Faithful (c .clean) (c .fault) (c .print) 0 s (ok a′ at r′)
       → (a : A) (n : ℕ) (r : List Bool) → pick (isNil r′) (ok a′ at r′) (no 5 at) ≡ ok a n r → Legal c a × (s ≡ c .print a)
   whole-last s a′ at [] h a n r e =
       let q : a′ ≡ a = cc in
@@ -27,7 +27,7 @@ module _ {A : Type 0} (c : Codec A) where
       (rw q at l, h .2 ∙ append-nil _ ∙ ap (c .print) q)
   whole-last s a′ at (b ∷ r′) h a n r e = never cc
 
-  whole-first : (s : List Bool) (o : Outcome A) → Right (c .clean) (c .fault) (c .print) 0 s o
+  whole-first : (s : List Bool) (o : Outcome A) → Faithful (c .clean) (c .fault) (c .print) 0 s o
       → (a : A) (n : ℕ) (r : List Bool) → andThen o (λ a at r. pick (isNil r) (ok a at r) (no 5 at)) ≡ ok a n r → Legal c a × (s ≡ c .print a)
   whole-first s (ok a′ at r′) h a n r e = whole-last s a′ at r′ h a n r e
   whole-first s (no k p) h a n r e = never cc

@@ -12,7 +12,7 @@ use Rattle.bits.proofs.Bytes.{length-bits, take-before}
 use Rattle.bits.proofs.Elements.{element-there}
 use Rattle.bits.proofs.Windows.{window-part}
 use Rattle.codec.specs.Parts.{number}
-use Rattle.codec.specs.Reading.{Answer, got, readAt}
+use Rattle.codec.specs.Reading.{Found, got, readAt}
 use Rattle.codec.proofs.Reading.{taken, readAt-number}
 
 -- the number of the w bits from p to q, where p is k bits after the window's place
@@ -24,7 +24,7 @@ number-in-window s n at k w p q ep eq wide inside there =
     let cut : length l ≡ _ = length-take n (bits s) in
     readAt-number w l p wide
     ∙ ap (taken p) (element-there l p w (omega arith))
-    ∙ ap₂ {C = Answer ℕ} got
+    ∙ ap₂ {C = Found ℕ} got
     (ap value (take-before (bits s) p w n (omega arith) (omega arith) ∙ ap (λ (x : ℕ). take w (drop x (bits s))) ep)
     ∙ sym (window-part s at k w inside (omega arith)))
     (sym eq)

@@ -21,9 +21,9 @@ first zero n = n
 first (suc m) n = suc m
 
 -- What is right of an outcome of reading s at a place: a value that was read is legal, and written it gives the bits that were read.
-abbrev pub Right : {A : Type 0} (clean : A → Bool) (fault : A → ℕ) (print : A → List Bool) (at : ℕ) (s : List Bool) → Outcome A → Type 0
-Right clean fault print at s (ok a at′ r) = (clean a ≡ true) × (fault a ≡ 0) × (s ≡ print a ++ r) × (at′ ≡ at + length (print a))
-Right clean fault print at s (no n p) = Unit {0}
+abbrev pub Faithful : {A : Type 0} (clean : A → Bool) (fault : A → ℕ) (print : A → List Bool) (at : ℕ) (s : List Bool) → Outcome A → Type 0
+Faithful clean fault print at s (ok a at′ r) = (clean a ≡ true) × (fault a ≡ 0) × (s ≡ print a ++ r) × (at′ ≡ at + length (print a))
+Faithful clean fault print at s (no n p) = Unit {0}
 
 -- A part of a PDU whose values are of the type A.
 pub record Codec (A : Type 0) : Type 0 where
@@ -39,7 +39,7 @@ pub record Codec (A : Type 0) : Type 0 where
   pub reads : (a : A) → clean a ≡ true → fault a ≡ 0 → (at : ℕ) (r : List Bool)
       → parse at (print a ++ r) ≡ ok a (at + length (print a)) r
   -- whatever is read is legal, and is written as the bits that were read
-  pub sound : (at : ℕ) (s : List Bool) → Right clean fault print at s (parse at s)
+  pub sound : (at : ℕ) (s : List Bool) → Faithful clean fault print at s (parse at s)
 
 -- A value that may be written, and that reading gives: what is not carried is zero, and no element is refused.
 pub record Legal {A : Type 0} (c : Codec A) (a : A) : Type 0 where

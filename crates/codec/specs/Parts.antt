@@ -12,7 +12,7 @@ use borrow.Author.Tests.{eqb-true, ltb-true, ltb-false, lt-ltb, le-ltb}
 use Rattle.bits.specs.Bits.{pick, value, bitsOf}
 use Rattle.bits.proofs.Tests.{never, both, both⁻¹, picked}
 use Rattle.bits.proofs.Numbers.{length-bitsOf, value-lt, value-of-bits, bits-of-value}
-use Rattle.codec.specs.Codec.{Outcome, ok, no, andThen, first, Right, Codec}
+use Rattle.codec.specs.Codec.{Outcome, ok, no, andThen, first, Faithful, Codec}
 
 pub first-none : (m n : ℕ) → first m n ≡ 0 → (m ≡ 0) × (n ≡ 0)
 first-none zero n e = (refl, e)
@@ -41,7 +41,7 @@ number-reads w v h at r =
     simp (le-ltb (length (bitsOf w v ++ r)) w long, take-at (bitsOf w v) r w l, drop-at (bitsOf w v) r w l, value-of-bits w v (narrow w v h), length-bitsOf)
 
 number-right : (w at : ℕ) (s : List Bool) (t : Bool) → ltb (length s) w ≡ t
-    → Right (λ v. true) (numberFault w) (bitsOf w) at s (pick t (no 2 at) (ok (value (take w s)) (at + w) (drop w s)))
+    → Faithful (λ v. true) (numberFault w) (bitsOf w) at s (pick t (no 2 at) (ok (value (take w s)) (at + w) (drop w s)))
 number-right w at s true e = tt
 number-right w at s false e =
     let l : length (take w s) ≡ w = length-take-le w s (ltb-false (length s) w e) in
@@ -53,7 +53,7 @@ number-right w at s false e =
       ap (λ (n : ℕ). at + n) (sym (length-bitsOf w (value (take w s)))),
     )
 
-pub number-sound : (w at : ℕ) (s : List Bool) → Right (λ v. true) (numberFault w) (bitsOf w) at s (numberParse w at s)
+pub number-sound : (w at : ℕ) (s : List Bool) → Faithful (λ v. true) (numberFault w) (bitsOf w) at s (numberParse w at s)
 number-sound w at s = number-right w at s (ltb (length s) w) refl
 
 unfoldable pub number : ℕ → Codec ℕ
@@ -110,9 +110,9 @@ module _ {A B : Type 0} (c : Codec A) (d : A → Codec B) where
       let f = first-none (c .fault a) (d a .fault b) hf in
       rw (append-assoc (c .print a) (d a .print b) r, c .reads a (k .0) (f .0), d a .reads b (k .1) (f .1), length-append, add-assoc)
 
-  seq-second : (at : ℕ) (s : List Bool) (a : A) (at′ : ℕ) (s′ : List Bool) → Right (c .clean) (c .fault) (c .print) at s (ok a at′ s′)
-      → (o : Outcome B) → Right (d a .clean) (d a .fault) (d a .print) at′ s′ o
-      → Right seqClean seqFault seqPrint at s (andThen o (λ b at″ s″. ok (a, b) at″ s″))
+  seq-second : (at : ℕ) (s : List Bool) (a : A) (at′ : ℕ) (s′ : List Bool) → Faithful (c .clean) (c .fault) (c .print) at s (ok a at′ s′)
+      → (o : Outcome B) → Faithful (d a .clean) (d a .fault) (d a .print) at′ s′ o
+      → Faithful seqClean seqFault seqPrint at s (andThen o (λ b at″ s″. ok (a, b) at″ s″))
   seq-second at s a at′ s′ h (ok b at″ s″) k = (
     both⁻¹ (h .0) (k .0),
     first-none⁻¹ _ _ (h .1) (k .1),
@@ -121,12 +121,12 @@ module _ {A B : Type 0} (c : Codec A) (d : A → Codec B) where
   )
   seq-second at s a at′ s′ h (no n p) k = tt
 
-  seq-first : (at : ℕ) (s : List Bool) (o : Outcome A) → Right (c .clean) (c .fault) (c .print) at s o
-      → Right seqClean seqFault seqPrint at s (andThen o (λ a at′ s′. andThen (d a .parse at′ s′) (λ b at″ s″. ok (a, b) at″ s″)))
+  seq-first : (at : ℕ) (s : List Bool) (o : Outcome A) → Faithful (c .clean) (c .fault) (c .print) at s o
+      → Faithful seqClean seqFault seqPrint at s (andThen o (λ a at′ s′. andThen (d a .parse at′ s′) (λ b at″ s″. ok (a, b) at″ s″)))
   seq-first at s (ok a at′ s′) h = seq-second at s a at′ s′ h (d a .parse at′ s′) (d a .sound at′ s′)
   seq-first at s (no n p) h = tt
 
-  pub seq-sound : (at : ℕ) (s : List Bool) → Right seqClean seqFault seqPrint at s (seqParse at s)
+  pub seq-sound : (at : ℕ) (s : List Bool) → Faithful seqClean seqFault seqPrint at s (seqParse at s)
   seq-sound at s = seq-first at s (c .parse at s) (c .sound at s)
 
   unfoldable pub seq : Codec (A × B)
@@ -161,17 +161,17 @@ module _ {A : Type 0} (c : Codec A) (refuse : A → ℕ) (into : A → ℕ) wher
       let f = first-none (c .fault a) (refuse a) hf in
       rw (c .reads a hc (f .0), f .1)
 
-  test-passed : (at : ℕ) (s : List Bool) (a : A) (at′ : ℕ) (s′ : List Bool) → Right (c .clean) (c .fault) (c .print) at s (ok a at′ s′)
-      → (n p : ℕ) → refuse a ≡ n → Right (c .clean) testFault (c .print) at s (unless n p (ok a at′ s′))
+  test-passed : (at : ℕ) (s : List Bool) (a : A) (at′ : ℕ) (s′ : List Bool) → Faithful (c .clean) (c .fault) (c .print) at s (ok a at′ s′)
+      → (n p : ℕ) → refuse a ≡ n → Faithful (c .clean) testFault (c .print) at s (unless n p (ok a at′ s′))
   test-passed at s a at′ s′ h zero p e = (h .0, first-none⁻¹ _ _ (h .1) e, h .2, h .3)
   test-passed at s a at′ s′ h (suc n) p e = tt
 
-  test-first : (at : ℕ) (s : List Bool) (o : Outcome A) → Right (c .clean) (c .fault) (c .print) at s o
-      → Right (c .clean) testFault (c .print) at s (andThen o (λ a at′ s′. unless (refuse a) (at + into a) (ok a at′ s′)))
+  test-first : (at : ℕ) (s : List Bool) (o : Outcome A) → Faithful (c .clean) (c .fault) (c .print) at s o
+      → Faithful (c .clean) testFault (c .print) at s (andThen o (λ a at′ s′. unless (refuse a) (at + into a) (ok a at′ s′)))
   test-first at s (ok a at′ s′) h = test-passed at s a at′ s′ h (refuse a) (at + into a) refl
   test-first at s (no n p) h = tt
 
-  pub test-sound : (at : ℕ) (s : List Bool) → Right (c .clean) testFault (c .print) at s (testParse at s)
+  pub test-sound : (at : ℕ) (s : List Bool) → Faithful (c .clean) testFault (c .print) at s (testParse at s)
   test-sound at s = test-first at s (c .parse at s) (c .sound at s)
 
   unfoldable pub tested : Codec A
@@ -191,13 +191,13 @@ module _ {A B : Type 0} (c : Codec A) (to : A → B) (from : B → A)
       → shapeParse at (c .print (from b) ++ r) ≡ ok b (at + length (c .print (from b))) r
   shape-reads b hc hf at r = rw (c .reads (from b) hc hf, back)
 
-  shape-first : (at : ℕ) (s : List Bool) (o : Outcome A) → Right (c .clean) (c .fault) (c .print) at s o
-      → Right (λ b. c .clean (from b)) (λ b. c .fault (from b)) (λ b. c .print (from b)) at s (andThen o (λ a at′ s′. ok (to a) at′ s′))
+  shape-first : (at : ℕ) (s : List Bool) (o : Outcome A) → Faithful (c .clean) (c .fault) (c .print) at s o
+      → Faithful (λ b. c .clean (from b)) (λ b. c .fault (from b)) (λ b. c .print (from b)) at s (andThen o (λ a at′ s′. ok (to a) at′ s′))
   shape-first at s (ok a at′ s′) h = rw (there a (h .0) (h .1)) h
   shape-first at s (no n p) h = tt
 
   pub shape-sound : (at : ℕ) (s : List Bool)
-      → Right (λ b. c .clean (from b)) (λ b. c .fault (from b)) (λ b. c .print (from b)) at s (shapeParse at s)
+      → Faithful (λ b. c .clean (from b)) (λ b. c .fault (from b)) (λ b. c .print (from b)) at s (shapeParse at s)
   shape-sound at s = shape-first at s (c .parse at s) (c .sound at s)
 
   unfoldable pub shaped : Codec B

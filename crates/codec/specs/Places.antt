@@ -6,7 +6,7 @@ use Prim.Native.Nat.{ℕ, zero, suc, _+_}
 use native.Mathlib.Nat.{add-zero}
 use lib.ListN.{length}
 use Rattle.bits.proofs.Tests.{never}
-use Rattle.codec.specs.Codec.{Outcome, ok, no, andThen, Right, Codec}
+use Rattle.codec.specs.Codec.{Outcome, ok, no, andThen, Faithful, Codec}
 use Rattle.codec.specs.Parts.{seqClean, seqFault, seqPrint, seqParse, seq-reads, seq-sound}
 
 -- ---- no places
@@ -55,12 +55,12 @@ module _ {A : Type 0} (c : Codec A) (d : Codec (List A)) where
   cons-reads [] hc hf at r = never cc
   cons-reads (a ∷ l) hc hf at r = rw (seq-reads c (λ x. d) (a, l) hc hf at r)
 
-  cons-right : (at : ℕ) (s : List Bool) (o : Outcome (A × List A)) → Right (seqClean c (λ x. d)) (seqFault c (λ x. d)) (seqPrint c (λ x. d)) at s o
-      → Right consClean consFault consPrint at s (andThen o (λ p at′ s′. ok (p .0 ∷ p .1) at′ s′))
+  cons-right : (at : ℕ) (s : List Bool) (o : Outcome (A × List A)) → Faithful (seqClean c (λ x. d)) (seqFault c (λ x. d)) (seqPrint c (λ x. d)) at s o
+      → Faithful consClean consFault consPrint at s (andThen o (λ p at′ s′. ok (p .0 ∷ p .1) at′ s′))
   cons-right at s (ok p at′ s′) h = h
   cons-right at s (no n p) h = tt
 
-  pub cons-sound : (at : ℕ) (s : List Bool) → Right consClean consFault consPrint at s (consParse at s)
+  pub cons-sound : (at : ℕ) (s : List Bool) → Faithful consClean consFault consPrint at s (consParse at s)
   cons-sound at s = cons-right at s (seqParse c (λ x. d) at s) (seq-sound c (λ x. d) at s)
 
   unfoldable pub cons : Codec (List A)

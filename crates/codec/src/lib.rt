@@ -3,7 +3,7 @@ use bits::BitCount;
 use bits::Cursor;
 use bits::Taken;
 ghost use mathlib.Core.Path.{_≡_};
-ghost use Rattle.codec.specs.Reading.{from, elementOf, numberIs, testedIs};
+ghost use Rattle.codec.specs.Reading.{resume, elementOf, numberIs, testedIs};
 
 // Where reading stands: at a place; or refused, with the number and the bit place of the element at fault.
 pub enum Reached {
@@ -19,7 +19,7 @@ pub struct NumberRead {
 
 // The number of `width` bits, 1 to 32, that stands next in the PDU of n bits in s; 2 if the PDU ends before or inside it.
 pub fn number(s: &[u8], n: BitCount, start: Reached, width: usize) -> NumberRead
-    ensures { λ r. ⌜ r ≡ numberIs (from start (elementOf (now (s .entry)) (n .0) width)) ⌝ }
+    ensures { λ r. ⌜ r ≡ numberIs (resume start (elementOf (now (s .entry)) (n .0) width)) ⌝ }
 {
     let Reached::At(c) = start else {
         return NumberRead {

@@ -16,8 +16,8 @@ use Rattle.grammar.specs.Grammar.{extension, identity, endsRefusal, rang
 use Rattle.grammar.specs.declared.record.Identity.{Identity}
 use Rattle.grammar.specs.declared.site.RangeType.{RangeType}
 use Rattle.grammar.specs.declared.site.RangeType.the-variants.{Empty, Single, FirstAndLast, NoRangeType}
-use Rattle.grammar.specs.declared.site.Listing.{Listing}
-use Rattle.grammar.specs.declared.site.Listing.the-variants as of
+use Rattle.grammar.specs.declared.site.ListKind.{ListKind}
+use Rattle.grammar.specs.declared.site.ListKind.the-variants as of
 
 -- no range type has more than eight entries
 pub entriesOf-le : (code : ℕ) → entriesOf code ≤ 8
@@ -39,9 +39,9 @@ single (suc k) h =
     let e : rangeType (suc k) ≡ Single (suc k) = rw (ne-eqb (suc k) 0 (λ e. omega arith), le-leb (suc k) 8 h) in
     (ap (refusalIn of.Identities) e, ap (refusalIn of.Numbers) e, ap (λ (t : RangeType). rowOfType t .entries) e)
 
-pub above-nine : (listing : Listing) (code : ℕ) → 9 < code → rangeRefusal listing code ≡ 3
+pub above-nine : (list : ListKind) (code : ℕ) → 9 < code → rangeRefusal list code ≡ 3
 unfolding rangeRefusal rangeType
-above-nine listing code h = rw (ne-eqb code 0 (λ e. omega arith), lt-leb code 8 (omega arith), ne-eqb code 9 (λ e. omega arith)) refl
+above-nine list code h = rw (ne-eqb code 0 (λ e. omega arith), lt-leb code 8 (omega arith), ne-eqb code 9 (λ e. omega arith)) refl
 
 pub not-single : (code : ℕ) → 8 < code → rangeRefusal of.Numbers code ≡ 3
 unfolding rangeRefusal rangeType

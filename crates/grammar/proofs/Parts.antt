@@ -13,8 +13,8 @@ use Rattle.grammar.specs.SiteSheet.{ssType, rangeType, refusalIn, rangeR
 use Rattle.grammar.specs.Grammar.{extension, identity, noIdentity, zeroIdentity, endsRefusal, rangeEnds, identities, noIdentities, external, noExternal, externals, noExternals, services, noServices, identityPart, numberPart, noPart, partOf, interrogate, interrogateAck, restOf, Five, Rest, pdu}
 use Rattle.grammar.specs.declared.site.RangeType.{RangeType}
 use Rattle.grammar.specs.declared.site.RangeType.the-variants.{Empty, Single, FirstAndLast, NoRangeType}
-use Rattle.grammar.specs.declared.site.Listing.{Listing}
-use Rattle.grammar.specs.declared.site.Listing.the-variants as of
+use Rattle.grammar.specs.declared.site.ListKind.{ListKind}
+use Rattle.grammar.specs.declared.site.ListKind.the-variants as of
 use Rattle.grammar.specs.declared.site.Digit.{Digit}
 use Rattle.grammar.specs.declared.site.Digit.the-variants.{Decimal, Star, Hash, Plus, NoDigit}
 use Rattle.grammar.specs.declared.site.Service.{Service}
@@ -33,7 +33,7 @@ module _ (Code : ℕ → Type 0) (passed : Code 0) (three : Code 3) (four : Code
   code-between : (low high v : ℕ) → Code (between low high v)
   code-between low high v = by-test Code (leb low v && leb v high) passed three
 
-  in-list : (listing : Listing) (t : RangeType) → Code (refusalIn listing t)
+  in-list : (list : ListKind) (t : RangeType) → Code (refusalIn list t)
   in-list of.Users Empty = three
   in-list of.Identities Empty = passed
   in-list of.Numbers Empty = passed
@@ -43,9 +43,9 @@ module _ (Code : ℕ → Type 0) (passed : Code 0) (three : Code 3) (four : Code
   in-list of.Numbers FirstAndLast = three
   in-list l NoRangeType = three
 
-  code-range : (listing : Listing) (v : ℕ) → Code (rangeRefusal listing v)
+  code-range : (list : ListKind) (v : ℕ) → Code (rangeRefusal list v)
   unfolding rangeRefusal
-  code-range listing v = in-list listing (rangeType v)
+  code-range list v = in-list list (rangeType v)
 
   of-digit : (d : Digit) → Code (refusalOfDigit d)
   of-digit (Decimal d) = passed
@@ -109,10 +109,10 @@ module _ (Code : ℕ → Type 0) (passed : Code 0) (three : Code 3) (four : Code
     unfolding noIdentity
     of-noIdentity = kept .shaped _ _ _ _ _ (then (kept .absent) (λ a. then (kept .absent) (λ b. kept .absent)))
 
-    pub of-identities : (listing : Listing) → P Identities (identities listing)
+    pub of-identities : (list : ListKind) → P Identities (identities list)
     unfolding identities
-    of-identities listing =
-        kept .shaped _ _ _ _ _ (then (of-element 4 (code-range listing)) (λ code.
+    of-identities list =
+        kept .shaped _ _ _ _ _ (then (of-element 4 (code-range list)) (λ code.
         kept .tested _ _ _ (code-ends code) (of-places of-identity of-noIdentity 8 (entriesOf code))))
 
     of-noIdentities : P Identities noIdentities

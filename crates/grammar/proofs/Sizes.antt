@@ -14,8 +14,8 @@ use Rattle.codec.specs.Places.{places}
 use Rattle.codec.proofs.Sizes.{Within, size-number, size-absent, size-more, size-seq, size-tested, size-element, size-shaped, size-places}
 use Rattle.grammar.specs.SiteSheet.{ssType, entriesOf, rangeRefusal, digitRefusal, serviceRefusal, kindRefusal, resultRefusal, askedRefusal, countRefusal, lengthRefusal}
 use Rattle.grammar.specs.Grammar.{extension, identity, noIdentity, identities, noIdentities, external, noExternal, externals, noExternals, services, noServices, identityPart, numberPart, noPart, partOf, interrogate, interrogateAck, restOf, fromRecord, pdu}
-use Rattle.grammar.specs.declared.site.Listing.{Listing}
-use Rattle.grammar.specs.declared.site.Listing.the-variants as of
+use Rattle.grammar.specs.declared.site.ListKind.{ListKind}
+use Rattle.grammar.specs.declared.site.ListKind.the-variants as of
 use Rattle.grammar.specs.declared.record.Identities.{Identities}
 use Rattle.grammar.specs.declared.record.Numbers.{Numbers}
 use Rattle.grammar.specs.declared.record.Record.{Record}
@@ -39,10 +39,10 @@ size-identity-place used = by-test (Within _) used size-identity (size-more size
 size-identity-places : (n : ℕ) → Within 392 (places identity noIdentity 8 n)
 size-identity-places n = size-places identity noIdentity 49 size-identity (size-more size-noIdentity (omega arith)) 8 n
 
-pub size-identities : (listing : Listing) → Within 396 (identities listing)
+pub size-identities : (list : ListKind) → Within 396 (identities list)
 unfolding identities
-size-identities listing =
-    size-shaped _ _ _ _ _ (size-seq (size-element 4 (rangeRefusal listing)) (λ code. size-tested _ _ _ (size-identity-places (entriesOf code))))
+size-identities list =
+    size-shaped _ _ _ _ _ (size-seq (size-element 4 (rangeRefusal list)) (λ code. size-tested _ _ _ (size-identity-places (entriesOf code))))
 
 pub size-noIdentities : Within 0 noIdentities
 unfolding noIdentities

@@ -14,8 +14,8 @@ use Rattle.grammar.specs.Zero.{zeroIdentities, zeroNumber, zeroNumbers, 
 use Rattle.grammar.specs.declared.record.Identities.{Identities}
 use Rattle.grammar.specs.declared.record.Numbers.{Numbers}
 use Rattle.grammar.specs.declared.record.Lists.{Lists}
-use Rattle.grammar.specs.declared.site.Listing.{Listing}
-use Rattle.grammar.specs.declared.site.Listing.the-variants as of
+use Rattle.grammar.specs.declared.site.ListKind.{ListKind}
+use Rattle.grammar.specs.declared.site.ListKind.the-variants as of
 
 module _ (s : List Bool) (at : ℕ) where
   pub identity-at : readAt identity s at ≡ andNext (readAt (number 24) s at) (λ ssi at₁. andNext (readAt (number 1) s at₁) (λ present at₂.
@@ -27,11 +27,11 @@ module _ (s : List Bool) (at : ℕ) where
   unfolding noIdentity
   noIdentity-at = simp (readAt-shaped, readAt-seq, readAt-absent)
 
-  pub identities-at : (listing : Listing) → readAt (identities listing) s at ≡ andNext (readAt (element 4 (rangeRefusal listing)) s at) (λ code at₁.
+  pub identities-at : (list : ListKind) → readAt (identities list) s at ≡ andNext (readAt (element 4 (rangeRefusal list)) s at) (λ code at₁.
       andNext (readAt (tested (places identity noIdentity 8 (entriesOf code)) (rangeEnds code) secondEnd) s at₁) (λ entries at₂.
       got (record { code = code; entries = entries }) at₂))
   unfolding identities
-  identities-at listing = simp (readAt-shaped, readAt-seq, andNext-assoc)
+  identities-at list = simp (readAt-shaped, readAt-seq, andNext-assoc)
 
   pub external-at : readAt external s at ≡ andNext (readAt (element 5 lengthRefusal) s at) (λ length at₁.
       andNext (readAt (places (element 4 digitRefusal) absent 24 length) s at₁) (λ digits at₂.

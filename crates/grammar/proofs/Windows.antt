@@ -9,7 +9,7 @@ use Rattle.bits.specs.Frame.{bitsIn}
 use Rattle.bits.specs.Element.{windowAt}
 use Rattle.bits.proofs.Windows.{window-lt}
 use Rattle.codec.specs.Parts.{number}
-use Rattle.codec.specs.Reading.{Answer, got, andNext, readAt}
+use Rattle.codec.specs.Reading.{Found, got, andNext, readAt}
 use Rattle.codec.proofs.Reading.{readAt-absent}
 use Rattle.codec.proofs.Windows.{number-in-window}
 use Rattle.grammar.specs.Grammar.{extension, identity}
@@ -27,7 +27,7 @@ module _ (s : List ℕ) (n at : ℕ) {v : ℕ} (e : v ≡ windowAt s at) (there 
   ssi-there : readAt (number 24) (bitsIn n s) at ≡ got (v / 2 ^ 33) (at + 24)
   ssi-there =
       number-in-window s n at 0 24 at (at + 24) (omega arith) (omega arith) (omega arith) (omega arith) (omega arith)
-      ∙ ap {B = Answer ℕ} (λ (x : ℕ). got x (at + 24)) (shr-mod 24 33 (window-lt s at) ∙ ap (λ (x : ℕ). x / 2 ^ 33) (sym e))
+      ∙ ap {B = Found ℕ} (λ (x : ℕ). got x (at + 24)) (shr-mod 24 33 (window-lt s at) ∙ ap (λ (x : ℕ). x / 2 ^ 33) (sym e))
 
   present-there : readAt (number 1) (bitsIn n s) (at + 24) ≡ got (v / 2 ^ 32 % 2) (at + 25)
   present-there = rw e (number-in-window s n at 24 1 (at + 24) (at + 25) (omega arith) (omega arith) (omega arith) (omega arith) (omega arith))

@@ -11,8 +11,8 @@ use Rattle.codec.specs.Codec.{Codec}
 use Rattle.codec.specs.Parts.{number, absent, element, seq, _>>=_, _>>_, tested, shaped, mark}
 use Rattle.codec.specs.Places.{nil, cons, places}
 use Rattle.grammar.specs.SiteSheet.{ssType, rangeType, rowOf, entriesOf, rangeRefusal, digitOf, digitRefusal, serviceOf, serviceRefusal, kindRefusal, resultRefusal, askedRefusal, countRefusal, lengthRefusal}
-use Rattle.grammar.specs.declared.site.Listing.{Listing}
-use Rattle.grammar.specs.declared.site.Listing.the-variants as of
+use Rattle.grammar.specs.declared.site.ListKind.{ListKind}
+use Rattle.grammar.specs.declared.site.ListKind.the-variants as of
 use Rattle.grammar.specs.declared.record.Identity.{Identity}
 use Rattle.grammar.specs.declared.record.Identities.{Identities}
 use Rattle.grammar.specs.declared.record.Number.{Number}
@@ -70,10 +70,10 @@ toIdentities (code, entries) = record { code = code; entries = entries }
 abbrev pub fromIdentities : Identities → ℕ × List Identity
 fromIdentities l = (l .code, l .entries)
 
-unfoldable pub identities : Listing → Codec Identities
-identities listing =
+unfoldable pub identities : ListKind → Codec Identities
+identities list =
     shaped (do
-      code ← element 4 (rangeRefusal listing)
+      code ← element 4 (rangeRefusal list)
       tested (places identity noIdentity 8 (entriesOf code)) (rangeEnds code) secondEnd)
     toIdentities fromIdentities (λ a c f. refl) (λ l. refl)
 

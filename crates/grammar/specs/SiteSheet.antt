@@ -5,8 +5,8 @@ use lib.Dec.{eqb, leb}
 use Rattle.bits.specs.Bits.{pick}
 use Rattle.grammar.specs.declared.site.RangeType.{RangeType}
 use Rattle.grammar.specs.declared.site.RangeType.the-variants.{Empty, Single, FirstAndLast, NoRangeType}
-use Rattle.grammar.specs.declared.site.Listing.{Listing}
-use Rattle.grammar.specs.declared.site.Listing.the-variants.{Users, Identities, Numbers}
+use Rattle.grammar.specs.declared.site.ListKind.{ListKind}
+use Rattle.grammar.specs.declared.site.ListKind.the-variants.{Users, Identities, Numbers}
 use Rattle.grammar.specs.declared.site.Row.{Row}
 use Rattle.grammar.specs.declared.site.Digit.{Digit}
 use Rattle.grammar.specs.declared.site.Digit.the-variants.{Decimal, Star, Hash, Plus, NoDigit}
@@ -37,7 +37,7 @@ abbrev pub entriesOf : ℕ → ℕ
 entriesOf code = rowOf code .entries
 
 -- 0 is refused for affected users, 9 for external numbers
-abbrev pub refusalIn : Listing → RangeType → ℕ
+abbrev pub refusalIn : ListKind → RangeType → ℕ
 refusalIn Users Empty = 3
 refusalIn Identities Empty = 0
 refusalIn Numbers Empty = 0
@@ -47,7 +47,7 @@ refusalIn Identities FirstAndLast = 0
 refusalIn Numbers FirstAndLast = 3
 refusalIn l NoRangeType = 3
 
-unfoldable pub rangeRefusal : Listing → ℕ → ℕ
+unfoldable pub rangeRefusal : ListKind → ℕ → ℕ
 rangeRefusal l code = refusalIn l (rangeType code)
 
 -- ---- digits: 0 to 9, then *, # and +

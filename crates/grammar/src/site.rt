@@ -23,7 +23,7 @@ pub enum RangeType {
 }
 
 // The three kinds of list, by which a range type may be refused.
-pub enum Listing {
+pub enum ListKind {
     Users,
     Identities,
     Numbers,
@@ -128,20 +128,20 @@ pub fn range_type(code: u32) -> RangeType
 }
 
 // The refusal number of a range type in a kind of list, 0 for none.
-pub fn range_refusal(listing: Listing, code: u32) -> u32
-    ensures { λ r. ⌜ r ≡ rangeRefusal listing code ⌝ }
+pub fn range_refusal(list: ListKind, code: u32) -> u32
+    ensures { λ r. ⌜ r ≡ rangeRefusal list code ⌝ }
 {
     match range_type(code) {
-        RangeType::Empty => match listing {
-            Listing::Users => 3,
-            Listing::Identities => 0,
-            Listing::Numbers => 0,
+        RangeType::Empty => match list {
+            ListKind::Users => 3,
+            ListKind::Identities => 0,
+            ListKind::Numbers => 0,
         },
         RangeType::Single(_) => 0,
-        RangeType::FirstAndLast => match listing {
-            Listing::Users => 0,
-            Listing::Identities => 0,
-            Listing::Numbers => 3,
+        RangeType::FirstAndLast => match list {
+            ListKind::Users => 0,
+            ListKind::Identities => 0,
+            ListKind::Numbers => 3,
         },
         RangeType::NoRangeType => 3,
     }

@@ -17,7 +17,7 @@ use Rattle.codec.proofs.Reading.{readAt-absent}
 use Rattle.grammar.specs.SiteSheet.{digitRefusal, serviceRefusal, between}
 use Rattle.grammar.specs.Grammar.{external, services}
 use Rattle.grammar.proofs.Codes.{between-le}
-use Rattle.judging.specs.Walk.{walk, passing, Inside}
+use Rattle.judging.specs.Inner.{walk, passing, Inside}
 use Rattle.judging.specs.declared.walking.Walked.the-variants.{At, Off}
 use Rattle.judging.proofs.Walks.{steps, walk-shaped, walk-places}
 use Rattle.judging.proofs.Elements.{coded-short, coded-refused, coded-passed}

@@ -12,7 +12,7 @@ use Rattle.bits.specs.Frame.{bitsIn}
 use Rattle.bits.specs.Element.{windowAt}
 use Rattle.bits.proofs.Frames.{length-pdu}
 use Rattle.grammar.specs.SiteSheet.{digitOf, digitRefusal, allDigits}
-use Rattle.judging.specs.Walk.{passing, Inside}
+use Rattle.judging.specs.Inner.{passing, Inside}
 use Rattle.judging.proofs.Rows.{at-once, row-split}
 use Rattle.judging.proofs.Windows.{window-value}
 

@@ -15,9 +15,9 @@ use Rattle.bits.proofs.Elements.{element-there, element-short}
 use Rattle.bits.proofs.Frames.{length-pdu}
 use Rattle.codec.specs.Codec.{Codec}
 use Rattle.codec.specs.Parts.{number, element, seq}
-use Rattle.codec.specs.Reading.{Answer, got, refused, andNext, unlessAt, readAt}
+use Rattle.codec.specs.Reading.{Found, got, refused, andNext, unlessAt, readAt}
 use Rattle.codec.proofs.Reading.{unlessAt-some, taken, readAt-number, readAt-tested, readAt-seq}
-use Rattle.judging.specs.Walk.{walked, walk, Inside}
+use Rattle.judging.specs.Inner.{walked, walk, Inside}
 use Rattle.judging.specs.declared.walking.Walked.the-variants.{At, Off}
 use Rattle.judging.proofs.Walks.{walked-made}
 use Rattle.judging.proofs.Windows.{window-first}
@@ -70,7 +70,7 @@ module _ {s : List ℕ} {n at : ℕ} (i : Inside s n at) (w : ℕ) (some : 1 ≤
     code-at =
         let size = length-pdu s n (i .bytes) in
         element-at w (bitsIn n s) at some refuse (omega arith)
-        ∙ ap {B = Answer ℕ} (λ (v : ℕ). unlessAt (refuse v) at (got v (at + w))) (window-first s n (i .bytes) at w fits h)
+        ∙ ap {B = Found ℕ} (λ (v : ℕ). unlessAt (refuse v) at (got v (at + w))) (window-first s n (i .bytes) at w fits h)
 
     pub coded-refused : (refuse (windowAt s at / 2 ^ (57 - w)) ≡ 0 → ⊥) → walk (seq (element w refuse) d) (bitsIn n s) at ≡ Off
     coded-refused k = let v : ℕ = windowAt s at / 2 ^ (57 - w) in after ∙ rw (code-at, unlessAt-some (refuse v) at (got v (at + w)) k)

@@ -13,17 +13,17 @@ use Rattle.bits.specs.Element.{windowAt}
 use Rattle.bits.proofs.Frames.{framed-says, length-pdu}
 use Rattle.bits.proofs.Tests.{never, both, same-pick}
 use Rattle.codec.specs.Parts.{number, element, seq, tested, shaped, mark, only}
-use Rattle.codec.specs.Reading.{Answer, got, refused, andNext, readAt}
+use Rattle.codec.specs.Reading.{Found, got, refused, andNext, readAt}
 use Rattle.codec.proofs.Reading.{andNext-assoc}
 use Rattle.grammar.specs.SiteSheet.{ssType, rangeType, rowOf, rangeRefusal, kindRefusal}
 use Rattle.grammar.specs.Grammar.{identity, identities, interrogateAck, pdu}
 use Rattle.grammar.specs.declared.record.Identity.{Identity}
 use Rattle.grammar.specs.declared.record.Record.{Record}
-use Rattle.grammar.specs.declared.site.Listing.the-variants as of
+use Rattle.grammar.specs.declared.site.ListKind.the-variants as of
 use Rattle.grammar.proofs.Steps.{identities-at}
-use Rattle.reader.specs.Reader.{recordAt}
+use Rattle.reader.specs.Inner.{recordAt}
 use Rattle.reader.proofs.Records.{pdu-at}
-use Rattle.judging.specs.Walk.{walked, walk, Inside, partAfter, held}
+use Rattle.judging.specs.Inner.{walked, walk, Inside, partAfter, held}
 use Rattle.judging.specs.Judge.{mayHold, userOf, judgedIs}
 use Rattle.judging.specs.declared.Judged.the-variants.{Part, Other}
 use Rattle.judging.specs.declared.walking.Walked.the-variants.{Off}
@@ -99,7 +99,7 @@ module _ (s : List ℕ) (n : ℕ) (f : framed s n ≡ true) where
     unfolding walk
     no-user e = go (readAt identity (bitsIn n s) 15) e
       where
-        go : (o : Answer Identity) → walked o ≡ Off → judgedOf n (andNext o (λ u p. recordAt interrogateAck (bitsIn n s) 12 (one u) p)) ≡ Other
+        go : (o : Found Identity) → walked o ≡ Off → judgedOf n (andNext o (λ u p. recordAt interrogateAck (bitsIn n s) 12 (one u) p)) ≡ Other
         go (got u p) e = never cc
         go (refused k p) e = refl
 

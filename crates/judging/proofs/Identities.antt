@@ -16,7 +16,7 @@ use Rattle.grammar.specs.Grammar.{extension, identity}
 use Rattle.grammar.proofs.Codes.{identity-length}
 use Rattle.grammar.proofs.Windows as reader
 use Rattle.grammar.proofs.Windows.{plainIn, wideIn, up-to-extension}
-use Rattle.judging.specs.Walk.{walked, walk, Inside}
+use Rattle.judging.specs.Inner.{walked, walk, Inside}
 use Rattle.judging.specs.declared.walking.Walked.the-variants.{Off}
 use Rattle.judging.proofs.Walks.{walk-short}
 use Rattle.judging.proofs.Elements.{number-short}

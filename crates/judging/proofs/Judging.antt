@@ -13,13 +13,13 @@ use Rattle.bits.specs.Element.{windowAt}
 use Rattle.bits.proofs.Frames.{length-pdu}
 use Rattle.bits.proofs.Tests.{never, false-unless, both, same-pick}
 use Rattle.codec.specs.Parts.{number, absent, element, seq, tested}
-use Rattle.codec.specs.Reading.{Answer, got, refused, andNext, unlessAt, readAt}
+use Rattle.codec.specs.Reading.{Found, got, refused, andNext, unlessAt, readAt}
 use Rattle.codec.proofs.Reading.{andNext-assoc, readAt-absent, readAt-seq}
 use Rattle.grammar.specs.SiteSheet.{resultRefusal}
 use Rattle.grammar.specs.Grammar.{services, partOf, Rest, interrogateAck}
 use Rattle.grammar.specs.declared.record.Services.{Services}
 use Rattle.grammar.specs.declared.record.Lists.{Lists}
-use Rattle.judging.specs.Walk.{walked, walk, Inside, ending, partAfter}
+use Rattle.judging.specs.Inner.{walked, walk, Inside, ending, partAfter}
 use Rattle.judging.specs.declared.walking.Walked.the-variants.{Off}
 use Rattle.judging.proofs.Walks.{onward, walk-seq, walk-short}
 use Rattle.judging.proofs.Windows.{window-first}
@@ -36,18 +36,18 @@ module _ (l : List Bool) (at : ℕ) where
   ack-at = simp (readAt-seq, andNext-assoc, readAt-absent)
 
 -- only an accepting result counts, and then only where the part ends
-part-ends : (n result delivery : ℕ) (o : Answer Services) (f : ℕ → Answer Lists)
+part-ends : (n result delivery : ℕ) (o : Found Services) (f : ℕ → Found Lists)
     → partAfter n (andNext o (λ listed p. andNext (f p) (λ lists q. got (0, (result, (delivery, (listed, lists)))) q)))
     ≡ pick (leb 1 result && leb result 2) (ending n result (onward (walked o) (λ p. walked (f p)))) 0
 part-ends n result delivery (refused k p) f = sym (same-pick (leb 1 result && leb result 2) 0)
 part-ends n result delivery (got a p) f = go (f p)
   where
-    go : (o : Answer Lists) → partAfter n (andNext {B = Rest} o (λ lists q. got (0, (result, (delivery, (a, lists)))) q))
+    go : (o : Found Lists) → partAfter n (andNext {B = Rest} o (λ lists q. got (0, (result, (delivery, (a, lists)))) q))
         ≡ pick (leb 1 result && leb result 2) (ending n result (walked o)) 0
     go (got b q) = refl
     go (refused k q) = sym (same-pick (leb 1 result && leb result 2) 0)
 
-off-part : (n : ℕ) (o : Answer Rest) → walked o ≡ Off → partAfter n o ≡ 0
+off-part : (n : ℕ) (o : Found Rest) → walked o ≡ Off → partAfter n o ≡ 0
 off-part n (got rest p) e = never cc
 off-part n (refused k p) e = refl
 
@@ -81,7 +81,7 @@ module _ {s : List ℕ} {n at : ℕ} (i : Inside s n at) where
     result-at : readAt (element 3 resultRefusal) (bitsIn n s) at ≡ unlessAt (resultRefusal v) at (got v (at + 3))
     result-at =
         element-at 3 (bitsIn n s) at (omega arith) resultRefusal (omega (arith, size))
-        ∙ ap {B = Answer ℕ} (λ (x : ℕ). unlessAt (resultRefusal x) at (got x (at + 3))) (window-first s n (i .bytes) at 3 (omega arith) (omega arith)
+        ∙ ap {B = Found ℕ} (λ (x : ℕ). unlessAt (resultRefusal x) at (got x (at + 3))) (window-first s n (i .bytes) at 3 (omega arith) (omega arith)
         ∙ sym is)
 
     -- a result of 1 or 2, and the part that it says

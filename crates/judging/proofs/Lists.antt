@@ -8,15 +8,15 @@ use Rattle.bits.specs.Frame.{bitsIn}
 use Rattle.bits.specs.Element.{windowAt}
 use Rattle.codec.specs.Parts.{element, seq, tested}
 use Rattle.codec.specs.Places.{places}
-use Rattle.codec.specs.Reading.{Answer, got, refused, andNext, unlessAt, readAt}
+use Rattle.codec.specs.Reading.{Found, got, refused, andNext, unlessAt, readAt}
 use Rattle.codec.proofs.Reading.{readAt-tested}
 use Rattle.grammar.specs.SiteSheet.{rangeType, rowOf, entriesOf, rangeRefusal}
 use Rattle.grammar.specs.Grammar.{identity, noIdentity, rangeEnds, secondEnd, identities, external, noExternal, externals, services, identityPart, numberPart}
 use Rattle.grammar.proofs.Codes.{single, above-nine, not-single, not-nine}
 use Rattle.grammar.specs.declared.record.Identity.{Identity}
-use Rattle.grammar.specs.declared.site.Listing.the-variants as of
+use Rattle.grammar.specs.declared.site.ListKind.the-variants as of
 use Rattle.grammar.proofs.Steps.{identityLists, numberLists, identityPart-at, numberPart-at}
-use Rattle.judging.specs.Walk.{walked, walk, range, Inside}
+use Rattle.judging.specs.Inner.{walked, walk, range, Inside}
 use Rattle.judging.specs.declared.walking.Walked.the-variants.{Off}
 use Rattle.judging.proofs.Walks.{onward, onward-same, walked-three, walk-seq, walk-shaped}
 use Rattle.judging.proofs.Elements.{coded-short, coded-refused, coded-passed}
@@ -24,7 +24,7 @@ use Rattle.judging.proofs.Elements.{coded-short, coded-refused, coded-p
 -- ---- a list of identities
 
 -- a test that never refuses changes nothing
-untested : (o : Answer (List Identity)) (refuse into : List Identity → ℕ) → ((a : List Identity) → refuse a ≡ 0)
+untested : (o : Found (List Identity)) (refuse into : List Identity → ℕ) → ((a : List Identity) → refuse a ≡ 0)
     → walked (andNext o (λ a p. unlessAt (refuse a) (into a) (got a p))) ≡ walked o
 untested (got a p) refuse into h = rw (h a)
 untested (refused n p) refuse into h = refl

@@ -18,7 +18,7 @@ use Rattle.grammar.specs.Grammar.{identity, noIdentity, zeroIdentity, endsRefus
 use Rattle.grammar.specs.declared.record.Identity.{Identity}
 use Rattle.grammar.proofs.Codes.{ends-say}
 use Rattle.grammar.proofs.Steps.{noIdentity-at}
-use Rattle.judging.specs.Walk.{walked, walk, range, Inside}
+use Rattle.judging.specs.Inner.{walked, walk, range, Inside}
 use Rattle.judging.specs.declared.walking.Walked.the-variants.{At, Off}
 use Rattle.judging.proofs.Walks.{off-next}
 use Rattle.judging.proofs.Identities.{identity-short, identity-plain, identity-wide, identity-cut}

@@ -17,7 +17,7 @@ use Rattle.bits.proofs.Tests.{by-test, pick-both, pick-ap}
 use Rattle.bits.proofs.Lists.{length-part}
 use Rattle.bits.proofs.Numbers.{value-append, value-take-fits}
 use Rattle.codec.specs.Parts.{element}
-use Rattle.judging.specs.Walk.{walk, passing}
+use Rattle.judging.specs.Inner.{walk, passing}
 use Rattle.judging.specs.declared.walking.Walked.{Walked}
 use Rattle.judging.specs.declared.walking.Walked.the-variants.{At, Off}
 use Rattle.judging.proofs.Walks.{onward, steps}

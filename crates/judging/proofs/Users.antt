@@ -12,7 +12,7 @@ use Rattle.bits.specs.Frame.{bitsIn, framed}
 use Rattle.bits.proofs.Tests.{never}
 use Rattle.codec.specs.Parts.{tested}
 use Rattle.codec.specs.Places.{places}
-use Rattle.codec.specs.Reading.{Answer, got, refused, andNext, readAt}
+use Rattle.codec.specs.Reading.{Found, got, refused, andNext, readAt}
 use Rattle.codec.proofs.Reading.{andNext-assoc, readAt-tested}
 use Rattle.codec.proofs.Filling.{places-rest}
 use Rattle.grammar.specs.Grammar.{identity, noIdentity, zeroIdentity, rangeEnds, secondEnd, Rest, interrogateAck, toRecord, pdu}
@@ -20,9 +20,9 @@ use Rattle.grammar.specs.declared.record.Identity.{Identity}
 use Rattle.grammar.specs.declared.record.Identities.{Identities}
 use Rattle.grammar.specs.declared.record.Record.{Record}
 use Rattle.grammar.proofs.Steps.{noIdentity-at}
-use Rattle.reader.specs.Reader.{recordAt}
+use Rattle.reader.specs.Inner.{recordAt}
 use Rattle.reader.proofs.Answers.{not-framed, refused-inside, bits-left, accepted-whole}
-use Rattle.judging.specs.Walk.{walked, partAfter, held}
+use Rattle.judging.specs.Inner.{walked, partAfter, held}
 use Rattle.judging.specs.Judge.{mayHold, userOf, judgedIs}
 use Rattle.judging.specs.declared.Judged.{Judged}
 use Rattle.judging.specs.declared.Judged.the-variants.{Part, Other}
@@ -30,11 +30,11 @@ use Rattle.judging.specs.declared.walking.Walked.the-variants.{Off}
 use Rattle.judging.proofs.Ranges.{places-first}
 
 -- what is said of a PDU that was read
-abbrev pub judgedOf : ℕ → Answer Record → Judged
+abbrev pub judgedOf : ℕ → Found Record → Judged
 judgedOf n (got r at) = pick (ltb at n) Other (pick (mayHold r) (Part (userOf r) (r .result)) Other)
 judgedOf n (refused k p) = Other
 
-pub off-judged : (n : ℕ) (o : Answer Record) → walked o ≡ Off → judgedOf n o ≡ Other
+pub off-judged : (n : ℕ) (o : Found Record) → walked o ≡ Off → judgedOf n o ≡ Other
 off-judged n (got r p) e = never cc
 off-judged n (refused k p) e = refl
 
@@ -46,7 +46,7 @@ pub judged-at : (s : List ℕ) (n : ℕ) → framed s n ≡ true → judgedIs s 
 unfolding judgedIs
 judged-at s n f = go (readAt pdu (bitsIn n s) 0) refl
   where
-    go : (o : Answer Record) → readAt pdu (bitsIn n s) 0 ≡ o → judgedIs s n ≡ judgedOf n o
+    go : (o : Found Record) → readAt pdu (bitsIn n s) 0 ≡ o → judgedIs s n ≡ judgedOf n o
     go (refused k p) e = rw (refused-inside s n f e)
     go (got r at) e = left (ltb at n) refl
       where
@@ -81,6 +81,6 @@ one-held l n at u = go (readAt interrogateAck l at)
     pair result p false b true e = refl
     pair result p false b false e = refl
 
-    go : (o : Answer Rest) → judgedOf n (andNext o (λ rest p. got (toRecord (12, (one u, rest))) p)) ≡ held u (partAfter n o)
+    go : (o : Found Rest) → judgedOf n (andNext o (λ rest p. got (toRecord (12, (one u, rest))) p)) ≡ held u (partAfter n o)
     go (got rest p) = pair (rest .1 .0) p (leb 1 (rest .1 .0)) (leb (rest .1 .0) 2) (ltb p n) refl
     go (refused k p) = refl

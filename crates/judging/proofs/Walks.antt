@@ -6,12 +6,12 @@ use Prim.Native.Nat.{ℕ, zero, suc, _+_, _-_, _≤_, _<_}
 use native.Mathlib.Omega.{arith}
 use lib.ListN.{length, drop, length-append, length-drop}
 use Rattle.bits.proofs.Tests.{never}
-use Rattle.codec.specs.Codec.{Outcome, ok, no, Right, Codec, Legal}
+use Rattle.codec.specs.Codec.{Outcome, ok, no, Faithful, Codec, Legal}
 use Rattle.codec.specs.Parts.{seq, shaped}
 use Rattle.codec.specs.Places.{cons, places}
-use Rattle.codec.specs.Reading.{Answer, got, refused, andNext, answer, readAt}
+use Rattle.codec.specs.Reading.{Found, got, refused, andNext, answer, readAt}
 use Rattle.codec.proofs.Reading.{readAt-seq, readAt-shaped, readAt-nil, readAt-cons}
-use Rattle.judging.specs.Walk.{walked, walk}
+use Rattle.judging.specs.Inner.{walked, walk}
 use Rattle.judging.specs.declared.walking.Walked.{Walked}
 use Rattle.judging.specs.declared.walking.Walked.the-variants.{At, Off}
 
@@ -25,21 +25,21 @@ onward-same (At p) h = h p
 onward-same Off h = refl
 
 -- nothing follows a walk that is off
-pub off-next : {A B : Type 0} (o : Answer A) (k : A → ℕ → Answer B) → walked o ≡ Off → walked (andNext o k) ≡ Off
+pub off-next : {A B : Type 0} (o : Found A) (k : A → ℕ → Found B) → walked o ≡ Off → walked (andNext o k) ≡ Off
 off-next (got a p) k e = never cc
 off-next (refused n p) k e = refl
 
 -- a walk does not depend on what is made of the value
-pub walked-made : {A B : Type 0} (o : Answer A) (f : A → B) → walked (andNext o (λ a p. got (f a) p)) ≡ walked o
+pub walked-made : {A B : Type 0} (o : Found A) (f : A → B) → walked (andNext o (λ a p. got (f a) p)) ≡ walked o
 walked-made (got a p) f = refl
 walked-made (refused n p) f = refl
 
-walked-both : {A B C : Type 0} (o : Answer A) (d : ℕ → Answer B) (f : A → B → C)
+walked-both : {A B C : Type 0} (o : Found A) (d : ℕ → Found B) (f : A → B → C)
     → walked (andNext o (λ a p. andNext (d p) (λ b q. got (f a b) q))) ≡ onward (walked o) (λ p. walked (d p))
 walked-both (got a p) d f = walked-made (d p) (f a)
 walked-both (refused n p) d f = refl
 
-pub walked-three : {A B C D : Type 0} (o : Answer A) (d : ℕ → Answer B) (e : ℕ → Answer C) (f : A → B → C → D)
+pub walked-three : {A B C D : Type 0} (o : Found A) (d : ℕ → Found B) (e : ℕ → Found C) (f : A → B → C → D)
     → walked (andNext o (λ a p. andNext (d p) (λ b q. andNext (e q) (λ c r. got (f a b c) r))))
     ≡ onward (walked o) (λ p. onward (walked (d p)) (λ q. walked (e q)))
 walked-three (got a p) d e f = walked-both (d p) e (f a)
@@ -102,12 +102,12 @@ module _ {f : ℕ → Walked} {n count from left at : ℕ} (r : Walking f n coun
 
 -- what is read is legal, and is written as the bits that were read
 module _ {A : Type 0} (c : Codec A) (l : List Bool) (at : ℕ) where
-  pub read-cases : (P : Answer A → Type 0) → ((k p : ℕ) → P (refused k p))
+  pub read-cases : (P : Found A → Type 0) → ((k p : ℕ) → P (refused k p))
       → ((a : A) → Legal c a → (rest : List Bool) → drop at l ≡ c .print a ++ rest → P (got a (at + length (c .print a)))) → P (readAt c l at)
   unfolding readAt
   read-cases P no-read reads = go (c .parse at (drop at l)) (c .sound at (drop at l))
     where
-      go : (o : Outcome A) → Right (c .clean) (c .fault) (c .print) at (drop at l) o → P (answer o)
+      go : (o : Outcome A) → Faithful (c .clean) (c .fault) (c .print) at (drop at l) o → P (answer o)
       go (ok a p rest) h = rw (h .3) (reads a (record { clean = h .0; faultless = h .1 }) rest (h .2))
       go (no k p) h = no-read k p
 

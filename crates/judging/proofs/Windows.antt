@@ -11,7 +11,7 @@ use Rattle.bits.proofs.Bytes.{length-bits, take-before}
 use Rattle.bits.proofs.Windows.{window-part, window-front}
 use Rattle.bits.proofs.Frames.{length-pdu}
 use Rattle.codec.specs.Codec.{Codec}
-use Rattle.judging.specs.Walk.{walk, Inside}
+use Rattle.judging.specs.Inner.{walk, Inside}
 use Rattle.judging.specs.declared.walking.Walked.the-variants.{At}
 use Rattle.judging.proofs.Walks.{walk-inside}
 

@@ -8,7 +8,7 @@ ghost use Rattle.bits.specs.Frame.{bitsIn};
 ghost use Rattle.codec.specs.Reading.{readAt};
 ghost use Rattle.grammar.specs.Grammar.{interrogateAck};
 ghost use Rattle.judging.specs.Judge.{judgedIs};
-ghost use Rattle.judging.specs.Walk as walk;
+ghost use Rattle.judging.specs.Inner as walk;
 
 mod walking;
 

@@ -10,8 +10,8 @@ ghost use Rattle.codec.specs.Parts.{absent, element, seq};
 ghost use Rattle.codec.specs.Places.{places};
 ghost use Rattle.grammar.specs.SiteSheet.{digitRefusal, serviceRefusal};
 ghost use Rattle.grammar.specs.Grammar.{identity, noIdentity, identities, external, noExternal, externals, services, identityPart, numberPart};
-ghost use Rattle.grammar.specs.declared.site.Listing.the-variants as of;
-ghost use Rattle.judging.specs.Walk.{walk, passing, range, Inside};
+ghost use Rattle.grammar.specs.declared.site.ListKind.the-variants as of;
+ghost use Rattle.judging.specs.Inner.{walk, passing, range, Inside};
 
 // The place after a part, or off the grammar: the PDU ends before the part does, or an element of it is refused.
 pub enum Walked {

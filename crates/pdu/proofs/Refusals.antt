@@ -14,7 +14,7 @@ use Rattle.grammar.specs.SiteSheet.{ssType, kindRefusal}
 use Rattle.grammar.specs.Grammar.{fromRecord, pdu}
 use Rattle.grammar.proofs.Parts.{of-identities, of-rest}
 use Rattle.writer.specs.Write.{recordRefusal}
-use Rattle.grammar.specs.declared.site.Listing.the-variants.{Users}
+use Rattle.grammar.specs.declared.site.ListKind.the-variants.{Users}
 use Rattle.grammar.specs.declared.record.Record.{Record}
 
 -- no refusal, 3 or 4

@@ -21,7 +21,7 @@ use Rattle.codec.specs.Whole.{wholeParse}
 use Rattle.codec.proofs.Whole.{whole-reads, whole-sound}
 use Rattle.grammar.specs.SiteSheet.{ssType, kindRefusal}
 use Rattle.grammar.specs.Grammar.{pdu, identities, restOf, fromRecord}
-use Rattle.grammar.specs.declared.site.Listing.the-variants.{Users}
+use Rattle.grammar.specs.declared.site.ListKind.the-variants.{Users}
 use Rattle.grammar.specs.declared.record.Record.{Record}
 use Rattle.grammar.proofs.Sizes.{pdu-size}
 use Rattle.reader.specs.Read.{refusing, answered, readIs}

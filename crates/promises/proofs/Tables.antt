@@ -10,7 +10,7 @@ use Rattle.promises.specs.Answers.{isOneOf, OneOf, Exactly}
 -- its answer is in the table and in the list, and whatever is in the table is its answer
 pub exactly {ℓ} : {number : ℕ} {numbers : List ℕ} (Given : ℕ → Type ℓ) → Given number → OneOf numbers number → ((k : ℕ) → Given k → number ≡ k)
     → Exactly number numbers Given
-exactly Given row listed back = record { listed = listed; then = λ k. (λ e. subst Given e row, back k) }
+exactly Given row listed back = record { listed = listed; exactly = λ k. (λ e. subst Given e row, back k) }
 
 -- one of a list is one of a longer list
 pub wider : (ks ls : List ℕ) (n : ℕ) → OneOf ks n → OneOf (ks ++ ls) n

@@ -31,7 +31,7 @@ unfolding writeNumber
 written-words w out e =
     let r = recordFrom w in
     let k = picked (eqb (length w) 514) e (λ x. omega arith) in
-    legal-words w (eqb-true (length w) 514 (k .0)) (writing.accepted r out 0 (writing.promise .table r out .then 0 .0 (k .1)) refl .0)
+    legal-words w (eqb-true (length w) 514 (k .0)) (writing.accepted r out 0 (writing.promise .table r out .exactly 0 .0 (k .1)) refl .0)
 
 decided-words : (b w : List ℕ) → decideNumber b w ≡ 0 → requestWords (requestFrom w) ≡ w
 unfolding decideNumber
@@ -39,7 +39,7 @@ decided-words b w e =
     let q = requestFrom w in
     let k = picked (eqb (length w) 34 && areRequest w) e (λ x. omega arith) in
     let are = both (eqb (length w) 34) (areRequest w) (k .0) in
-    let r = deciding.accepted q b 0 (deciding.promise .table b q .then 0 .0 (k .1)) refl .0 in
+    let r = deciding.accepted q b 0 (deciding.promise .table b q .exactly 0 .0 (k .1)) refl .0 in
     ranged-words w (eqb-true (length w) 34 (are .0)) (are .1) (r .destination) (r .digits) (r .unused)
 
 pub promise : Promise

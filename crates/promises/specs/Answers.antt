@@ -20,4 +20,4 @@ OneOf ks n = isOneOf ks n ≡ true
 -- the number of its answer is one of these, and each is given exactly then
 pub record Exactly {ℓ} (number : ℕ) (numbers : List ℕ) (Given : ℕ → Type ℓ) : Type ℓ where
   pub listed : OneOf numbers number
-  pub then : (k : ℕ) → (number ≡ k) ↔ Given k
+  pub exactly : (k : ℕ) → (number ≡ k) ↔ Given k

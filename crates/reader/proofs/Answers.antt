@@ -10,7 +10,7 @@ use Rattle.bits.specs.Frame.{bitsIn, framed}
 use Rattle.bits.proofs.Frames.{framed-says, length-bitsIn}
 use Rattle.codec.specs.Codec.{Outcome, ok, no}
 use Rattle.codec.specs.Whole.{wholeParse}
-use Rattle.codec.specs.Reading.{Answer, got, refused, andNext, answer, readAt}
+use Rattle.codec.specs.Reading.{Found, got, refused, andNext, answer, readAt}
 use Rattle.codec.proofs.Reading.{whole-at}
 use Rattle.grammar.specs.Grammar.{pdu}
 use Rattle.grammar.specs.declared.record.Record.{Record}
@@ -22,7 +22,7 @@ pub not-framed : (s : List ℕ) (n : ℕ) → framed s n ≡ false → readIs s 
 unfolding readIs
 not-framed s n e = rw e
 
-abbrev as-answer : Answer Record → Reading
+abbrev as-answer : Found Record → Reading
 as-answer (got r at) = record { answer = Accepted; found = r }
 as-answer (refused k p) = refusing k
 

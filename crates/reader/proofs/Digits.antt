@@ -15,14 +15,14 @@ use Rattle.bits.specs.Frame.{bitsIn}
 use Rattle.bits.specs.Element.{windowAt}
 use Rattle.codec.specs.Parts.{absent, element}
 use Rattle.codec.specs.Places.{places}
-use Rattle.codec.specs.Reading.{Answer, got, readAt}
+use Rattle.codec.specs.Reading.{Found, got, readAt}
 use Rattle.codec.proofs.Reading.{readAt-absent}
 use Rattle.codec.proofs.Onward.{element-got}
 use Rattle.codec.proofs.Filling.{places-each}
 use Rattle.codec.proofs.Windows.{number-in-window}
 use Rattle.grammar.specs.SiteSheet.{digitRefusal, allDigits}
 use Rattle.grammar.proofs.Digits.{digit-legal}
-use Rattle.reader.specs.Reader.{twelveAt, digitIn, Spread}
+use Rattle.reader.specs.Inner.{twelveAt, digitIn, Spread}
 
 -- a shift to the right, and back over fewer bits
 back : (x a d e : ℕ) → x / 2 ^ a * 2 ^ d / 2 ^ (d + e) ≡ x / 2 ^ (a + e)
@@ -51,7 +51,7 @@ module _ (s : List ℕ) (n at k i e : ℕ) (few : k ≤ 12) (after : e + 4 * i �
       let kept : v / 2 ^ e % 16 ≡ windowAt s at / 2 ^ (57 - 4 * i - 4) % 2 ^ 4 =
       ap (λ (x : ℕ). v / 2 ^ x % 16) low ∙ ap (λ (x : ℕ). x % 16) (back (windowAt s at) (9 + d) d f) ∙ ap (λ (x : ℕ). windowAt s at / 2 ^ x % 16) whole in
       element-got 4 digitRefusal (bitsIn n s) p (v / 2 ^ e % 16) q
-      (number-in-window s n at (4 * i) 4 p q ep eq (omega arith) (omega arith) (omega arith) ∙ ap {B = Answer ℕ} (λ (x : ℕ). got x q) (sym kept))
+      (number-in-window s n at (4 * i) 4 p q ep eq (omega arith) (omega arith) (omega arith) ∙ ap {B = Found ℕ} (λ (x : ℕ). got x q) (sym kept))
       (ap (λ (x : ℕ). digitRefusal (v / 2 ^ x % 16)) nth ∙ digit-legal 16 v (11 - i) (omega arith) legal)
 
   twelve-none : k ≤ i → twelveAt s at k / 2 ^ e % 16 ≡ 0
@@ -112,6 +112,6 @@ module _ (s : List ℕ) (n at count first : ℕ) (half : first ≡ min count 12)
       let start : at ≡ at + 4 * 0 = omega arith in
       ap (readAt (places (element 4 digitRefusal) absent 24 count) (bitsIn n s)) start
       ∙ places-each (element 4 digitRefusal) absent (bitsIn n s) 0 24 count (λ i. at + 4 * i) l (r .room) few
-      (λ i h. digit-there there lh ll i h ∙ ap {B = Answer ℕ} (λ (x : ℕ). got x (at + 4 * suc i)) (sym (r .digits i (omega arith))))
-      (λ i p h k. readAt-absent (bitsIn n s) p ∙ ap {B = Answer ℕ} (λ (x : ℕ). got x p) (sym (r .digits i k ∙ no-digit i h k)))
-      ∙ ap {B = Answer (List ℕ)} (λ (x : ℕ). got l (at + x)) (sym wide)
+      (λ i h. digit-there there lh ll i h ∙ ap {B = Found ℕ} (λ (x : ℕ). got x (at + 4 * suc i)) (sym (r .digits i (omega arith))))
+      (λ i p h k. readAt-absent (bitsIn n s) p ∙ ap {B = Found ℕ} (λ (x : ℕ). got x p) (sym (r .digits i k ∙ no-digit i h k)))
+      ∙ ap {B = Found (List ℕ)} (λ (x : ℕ). got l (at + x)) (sym wide)

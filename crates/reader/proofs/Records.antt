@@ -10,9 +10,9 @@ use Rattle.grammar.specs.SiteSheet.{ssType, kindRefusal, resultRefusal, askedRe
 use Rattle.grammar.specs.Grammar.{identities, services, partOf, interrogate, interrogateAck, restOf, pdu}
 use Rattle.grammar.specs.Zero.{zeroServices, zeroLists}
 use Rattle.grammar.specs.declared.record.Identities.{Identities}
-use Rattle.grammar.specs.declared.site.Listing.the-variants as of
+use Rattle.grammar.specs.declared.site.ListKind.the-variants as of
 use Rattle.grammar.proofs.Steps.{noServices-at, noPart-at}
-use Rattle.reader.specs.Reader.{recordAt}
+use Rattle.reader.specs.Inner.{recordAt}
 
 module _ (s : List Bool) (kind : ℕ) (affected : Identities) (at : ℕ) where
   pub interrogate-at : recordAt interrogate s kind affected at ≡ andNext (readAt (element 2 askedRefusal) s at) (λ asked at₁.

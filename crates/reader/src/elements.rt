@@ -9,7 +9,7 @@ ghost use lib.Dec.{leb};
 ghost use lib.ListN.{length};
 ghost use Rattle.bits.specs.Frame.{bitsIn};
 ghost use Rattle.codec.specs.Parts.{element};
-ghost use Rattle.codec.specs.Reading.{from, readAt, numberIs};
+ghost use Rattle.codec.specs.Reading.{resume, readAt, numberIs};
 ghost use Rattle.grammar.specs.SiteSheet.{between};
 
 // A number whose value is between two bounds; otherwise 3.
@@ -22,7 +22,7 @@ pub(crate) fn bounded(
     high: u32,
 ) -> NumberRead
     requires { ⌜ (1 ≤ width) × (width ≤ 32) ⌝ }
-    ensures { λ r. ⌜ r ≡ numberIs (from start (readAt (element width (between low high)) (bitsIn (n .0) (now (s .entry))))) ⌝ }
+    ensures { λ r. ⌜ r ≡ numberIs (resume start (readAt (element width (between low high)) (bitsIn (n .0) (now (s .entry))))) ⌝ }
 {
     let read = codec::number(s, n, start, width);
     codec::tested(start, read, site::between_refusal(low, high, read.value))

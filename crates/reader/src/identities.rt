@@ -7,15 +7,15 @@ use codec::Reached;
 use grammar::record::Identities;
 use grammar::record::Identity;
 use grammar::site;
-use grammar::site::Listing;
+use grammar::site::ListKind;
 ghost use mathlib.Core.Path.{_≡_};
 ghost use Prim.Native.Nat.{_≤_};
 ghost use lib.ListN.{length, replicate};
 ghost use Rattle.bits.specs.Frame.{bitsIn};
 ghost use Rattle.codec.specs.Places.{places};
-ghost use Rattle.codec.specs.Reading.{got, from, readAt, numberIs};
+ghost use Rattle.codec.specs.Reading.{got, resume, readAt, numberIs};
 ghost use Rattle.grammar.specs.Grammar.{extension, identity, noIdentity, zeroIdentity, identities};
-ghost use Rattle.reader.specs.Reader.{identityIs, entriesIs, EndsFit, endsIs, identitiesIs};
+ghost use Rattle.reader.specs.Inner.{identityIs, entriesIs, EndsFit, endsIs, identitiesIs};
 
 pub struct IdentityRead {
     pub reached: Reached,
@@ -24,7 +24,7 @@ pub struct IdentityRead {
 
 // An identity: where 49 bits are there, one window holds it.
 fn identity_of(s: &[u8], n: BitCount, start: Reached) -> IdentityRead
-    ensures { λ r. ⌜ r ≡ identityIs (from start (readAt identity (bitsIn (n .0) (now (s .entry))))) ⌝ }
+    ensures { λ r. ⌜ r ≡ identityIs (resume start (readAt identity (bitsIn (n .0) (now (s .entry))))) ⌝ }
 {
     let Reached::At(c) = start else {
         return identity_by_parts(s, n, start);
@@ -57,7 +57,7 @@ fn identity_of(s: &[u8], n: BitCount, start: Reached) -> IdentityRead
 
 // The same part by part: near the end of a PDU.
 fn identity_by_parts(s: &[u8], n: BitCount, start: Reached) -> IdentityRead
-    ensures { λ r. ⌜ r ≡ identityIs (from start (readAt identity (bitsIn (n .0) (now (s .entry))))) ⌝ }
+    ensures { λ r. ⌜ r ≡ identityIs (resume start (readAt identity (bitsIn (n .0) (now (s .entry))))) ⌝ }
 {
     let ssi = codec::number(s, n, start, 24);
     let after_ssi = ssi.reached;
@@ -77,7 +77,7 @@ fn identity_by_parts(s: &[u8], n: BitCount, start: Reached) -> IdentityRead
 
 // Nothing is read: where reading stands, and 0.
 fn nothing(start: Reached) -> NumberRead
-    ensures { λ r. ⌜ r ≡ numberIs (from start (λ at. got 0 at)) ⌝ }
+    ensures { λ r. ⌜ r ≡ numberIs (resume start (λ at. got 0 at)) ⌝ }
 {
     NumberRead {
         reached: start,
@@ -86,7 +86,7 @@ fn nothing(start: Reached) -> NumberRead
 }
 
 fn extension_of(s: &[u8], n: BitCount, start: Reached, present: u32) -> NumberRead
-    ensures { λ r. ⌜ r ≡ numberIs (from start (readAt (extension present) (bitsIn (n .0) (now (s .entry))))) ⌝ }
+    ensures { λ r. ⌜ r ≡ numberIs (resume start (readAt (extension present) (bitsIn (n .0) (now (s .entry))))) ⌝ }
 {
     if present == 1 {
         return codec::number(s, n, start, 24);
@@ -95,7 +95,7 @@ fn extension_of(s: &[u8], n: BitCount, start: Reached, present: u32) -> NumberRe
 }
 
 fn kept_identity(end: Reached, value: Identity) -> IdentityRead
-    ensures { λ r. ⌜ r ≡ identityIs (from end (λ at. got value at)) ⌝ }
+    ensures { λ r. ⌜ r ≡ identityIs (resume end (λ at. got value at)) ⌝ }
 {
     let Reached::At(_) = end else {
         return IdentityRead {
@@ -121,7 +121,7 @@ pub struct EntriesRead {
 // The entries that a range type says, in the first of eight places.
 fn entries_of(s: &[u8], n: BitCount, start: Reached, count: u32) -> EntriesRead
     requires { ⌜ count ≤ 8 ⌝ }
-    ensures { λ r. ⌜ r ≡ entriesIs (from start (readAt (places identity noIdentity 8 count) (bitsIn (n .0) (now (s .entry))))) ⌝ }
+    ensures { λ r. ⌜ r ≡ entriesIs (resume start (readAt (places identity noIdentity 8 count) (bitsIn (n .0) (now (s .entry))))) ⌝ }
 {
     let none = Identity {
         ssi: 0,
@@ -213,12 +213,12 @@ pub(crate) fn identities_of(
     s: &[u8],
     n: BitCount,
     start: Reached,
-    listing: Listing,
+    list: ListKind,
 ) -> IdentitiesRead
-    ensures { λ r. ⌜ r ≡ identitiesIs (from start (readAt (identities listing) (bitsIn (n .0) (now (s .entry))))) ⌝ }
+    ensures { λ r. ⌜ r ≡ identitiesIs (resume start (readAt (identities list) (bitsIn (n .0) (now (s .entry))))) ⌝ }
 {
     let number = codec::number(s, n, start, 4);
-    let code = codec::tested(start, number, site::range_refusal(listing, number.value));
+    let code = codec::tested(start, number, site::range_refusal(list, number.value));
     let after_code = code.reached;
     let row = site::row_of(code.value);
     let entries = entries_of(s, n, after_code, row.entries);
@@ -235,7 +235,7 @@ pub(crate) fn identities_of(
 }
 
 fn kept_identities(end: Reached, value: Identities) -> IdentitiesRead
-    ensures { λ r. ⌜ r ≡ identitiesIs (from end (λ at. got value at)) ⌝ }
+    ensures { λ r. ⌜ r ≡ identitiesIs (resume end (λ at. got value at)) ⌝ }
 {
     let Reached::At(_) = end else {
         let none = Identity {

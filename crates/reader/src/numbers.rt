@@ -8,16 +8,16 @@ use codec::Reached;
 use grammar::record::Number;
 use grammar::record::Numbers;
 use grammar::site;
-use grammar::site::Listing;
+use grammar::site::ListKind;
 ghost use mathlib.Core.Path.{_≡_};
 ghost use Prim.Native.Nat.{_≤_, _<_};
 ghost use Rattle.bits.specs.Frame.{bitsIn};
 ghost use Rattle.codec.specs.Parts.{absent, element};
 ghost use Rattle.codec.specs.Places.{places};
-ghost use Rattle.codec.specs.Reading.{got, from, readAt};
+ghost use Rattle.codec.specs.Reading.{got, resume, readAt};
 ghost use Rattle.grammar.specs.SiteSheet.{digitRefusal};
 ghost use Rattle.grammar.specs.Grammar.{external, noExternal, externals};
-ghost use Rattle.reader.specs.Reader.{digitsIs, twelveAt, digitIn, Spread, externalIs, numberEntriesIs, numbersIs};
+ghost use Rattle.reader.specs.Inner.{digitsIs, twelveAt, digitIn, Spread, externalIs, numberEntriesIs, numbersIs};
 
 pub struct DigitsRead {
     pub reached: Reached,
@@ -27,7 +27,7 @@ pub struct DigitsRead {
 // As many digits as a length says, in the first of 24 places. If they are all there and none is refused, two windows hold them.
 fn digits_of(s: &[u8], n: BitCount, start: Reached, count: u32) -> DigitsRead
     requires { ⌜ count ≤ 24 ⌝ }
-    ensures { λ r. ⌜ r ≡ digitsIs (from start (readAt (places (element 4 digitRefusal) absent 24 count) (bitsIn (n .0) (now (s .entry))))) ⌝ }
+    ensures { λ r. ⌜ r ≡ digitsIs (resume start (readAt (places (element 4 digitRefusal) absent 24 count) (bitsIn (n .0) (now (s .entry))))) ⌝ }
 {
     let Reached::At(c) = start else {
         return DigitsRead {
@@ -121,7 +121,7 @@ pub struct ExternalRead {
 
 // An external number: its length and its digits.
 fn external_of(s: &[u8], n: BitCount, start: Reached) -> ExternalRead
-    ensures { λ r. ⌜ r ≡ externalIs (from start (readAt external (bitsIn (n .0) (now (s .entry))))) ⌝ }
+    ensures { λ r. ⌜ r ≡ externalIs (resume start (readAt external (bitsIn (n .0) (now (s .entry))))) ⌝ }
 {
     let length = bounded(s, n, start, 5, 1, 24);
     let after_length = length.reached;
@@ -138,7 +138,7 @@ fn external_of(s: &[u8], n: BitCount, start: Reached) -> ExternalRead
 }
 
 fn kept_external(end: Reached, value: Number) -> ExternalRead
-    ensures { λ r. ⌜ r ≡ externalIs (from end (λ at. got value at)) ⌝ }
+    ensures { λ r. ⌜ r ≡ externalIs (resume end (λ at. got value at)) ⌝ }
 {
     let Reached::At(_) = end else {
         return ExternalRead {
@@ -163,7 +163,7 @@ pub struct NumberEntriesRead {
 // The external numbers that a range type says, in the first of eight places.
 fn number_entries_of(s: &[u8], n: BitCount, start: Reached, count: u32) -> NumberEntriesRead
     requires { ⌜ count ≤ 8 ⌝ }
-    ensures { λ r. ⌜ r ≡ numberEntriesIs (from start (readAt (places external noExternal 8 count) (bitsIn (n .0) (now (s .entry))))) ⌝ }
+    ensures { λ r. ⌜ r ≡ numberEntriesIs (resume start (readAt (places external noExternal 8 count) (bitsIn (n .0) (now (s .entry))))) ⌝ }
 {
     let none = Number {
         length: DigitCount(0),
@@ -205,13 +205,13 @@ pub struct NumbersRead {
 
 // A range type and its external numbers.
 pub(crate) fn numbers_of(s: &[u8], n: BitCount, start: Reached) -> NumbersRead
-    ensures { λ r. ⌜ r ≡ numbersIs (from start (readAt externals (bitsIn (n .0) (now (s .entry))))) ⌝ }
+    ensures { λ r. ⌜ r ≡ numbersIs (resume start (readAt externals (bitsIn (n .0) (now (s .entry))))) ⌝ }
 {
     let number = codec::number(s, n, start, 4);
     let code = codec::tested(
         start,
         number,
-        site::range_refusal(Listing::Numbers, number.value),
+        site::range_refusal(ListKind::Numbers, number.value),
     );
     let after_code = code.reached;
     let row = site::row_of(code.value);
@@ -228,7 +228,7 @@ pub(crate) fn numbers_of(s: &[u8], n: BitCount, start: Reached) -> NumbersRead
 }
 
 fn kept_numbers(end: Reached, value: Numbers) -> NumbersRead
-    ensures { λ r. ⌜ r ≡ numbersIs (from end (λ at. got value at)) ⌝ }
+    ensures { λ r. ⌜ r ≡ numbersIs (resume end (λ at. got value at)) ⌝ }
 {
     let Reached::At(_) = end else {
         let none = Number {

@@ -8,15 +8,15 @@ use codec::Reached;
 use grammar::record::Identities;
 use grammar::record::Record;
 use grammar::site;
-use grammar::site::Listing;
+use grammar::site::ListKind;
 use grammar::zero::zero_lists;
 use grammar::zero::zero_record;
 use grammar::zero::zero_services;
 ghost use mathlib.Core.Path.{_≡_};
 ghost use Rattle.bits.specs.Frame.{bitsIn};
-ghost use Rattle.codec.specs.Reading.{got, from, readAt};
+ghost use Rattle.codec.specs.Reading.{got, resume, readAt};
 ghost use Rattle.grammar.specs.Grammar.{interrogate, interrogateAck, pdu};
-ghost use Rattle.reader.specs.Reader.{recordAt, recordIs};
+ghost use Rattle.reader.specs.Inner.{recordAt, recordIs};
 
 pub struct RecordRead {
     pub reached: Reached,
@@ -25,7 +25,7 @@ pub struct RecordRead {
 
 // The whole of a PDU: SS type, PDU type, affected users, and what its type says.
 pub(crate) fn record_of(s: &[u8], n: BitCount, start: Reached) -> RecordRead
-    ensures { λ r. ⌜ r ≡ recordIs (from start (readAt pdu (bitsIn (n .0) (now (s .entry))))) ⌝ }
+    ensures { λ r. ⌜ r ≡ recordIs (resume start (readAt pdu (bitsIn (n .0) (now (s .entry))))) ⌝ }
 {
     let number = codec::number(s, n, start, 6);
     let ss_type = codec::tested(start, number, site::ss_refusal(number.value));
@@ -33,7 +33,7 @@ pub(crate) fn record_of(s: &[u8], n: BitCount, start: Reached) -> RecordRead
     let code = codec::number(s, n, after_ss, 5);
     let kind = codec::tested(after_ss, code, site::kind_refusal(code.value));
     let after_kind = kind.reached;
-    let users = identities_of(s, n, after_kind, Listing::Users);
+    let users = identities_of(s, n, after_kind, ListKind::Users);
     let after_users = users.reached;
     let affected = users.value;
     if kind.value == 11 {
@@ -50,7 +50,7 @@ fn interrogate_of(
     kind: u32,
     affected: Identities,
 ) -> RecordRead
-    ensures { λ r. ⌜ r ≡ recordIs (from start (recordAt interrogate (bitsIn (n .0) (now (s .entry))) kind affected)) ⌝ }
+    ensures { λ r. ⌜ r ≡ recordIs (resume start (recordAt interrogate (bitsIn (n .0) (now (s .entry))) kind affected)) ⌝ }
 {
     let asked = bounded(s, n, start, 2, 1, 3);
     let end = asked.reached;
@@ -78,7 +78,7 @@ fn interrogate_ack_of(
     kind: u32,
     affected: Identities,
 ) -> RecordRead
-    ensures { λ r. ⌜ r ≡ recordIs (from start (recordAt interrogateAck (bitsIn (n .0) (now (s .entry))) kind affected)) ⌝ }
+    ensures { λ r. ⌜ r ≡ recordIs (resume start (recordAt interrogateAck (bitsIn (n .0) (now (s .entry))) kind affected)) ⌝ }
 {
     let number = codec::number(s, n, start, 3);
     let result = codec::tested(start, number, site::result_refusal(number.value));
@@ -106,7 +106,7 @@ fn interrogate_ack_of(
 }
 
 fn kept_record(end: Reached, value: Record) -> RecordRead
-    ensures { λ r. ⌜ r ≡ recordIs (from end (λ at. got value at)) ⌝ }
+    ensures { λ r. ⌜ r ≡ recordIs (resume end (λ at. got value at)) ⌝ }
 {
     let Reached::At(_) = end else {
         return RecordRead {

@@ -9,10 +9,10 @@ ghost use Prim.Native.Nat.{_≤_};
 ghost use Rattle.bits.specs.Frame.{bitsIn};
 ghost use Rattle.codec.specs.Parts.{absent, element};
 ghost use Rattle.codec.specs.Places.{places};
-ghost use Rattle.codec.specs.Reading.{got, from, readAt};
+ghost use Rattle.codec.specs.Reading.{got, resume, readAt};
 ghost use Rattle.grammar.specs.SiteSheet.{serviceRefusal};
 ghost use Rattle.grammar.specs.Grammar.{services};
-ghost use Rattle.reader.specs.Reader.{serviceListIs, servicesIs};
+ghost use Rattle.reader.specs.Inner.{serviceListIs, servicesIs};
 
 pub struct ServiceListRead {
     pub reached: Reached,
@@ -22,7 +22,7 @@ pub struct ServiceListRead {
 // As many services as their number says, in the first of seven places.
 fn service_list_of(s: &[u8], n: BitCount, start: Reached, count: u32) -> ServiceListRead
     requires { ⌜ count ≤ 7 ⌝ }
-    ensures { λ r. ⌜ r ≡ serviceListIs (from start (readAt (places (element 3 serviceRefusal) absent 7 count) (bitsIn (n .0) (now (s .entry))))) ⌝ }
+    ensures { λ r. ⌜ r ≡ serviceListIs (resume start (readAt (places (element 3 serviceRefusal) absent 7 count) (bitsIn (n .0) (now (s .entry))))) ⌝ }
 {
     let mut held = [0u32; 7];
     let Reached::At(c) = start else {
@@ -60,7 +60,7 @@ pub struct ServicesRead {
 
 // The number of services and the services.
 pub(crate) fn services_of(s: &[u8], n: BitCount, start: Reached) -> ServicesRead
-    ensures { λ r. ⌜ r ≡ servicesIs (from start (readAt services (bitsIn (n .0) (now (s .entry))))) ⌝ }
+    ensures { λ r. ⌜ r ≡ servicesIs (resume start (readAt services (bitsIn (n .0) (now (s .entry))))) ⌝ }
 {
     let count = bounded(s, n, start, 3, 1, 7);
     let after_count = count.reached;
@@ -77,7 +77,7 @@ pub(crate) fn services_of(s: &[u8], n: BitCount, start: Reached) -> ServicesRead
 }
 
 fn kept_services(end: Reached, value: Services) -> ServicesRead
-    ensures { λ r. ⌜ r ≡ servicesIs (from end (λ at. got value at)) ⌝ }
+    ensures { λ r. ⌜ r ≡ servicesIs (resume end (λ at. got value at)) ⌝ }
 {
     let Reached::At(_) = end else {
         return ServicesRead {

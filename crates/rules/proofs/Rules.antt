@@ -7,19 +7,19 @@ use Rattle.bits.specs.Bits.{pick}
 use Rattle.bits.proofs.Tests.{never, same-pick}
 use Rattle.grammar.specs.declared.record.Record.{Record}
 use Rattle.rules.specs.Matching.{covered}
-use Rattle.rules.specs.Rule.{isExcepted, isRestricted, isOutside, inGroups, bothEmpty, ruling, ruled, outsideGroup, restrictedService, restrictedAddress}
+use Rattle.rules.specs.Rule.{isExcepted, isRestricted, isOutside, inGroups, bothEmpty, ruling, sixRules, outsideGroup, restrictedService, restrictedAddress}
 use Rattle.rules.specs.declared.request.Request.{Request}
 use Rattle.rules.specs.declared.Decision.the-variants.{Allowed, Barred}
 
 module _ (home : ℕ) (r : Record) (q : Request) where
   -- a call by a service that the part does not list is allowed
   pub unlisted-allowed : covered (r .services) (q .service) ≡ false → ruling home r q ≡ Allowed
-  unfolding ruling ruled
+  unfolding ruling sixRules
   unlisted-allowed h = rw h
 
   -- an excepted destination is never barred
   pub excepted-allowed : isExcepted home (r .lists) (q .destination) (q .digits) ≡ true → ruling home r q ≡ Allowed
-  unfolding ruling ruled
+  unfolding ruling sixRules
   excepted-allowed h = rw h (same-pick (not (covered (r .services) (q .service))) Allowed)
 
   -- an empty group list bars no call for its group
@@ -28,7 +28,7 @@ module _ (home : ℕ) (r : Record) (q : Request) where
   inside h = ap (λ (t : Bool). not t && not (inGroups home (r .lists .groups) (q .group))) (eq-eqb (r .lists .groups .code) 0 h)
 
   pub no-groups : r .lists .groups .code ≡ 0 → ruling home r q ≡ Barred outsideGroup → ⊥
-  unfolding ruling ruled
+  unfolding ruling sixRules
   no-groups h e =
       apart (covered (r .services) (q .service)) (isExcepted home (r .lists) (q .destination) (q .digits))
       (isRestricted home (r .lists) (q .destination) (q .digits)) (bothEmpty (r .lists) (q .destination)) (rw (inside h) at e)

@@ -65,8 +65,8 @@ bothEmpty l destination = isEmpty (l .groups .code) && isEmpty (restrictedCode l
 
 -- ---- the six rules, first that applies
 
-unfoldable pub ruled : ℕ → Record → Request → Decision
-ruled missing r q =
+unfoldable pub sixRules : ℕ → Record → Request → Decision
+sixRules missing r q =
     pick (not (covered (r .services) (q .service))) Allowed  -- 1
     (pick (isExcepted missing (r .lists) (q .destination) (q .digits)) Allowed  -- 2
     (pick (isRestricted missing (r .lists) (q .destination) (q .digits)) (Barred restrictedAddress)  -- 3
@@ -76,9 +76,9 @@ ruled missing r q =
 
 -- an entry without extension means the home network
 unfoldable pub ruling : ℕ → Record → Request → Decision
-ruling home r q = ruled home r q
+ruling home r q = sixRules home r q
 
 -- `unfolding rules` opens all of it
 unfoldable pub rules : Unit {0}
-unfolding ruling ruled isExcepted isRestricted isOutside bothEmpty covered isCovering identityAmong isEntry inRange networkOf numberAmong isNumber same some rangeType rowOf
+unfolding ruling sixRules isExcepted isRestricted isOutside bothEmpty covered isCovering identityAmong isEntry inRange networkOf numberAmong isNumber same some rangeType rowOf
 rules = tt

@@ -5,7 +5,7 @@ use crate::elements::tally_absent;
 use crate::elements::tally_element;
 use grammar::record::Identities;
 use grammar::record::Identity;
-use grammar::site::Listing;
+use grammar::site::ListKind;
 use grammar::site::ends_refusal;
 use grammar::site::range_refusal;
 use grammar::site::row_of;
@@ -71,14 +71,14 @@ fn range_ends(code: u32, entries: [Identity; 8]) -> u32
 }
 
 // The range type, as many entries as it says, and the test of a range.
-pub(crate) fn tally_identities(start: Tally, listing: Listing, l: Identities) -> Tally
+pub(crate) fn tally_identities(start: Tally, list: ListKind, l: Identities) -> Tally
     requires { ⌜ start .bits + 396 ≤ 4096 ⌝ }
-    ensures { λ r. ⌜ Tallies (identities listing) l start r ⌝ }
+    ensures { λ r. ⌜ Tallies (identities list) l start r ⌝ }
 {
     let code = l.code;
     let entries = l.entries;
     let row = row_of(code);
-    let coded = tally_element(start, 4, code, range_refusal(listing, code));
+    let coded = tally_element(start, 4, code, range_refusal(list, code));
     let listed = tally_identity_places(coded, entries, row.entries as usize);
     Tally {
         clean: listed.clean,

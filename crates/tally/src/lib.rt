@@ -9,7 +9,7 @@ mod services;
 use elements::tally_absent;
 use elements::tally_element;
 use grammar::record::Record;
-use grammar::site::Listing;
+use grammar::site::ListKind;
 use grammar::site::SS_TYPE;
 use grammar::site::between_refusal;
 use grammar::site::kind_refusal;
@@ -69,7 +69,7 @@ pub fn tally_record(r: Record) -> Tally
     };
     let ss = tally_element(start, 6, SS_TYPE, 0);
     let typed = tally_element(ss, 5, kind, kind_refusal(kind));
-    let users = tally_identities(typed, Listing::Users, affected);
+    let users = tally_identities(typed, ListKind::Users, affected);
     if kind == 11 {
         return tally_interrogate(users, r);
     }

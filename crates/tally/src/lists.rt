@@ -5,7 +5,7 @@ use crate::identities::tally_no_identities;
 use crate::numbers::tally_no_numbers;
 use crate::numbers::tally_numbers;
 use grammar::record::Lists;
-use grammar::site::Listing;
+use grammar::site::ListKind;
 ghost use Prim.Native.Nat.{_+_, _≤_};
 ghost use Rattle.grammar.specs.Grammar.{identityPart, numberPart, noPart, partOf};
 ghost use Rattle.tally.specs.Tally.{Tallies};
@@ -20,9 +20,9 @@ fn tally_identity_part(start: Tally, l: Lists) -> Tally
     let exceptions = l.exceptions;
     let numbers = l.numbers;
     let excepted = l.excepted;
-    let a = tally_identities(start, Listing::Identities, groups);
-    let b = tally_identities(a, Listing::Identities, restricted);
-    let c = tally_identities(b, Listing::Identities, exceptions);
+    let a = tally_identities(start, ListKind::Identities, groups);
+    let b = tally_identities(a, ListKind::Identities, restricted);
+    let c = tally_identities(b, ListKind::Identities, exceptions);
     let d = tally_no_numbers(c, numbers);
     tally_no_numbers(d, excepted)
 }
@@ -37,7 +37,7 @@ fn tally_number_part(start: Tally, l: Lists) -> Tally
     let exceptions = l.exceptions;
     let numbers = l.numbers;
     let excepted = l.excepted;
-    let a = tally_identities(start, Listing::Identities, groups);
+    let a = tally_identities(start, ListKind::Identities, groups);
     let b = tally_no_identities(a, restricted);
     let c = tally_no_identities(b, exceptions);
     let d = tally_numbers(c, numbers);

@@ -8,7 +8,7 @@ use crate::elements::tally_element;
 use bits::DigitCount;
 use grammar::record::Number;
 use grammar::record::Numbers;
-use grammar::site::Listing;
+use grammar::site::ListKind;
 use grammar::site::between_refusal;
 use grammar::site::range_refusal;
 use grammar::site::row_of;
@@ -92,7 +92,7 @@ pub(crate) fn tally_numbers(start: Tally, l: Numbers) -> Tally
     let code = l.code;
     let entries = l.entries;
     let row = row_of(code);
-    let coded = tally_element(start, 4, code, range_refusal(Listing::Numbers, code));
+    let coded = tally_element(start, 4, code, range_refusal(ListKind::Numbers, code));
     tally_number_places(coded, entries, row.entries as usize)
 }
 

@@ -14,8 +14,8 @@ use Rattle.codec.specs.Parts.{absent, seq}
 use Rattle.codec.proofs.Legality.{legal-seq, legal-shaped, legal-tested, legal-mark, legal-element, legal-absent, legal-places, legal-length}
 use Rattle.grammar.specs.SiteSheet.{entriesOf}
 use Rattle.grammar.specs.Grammar.{identities, noIdentities, external, noExternal, externals, noExternals, services, noServices, identityPart, numberPart, noPart, Rest, interrogate, interrogateAck, fromLists, fromRecord, pdu}
-use Rattle.grammar.specs.declared.site.Listing.{Listing}
-use Rattle.grammar.specs.declared.site.Listing.the-variants.{Users}
+use Rattle.grammar.specs.declared.site.ListKind.{ListKind}
+use Rattle.grammar.specs.declared.site.ListKind.the-variants.{Users}
 use Rattle.grammar.specs.declared.record.Identities.{Identities}
 use Rattle.grammar.specs.declared.record.Number.{Number}
 use Rattle.grammar.specs.declared.record.Numbers.{Numbers}
@@ -76,7 +76,7 @@ numbers-sized l h = (h .0, go (l .entries) (h .1))
     go [] e = tt
     go (e ∷ s) (h, t) = (record { digits = h .digits; bytes = small-bytes (e .length .0 ∷ e .digits) (h .small) }, go s t)
 
-identities-sized : (k : Listing) (l : Identities) → Legal (identities k) l → SizedIdentities l
+identities-sized : (k : ListKind) (l : Identities) → Legal (identities k) l → SizedIdentities l
 unfolding identities
 identities-sized k l h =
     legal-length _ _ 8 (entriesOf (l .code)) (l .entries) (legal-tested _ _ _ _ (legal-seq _ _ _ (legal-shaped _ _ _ _ _ _ h) .1))

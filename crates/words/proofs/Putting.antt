@@ -8,7 +8,7 @@ use lib.ListN.{length, getD, take, set, drop-of-length-le}
 use lib.Seq.{take-all, take-suc}
 use Rattle.bits.proofs.Laying as laying
 use Rattle.words.specs.RecordWords.{inTurn}
-use Rattle.words.specs.Putting.{Put}
+use Rattle.words.specs.Inner.{Put}
 
 -- one word
 pub word-put : (out : List ℕ) (at x : ℕ) → at < length out → Put out at (x ∷ []) 1 (set out at x) (at + 1)

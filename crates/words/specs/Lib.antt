@@ -1,5 +1,5 @@
 pub mod RecordWords
 pub mod RequestWords
 pub mod Sized
-pub mod Putting
+pub mod Inner
 pub mod Examples

@@ -12,7 +12,7 @@ ghost use mathlib.Core.Path.{_≡_};
 ghost use mathlib.Core.List.{_∷_, []};
 ghost use Prim.Native.Nat.{_+_, _≤_, _<_};
 ghost use lib.ListN.{length, take, drop};
-ghost use Rattle.words.specs.Putting.{Put};
+ghost use Rattle.words.specs.Inner.{Put};
 ghost use Rattle.words.specs.RecordWords.{identityWords, identitiesWords, numberWords, numbersWords, servicesWords, listsWords, recordWords, narrow, narrowed, identityFrom, identitiesFrom, numberFrom, numbersFrom, servicesFrom, listsFrom, recordFrom, givenRecord, putRecord};
 
 pub const RECORD_WORDS: usize = 514;

@@ -18,7 +18,7 @@ use Rattle.codec.specs.Places.{nil, cons, places}
 use Rattle.grammar.specs.SiteSheet.{digitRefusal}
 use Rattle.grammar.specs.Grammar.{external}
 use Rattle.grammar.specs.declared.record.Number.{Number}
-use Rattle.writer.specs.Writing.{digitBits, DigitsAfter}
+use Rattle.writer.specs.Inner.{digitBits, DigitsAfter}
 
 -- ---- digits
 

@@ -12,8 +12,8 @@ use Rattle.bits.proofs.Splices.{length-splice, splice-nil, splice-splice}
 use Rattle.codec.specs.Codec.{Codec}
 use Rattle.codec.specs.Parts.{number, element, seq, tested, shaped}
 use Rattle.grammar.specs.Grammar.{identities}
-use Rattle.writer.specs.Writing.{Room, Puts}
-use Rattle.grammar.specs.declared.site.Listing.{Listing}
+use Rattle.writer.specs.Inner.{Room, Puts}
+use Rattle.grammar.specs.declared.site.ListKind.{ListKind}
 use Rattle.grammar.specs.declared.record.Identities.{Identities}
 use Rattle.codec.proofs.Sizes.{Within}
 
@@ -111,7 +111,7 @@ put-none {c} {a} {s} {at} h =
 
 -- ---- in each kind of list, identities are put alike
 
-module _ (j k : Listing) {l : Identities} {s : List ℕ} {at : ℕ} where
+module _ (j k : ListKind) {l : Identities} {s : List ℕ} {at : ℕ} where
   pub room-listing : Room (identities j) l s at → Room (identities k) l s at
   unfolding identities shaped seq element tested
   room-listing h = record { short = h .short; fits = h .fits }

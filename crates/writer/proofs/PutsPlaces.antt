@@ -10,7 +10,7 @@ use lib.Seq.{drop-cons}
 use borrow.Author.Tests.{lt-ltb}
 use Rattle.codec.specs.Codec.{Codec}
 use Rattle.codec.specs.Places.{nil, cons, places}
-use Rattle.writer.specs.Writing.{Room, Puts}
+use Rattle.writer.specs.Inner.{Room, Puts}
 use Rattle.codec.proofs.Sizes.{Within, size-more, size-places}
 use Rattle.tally.proofs.Places.{places-next, none-used}
 use Rattle.writer.proofs.Puts.{left, right, join, put-none}

@@ -13,7 +13,7 @@ use Rattle.codec.specs.Codec.{Codec}
 use Rattle.codec.specs.Parts.{number, absent, seq, shaped}
 use Rattle.grammar.specs.Grammar.{identity, extension}
 use Rattle.grammar.specs.declared.record.Identity.{Identity}
-use Rattle.writer.specs.Writing.{Room, Puts}
+use Rattle.writer.specs.Inner.{Room, Puts}
 
 -- a part whose bits are those of a number
 module _ {A : Type 0} {c : Codec A} {a : A} (w v : ℕ) (same : c .print a ≡ bitsOf w v) {s : List ℕ} {at : ℕ} where

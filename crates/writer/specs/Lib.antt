@@ -1,3 +1,3 @@
 pub mod Write
-pub mod Writing
+pub mod Inner
 pub mod Examples

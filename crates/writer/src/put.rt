@@ -15,8 +15,8 @@ ghost use Rattle.codec.specs.Parts.{number, absent, element};
 ghost use Rattle.codec.specs.Places.{places};
 ghost use Rattle.grammar.specs.SiteSheet.{serviceRefusal};
 ghost use Rattle.grammar.specs.Grammar.{identity, noIdentity, identities, external, noExternal, externals, services, identityPart, numberPart, partOf, interrogateAck, restOf, fromRecord, pdu};
-ghost use Rattle.grammar.specs.declared.site.Listing.the-variants as of;
-ghost use Rattle.writer.specs.Writing.{Room, Puts, DigitsAfter};
+ghost use Rattle.grammar.specs.declared.site.ListKind.the-variants as of;
+ghost use Rattle.writer.specs.Inner.{Room, Puts, DigitsAfter};
 
 // Puts a run of up to 57 bits, the low ones of a number, at a place, and gives the next place, as each function below does.
 fn put_run(out: &mut [u8], at: usize, width: usize, run: u64) -> usize

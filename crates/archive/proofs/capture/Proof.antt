@@ -14,7 +14,7 @@ use Rattle.archive.specs.Model.{Archive, bytesOf}
 use Rattle.archive.specs.Filing.{entryFor}
 use Rattle.archive.specs.Reading.{reading, isArchive}
 use Rattle.archive.specs.Keeping.{leaves, with, heldFor, captured, placed, captureIs}
-use Rattle.archive.specs.Seeking.{filingFor}
+use Rattle.archive.specs.Inner.{filingFor}
 use Rattle.archive.specs.declared.Archived.the-variants.{Refused}
 use Rattle.archive.specs.declared.contents.Entry.{Entry}
 use Rattle.archive.proofs.Bodies.{fits, Fits}

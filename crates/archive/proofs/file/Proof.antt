@@ -11,7 +11,7 @@ use Rattle.bits.proofs.Tests.{said-no, said-yes}
 use Rattle.archive.specs.Model.{Held, bytesOf, lengthOf, withinLimits}
 use Rattle.archive.specs.Reading.{heldIn, reading}
 use Rattle.archive.specs.Keeping.{over, put, with}
-use Rattle.archive.specs.Seeking.{Within, spliced, splicedLength}
+use Rattle.archive.specs.Inner.{Within, spliced, splicedLength}
 use Rattle.archive.specs.declared.Archived.the-variants.{Bytes}
 use Rattle.archive.specs.declared.checking.Place.{Place}
 use Rattle.archive.proofs.Checks.{sound}

@@ -2,7 +2,7 @@
 use mathlib.Core.Path.{sym, ap, _∙_}
 use borrow.Author.Needs.{needs}
 use Rattle.reader.specs.declared.Reading.{Reading}
-use Rattle.archive.specs.Seeking.{unfitNumber}
+use Rattle.archive.specs.Inner.{unfitNumber}
 use Rattle.archive.proofs.unfit.Statement.{statement}
 use Rattle.archive.proofs.unfit.Tie as tie
 

@@ -10,7 +10,7 @@ use Rattle.bits.specs.Element.{windowAt}
 use Rattle.bits.proofs.Frames.{framed-says}
 use Rattle.bits.proofs.Tests.{said-no, said-yes}
 use Rattle.grammar.proofs.Windows.{plainIn, wideIn}
-use Rattle.judging.specs.Walk.{Inside, held}
+use Rattle.judging.specs.Inner.{Inside, held}
 use Rattle.judging.proofs.Identities.{identity-plain, identity-wide, identity-cut}
 use Rattle.judging.proofs.Users.{judged-unframed}
 use Rattle.judging.proofs.Heads.{headValue, judged-other, judged-user, judged-no-user, judged-short}

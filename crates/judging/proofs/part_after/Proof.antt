@@ -5,7 +5,7 @@ use native.Mathlib.Omega.{arith}
 use borrow.Author.Needs.{needs}
 use denote.Ref.{now}
 use Rattle.bits.specs.Element.{windowAt}
-use Rattle.judging.specs.Walk.{ending}
+use Rattle.judging.specs.Inner.{ending}
 use Rattle.judging.specs.declared.walking.Walked.{Walked}
 use Rattle.judging.proofs.Judging.{part-short, part-at, part-none}
 use Rattle.judging.proofs.part_after.Statement.{statement}

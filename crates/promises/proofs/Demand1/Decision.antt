@@ -13,7 +13,7 @@ use Rattle.bits.specs.Lists.{every}
 use Rattle.grammar.specs.declared.record.Record.{Record}
 use Rattle.reader.specs.Read.{readIs}
 use Rattle.rules.specs.Request.{isUser, isService, isDestination, isGroup, isDigit, isUnused, digitsUsed, requestRefusal}
-use Rattle.rules.specs.Rule.{ruling, ruled, isExcepted, isRestricted, isOutside, bothEmpty}
+use Rattle.rules.specs.Rule.{ruling, sixRules, isExcepted, isRestricted, isOutside, bothEmpty}
 use Rattle.rules.specs.Matching.{covered}
 use Rattle.rules.specs.declared.request.Request.{Request}
 use Rattle.rules.specs.declared.Decision.{Decision}
@@ -64,7 +64,7 @@ module _ (q : Request) where
   -- ---- the verdict
 
   by-rule : (home : ℕ) (r : Record) → Decided (ruling home r q)
-  unfolding ruling ruled
+  unfolding ruling sixRules
   by-rule home r =
       go (not (covered (r .services) (q .service))) (isExcepted home (r .lists) (q .destination) (q .digits)) (isRestricted home (r .lists) (q .destination) (q .digits))
       (isOutside home (r .lists .groups) (q .group)) (bothEmpty (r .lists) (q .destination))

@@ -8,7 +8,7 @@ use Rattle.bits.specs.Bits.{pick}
 use Rattle.bits.specs.Frame.{bitsIn, framed, Framed}
 use Rattle.bits.proofs.Frames.{framed-says, framed-is}
 use Rattle.bits.proofs.Tests.{never, differ, false-unless}
-use Rattle.codec.specs.Codec.{Outcome, ok, no, andThen, Right, Legal}
+use Rattle.codec.specs.Codec.{Outcome, ok, no, andThen, Faithful, Legal}
 use Rattle.codec.specs.Places.{isNil}
 use Rattle.codec.specs.Whole.{wholeParse}
 use Rattle.codec.specs.Stops.{Stops}
@@ -49,7 +49,7 @@ module _ (s : List ℕ) (n : ℕ) where
   at-fault k f h (of-test four) = (stopped 3 f h, refl)
   at-fault k f h (of-test ten) = (stopped 9 f h, refl)
 
-  from-first : Framed s n → (o : Outcome Record) → Right (pdu .clean) (pdu .fault) (pdu .print) 0 (bitsIn n s) o → Stopped Code Record pdu (bitsIn n s) o
+  from-first : Framed s n → (o : Outcome Record) → Faithful (pdu .clean) (pdu .fault) (pdu .print) 0 (bitsIn n s) o → Stopped Code Record pdu (bitsIn n s) o
       → Both (numberIn (answerTo o))
   from-first f (ok a at []) h x = (accepted a f (record { clean = h .0; faultless = h .1 }) (h .2 ∙ append-nil (pdu .print a)), refl)
   from-first f (ok a at (b ∷ r)) h x = (left-over a b r f (record { clean = h .0; faultless = h .1 }) (h .2), refl)

@@ -6,7 +6,7 @@ use borrow.Author.Tests.{eq-eqb, ne-eqb}
 use Rattle.codec.specs.Parts.{mark, only}
 use Rattle.grammar.specs.SiteSheet.{ssType, kindRefusal}
 use Rattle.grammar.specs.Grammar.{pdu}
-use Rattle.grammar.specs.declared.site.Listing.the-variants.{Users}
+use Rattle.grammar.specs.declared.site.ListKind.the-variants.{Users}
 use Rattle.codec.proofs.Sizes.{size-element}
 use Rattle.grammar.proofs.Sizes.{size-identities}
 use Rattle.tally.proofs.Parts.{refusing, then, shape, within}

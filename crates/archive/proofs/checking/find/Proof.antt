@@ -9,7 +9,7 @@ use lib.ListN.{length}
 use Rattle.bits.specs.Frame.{bytesFor}
 use Rattle.archive.specs.Model.{Held, keyFor, keyOf, bodySize, sizes}
 use Rattle.archive.specs.Reading.{heldAt, heldFrom, heldIn, bodiesAt}
-use Rattle.archive.specs.Seeking.{placeOf, seek}
+use Rattle.archive.specs.Inner.{placeOf, seek}
 use Rattle.archive.specs.declared.contents.Entry.{Entry}
 use Rattle.archive.proofs.Walks.{sizes-next, seek-past, seek-held, seek-gap, seek-none}
 use Rattle.archive.proofs.Checks.{sound}

@@ -7,7 +7,7 @@ use denote.Ref.{now}
 use lib.ListN.{length, take, drop}
 use Rattle.bits.proofs.Lists.{length-part}
 use Rattle.bits.proofs.Laying.{then}
-use Rattle.archive.specs.Seeking.{nextAt, backOf}
+use Rattle.archive.specs.Inner.{nextAt, backOf}
 use Rattle.archive.proofs.copying.write_back.Statement.{statement}
 use Rattle.archive.proofs.copying.write_back.Tie as tie
 

@@ -7,7 +7,7 @@ use denote.Ref.{now}
 use Rattle.bits.proofs.Laying.{then}
 use Rattle.archive.specs.Model.{headerBytes}
 use Rattle.archive.specs.Reading.{homeOf}
-use Rattle.archive.specs.Seeking.{frontOf}
+use Rattle.archive.specs.Inner.{frontOf}
 use Rattle.archive.proofs.Walks.{home-small}
 use Rattle.archive.proofs.copying.write_front.Statement.{statement}
 use Rattle.archive.proofs.copying.write_front.Tie as tie

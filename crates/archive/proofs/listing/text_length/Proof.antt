@@ -8,7 +8,7 @@ use denote.Ref.{now}
 use lib.ListN.{length, length-append}
 use Rattle.archive.specs.Reading.{homeOf, countOf, reading}
 use Rattle.archive.specs.Listing.{decimal, firstLine, line, listing}
-use Rattle.archive.specs.Seeking.{linesFrom}
+use Rattle.archive.specs.Inner.{linesFrom}
 use Rattle.archive.specs.declared.contents.Entry.{Entry}
 use Rattle.archive.proofs.Walks.{home-small}
 use Rattle.archive.proofs.Checks.{sound}

@@ -5,10 +5,10 @@ use Prim.Native.Nat.{ℕ, _+_, _-_, _*_, _≤_}
 use native.Mathlib.Omega.{arith}
 use denote.Ref.{now}
 use lib.ListN.{length}
-use Rattle.bits.specs.Laying.{Laid}
+use Rattle.bits.specs.Inner.{Laid}
 use Rattle.bits.proofs.Laying.{then, none, first-fits, rest-fits}
 use Rattle.archive.specs.Reading.{countOf}
-use Rattle.archive.specs.Seeking.{linesFrom}
+use Rattle.archive.specs.Inner.{linesFrom}
 use Rattle.archive.specs.Listing.{line}
 use Rattle.archive.specs.declared.contents.Entry.{Entry}
 use Rattle.archive.proofs.Lines.{linesFrom-next, linesFrom-none}

@@ -9,7 +9,7 @@ use lib.ListN.{length}
 use Rattle.bits.proofs.Laying.{then, first-fits, rest-fits}
 use Rattle.archive.specs.Reading.{countOf, reading}
 use Rattle.archive.specs.Listing.{firstLine, listing}
-use Rattle.archive.specs.Seeking.{linesFrom}
+use Rattle.archive.specs.Inner.{linesFrom}
 use Rattle.archive.proofs.Checks.{sound}
 use Rattle.archive.proofs.Lines.{listing-read}
 use Rattle.archive.proofs.listing.write_text.Statement.{statement}

@@ -7,7 +7,7 @@ use borrow.Author.Tests.{ne-eqb}
 use lib.Bits.{bitAnd, and-step, and-zero-r}
 use lib.Dec.{eqb}
 use Rattle.grammar.specs.SiteSheet.{serviceOf, serviceRefusal}
-use Rattle.judging.specs.Walk.{passing}
+use Rattle.judging.specs.Inner.{passing}
 use Rattle.judging.proofs.walking.are_services.Statement.{statement}
 use Rattle.judging.proofs.walking.are_services.Tie as tie
 

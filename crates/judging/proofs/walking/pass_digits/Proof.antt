@@ -12,7 +12,7 @@ use Rattle.bits.specs.Element.{windowAt}
 use Rattle.codec.specs.Parts.{absent, element}
 use Rattle.codec.specs.Places.{places}
 use Rattle.grammar.specs.SiteSheet.{digitRefusal, allDigits}
-use Rattle.judging.specs.Walk.{walk, Inside}
+use Rattle.judging.specs.Inner.{walk, Inside}
 use Rattle.judging.specs.declared.walking.Walked.the-variants.{At, Off}
 use Rattle.judging.proofs.Counted.{row-cut, row-passed}
 use Rattle.judging.proofs.Digits.{digits-few, digits-many}

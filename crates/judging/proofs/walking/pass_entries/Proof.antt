@@ -5,7 +5,7 @@ use borrow.Author.Needs.{needs}
 use Rattle.bits.specs.Frame.{bitsIn}
 use Rattle.grammar.specs.Grammar.{identity, noIdentity, zeroIdentity}
 use Rattle.grammar.proofs.Steps.{noIdentity-at}
-use Rattle.judging.specs.Walk.{walk}
+use Rattle.judging.specs.Inner.{walk}
 use Rattle.judging.proofs.Walks.{Walking, walking-on, walking-off, walking-done, walk-places}
 use Rattle.judging.proofs.Windows.{inside-next}
 use Rattle.judging.proofs.walking.pass_entries.Statement.{statement}

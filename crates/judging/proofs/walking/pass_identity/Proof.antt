@@ -5,7 +5,7 @@ use native.Mathlib.Omega.{arith}
 use borrow.Author.Needs.{needs}
 use denote.Ref.{now}
 use Rattle.bits.specs.Element.{windowAt}
-use Rattle.judging.specs.Walk.{walked, walk}
+use Rattle.judging.specs.Inner.{walked, walk}
 use Rattle.judging.proofs.Identities.{identity-short, identity-plain, identity-wide, identity-cut, present-is}
 use Rattle.judging.proofs.walking.pass_identity.Statement.{statement}
 use Rattle.judging.proofs.walking.pass_identity.Tie as tie

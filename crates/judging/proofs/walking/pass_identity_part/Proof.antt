@@ -4,8 +4,8 @@ use borrow.Author.Needs.{needs}
 use denote.Ref.{now}
 use Rattle.bits.specs.Frame.{bitsIn}
 use Rattle.grammar.specs.Grammar.{identities, services}
-use Rattle.grammar.specs.declared.site.Listing.the-variants as of
-use Rattle.judging.specs.Walk.{walk, Inside}
+use Rattle.grammar.specs.declared.site.ListKind.the-variants as of
+use Rattle.judging.specs.Inner.{walk, Inside}
 use Rattle.judging.specs.declared.walking.Walked.the-variants.{At}
 use Rattle.judging.proofs.Windows.{inside-next}
 use Rattle.judging.proofs.Lists.{identity-part}

@@ -6,7 +6,7 @@ use Rattle.bits.specs.Frame.{bitsIn}
 use Rattle.grammar.specs.Grammar.{external, noExternal}
 use Rattle.grammar.specs.Zero.{zeroNumber}
 use Rattle.grammar.proofs.Steps.{noExternal-at}
-use Rattle.judging.specs.Walk.{walk}
+use Rattle.judging.specs.Inner.{walk}
 use Rattle.judging.proofs.Walks.{Walking, walking-on, walking-off, walking-done, walk-places}
 use Rattle.judging.proofs.Windows.{inside-next}
 use Rattle.judging.proofs.walking.pass_numbers.Statement.{statement}

@@ -15,7 +15,7 @@ use Rattle.codec.specs.Parts.{absent, element}
 use Rattle.codec.specs.Places.{places}
 use Rattle.grammar.specs.SiteSheet.{serviceOf, serviceRefusal}
 use Rattle.grammar.specs.Grammar.{services}
-use Rattle.judging.specs.Walk.{walk, passing, Inside}
+use Rattle.judging.specs.Inner.{walk, passing, Inside}
 use Rattle.judging.specs.declared.walking.Walked.the-variants.{At, Off}
 use Rattle.judging.proofs.Rows.{at-once}
 use Rattle.judging.proofs.Windows.{window-value}

@@ -10,7 +10,7 @@ use Rattle.codec.specs.Reading.{got, readAt}
 use Rattle.grammar.specs.Grammar.{identity}
 use Rattle.grammar.proofs.Codes.{ends-agree, ends-say}
 use Rattle.grammar.proofs.Windows.{wideIn}
-use Rattle.judging.specs.Walk.{Inside}
+use Rattle.judging.specs.Inner.{Inside}
 use Rattle.judging.specs.declared.walking.Walked.the-variants.{At}
 use Rattle.judging.proofs.Identities.{identity-wide}
 use Rattle.judging.proofs.Ranges.{in-order, out-of-order, range-agrees, range-differs, second-plain, wide-short}

@@ -9,13 +9,13 @@ use lib.ListN.{getD, replicate}
 use lib.Dec.{eqb, leb}
 use Rattle.bits.proofs.Tests.{by-test}
 use Rattle.bits.specs.declared.Cursor.{Cursor}
-use Rattle.codec.specs.Reading.{from}
+use Rattle.codec.specs.Reading.{resume}
 use Rattle.codec.specs.declared.Reached.{Reached}
 use Rattle.codec.specs.declared.Reached.the-variants.{At, Refused}
 use Rattle.grammar.specs.Grammar.{zeroIdentity, endsRefusal, rangeEnds, secondEnd}
 use Rattle.grammar.proofs.Codes.{not-nine}
 use Rattle.grammar.specs.declared.record.Identity.{Identity}
-use Rattle.reader.specs.Reader.{entriesIs, endsIs, EndsFit}
+use Rattle.reader.specs.Inner.{entriesIs, endsIs, EndsFit}
 use Rattle.reader.specs.declared.identities.EntriesRead.{EntriesRead}
 use Rattle.reader.proofs.identities.checked_ends.Statement.{statement}
 use Rattle.reader.proofs.identities.checked_ends.Tie as tie
@@ -25,16 +25,16 @@ nothing-read r = record { reached = r; value = replicate 8 zeroIdentity }
 
 module _ {start : Reached} (read : EntriesRead) (code : ℕ) {c : Cursor} (from-c : start ≡ At c) where
   before : {n p : ℕ} → read .reached ≡ Refused n p → nothing-read (read .reached) ≡ endsIs start read code
-  unfolding from entriesIs endsIs nothing-read
+  unfolding resume entriesIs endsIs nothing-read
   before f = rw (from-c, f)
 
   module _ {d : Cursor} (to-d : read .reached ≡ At d) where
     passed : rangeEnds code (read .value) ≡ 0 → read ≡ endsIs start read code
-    unfolding from entriesIs endsIs
+    unfolding resume entriesIs endsIs
     passed h = rw (from-c, h, to-d)
 
     refused-there : rangeEnds code (read .value) ≡ 4 → nothing-read (Refused 4 (c .at + secondEnd (read .value))) ≡ endsIs start read code
-    unfolding from entriesIs endsIs nothing-read
+    unfolding resume entriesIs endsIs nothing-read
     refused-there h = rw (from-c, to-d, h)
 
     fits : EndsFit start (read .reached) (read .value) → c .at + secondEnd (read .value) ≤ d .at
@@ -51,7 +51,7 @@ four a b =
     (λ h. absurd (h refl)) (λ h. refl)
 
 returns : tie.Need-returns
-unfolding from entriesIs endsIs
+unfolding resume entriesIs endsIs
 returns c = rw (c .before .enum-told .given .1) (rw (c .before .enum-told .given .1) at (c .no-entries .ensures))
 
 returns-2 : tie.Need-returns-2

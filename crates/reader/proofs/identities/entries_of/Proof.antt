@@ -3,12 +3,12 @@ use Prim.Native.Nat.{_-_}
 use native.Mathlib.Omega.{arith}
 use borrow.Author.Needs.{needs}
 use Rattle.bits.specs.Frame.{bitsIn}
-use Rattle.codec.specs.Reading.{from}
+use Rattle.codec.specs.Reading.{resume}
 use Rattle.codec.proofs.Onward.{placed-got, placed-refused}
 use Rattle.codec.proofs.Filling.{Filling, filling-start, filling-got, filling-refused, filling-done}
 use Rattle.grammar.specs.Grammar.{identity, noIdentity, zeroIdentity}
 use Rattle.grammar.proofs.Steps.{noIdentity-at}
-use Rattle.reader.specs.Reader.{entriesIs}
+use Rattle.reader.specs.Inner.{entriesIs}
 use Rattle.reader.proofs.Readers.{identity-read}
 use Rattle.reader.proofs.identities.entries_of.Statement.{statement}
 use Rattle.reader.proofs.identities.entries_of.Tie as tie
@@ -20,14 +20,14 @@ abbrev μ-loop : tie.MeasureT-loop
 μ-loop s n count none held₀ at₀ i₀ held at i = count - i
 
 returns : tie.Need-returns Inv-loop μ-loop
-unfolding from entriesIs
+unfolding resume entriesIs
 returns c = rw (c .enum-told .given .1)
 
 loop-holds : tie.Need-loop-holds Inv-loop μ-loop
 loop-holds c = filling-start identity noIdentity zeroIdentity _ 8 _ _ (omega arith)
 
 returns-2 : tie.Need-returns-2 Inv-loop μ-loop
-unfolding from entriesIs
+unfolding resume entriesIs
 returns-2 c =
     let l = c .before .before .before .before in
     let told = c .enum-told2 .given .1 in
@@ -35,7 +35,7 @@ returns-2 c =
     rw (l .before .before .start .given .1, told, filling-refused identity noIdentity zeroIdentity _ 8 _ _ _ _ _ (l .loop .inv) (omega arith) _ _ e)
 
 loop-again : tie.Need-loop-again Inv-loop μ-loop
-unfolding from
+unfolding resume
 loop-again c =
     let d = c .before .before .before .before in
     let l = d .before .before in
@@ -43,7 +43,7 @@ loop-again c =
     filling-got identity noIdentity zeroIdentity _ 8 _ _ _ _ _ (l .loop .inv) (omega arith) _ _ e
 
 returns-3 : tie.Need-returns-3 Inv-loop μ-loop
-unfolding from entriesIs
+unfolding resume entriesIs
 returns-3 c =
     let l = c .before in
     rw (l .before .before .start .given .1, filling-done identity noIdentity zeroIdentity _ 8 _ _ _ _ _ (l .loop .inv) (omega arith) (noIdentity-at _))

@@ -2,9 +2,9 @@
 use mathlib.Core.Path.{_∙_, sym, ap}
 use borrow.Author.Needs.{needs}
 use Rattle.codec.specs.Reading.{elementOf}
-use Rattle.codec.proofs.Onward.{from-same, go-on, number-read}
+use Rattle.codec.proofs.Onward.{resume-same, go-on, number-read}
 use Rattle.grammar.proofs.Steps.{identity-at}
-use Rattle.reader.specs.Reader.{identityIs}
+use Rattle.reader.specs.Inner.{identityIs}
 use Rattle.reader.proofs.identities.identity_by_parts.Statement.{statement}
 use Rattle.reader.proofs.identities.identity_by_parts.Tie as tie
 
@@ -14,7 +14,7 @@ returns c =
     let x = c .before in
     c .kept-identity .ensures
     ∙ sym (ap identityIs
-    (from-same _ _ _ (identity-at _)
+    (resume-same _ _ _ (identity-at _)
     ∙ go-on _ _ _ _ _ (number-read _ (x .before .before .number .ensures))
     ∙ go-on _ _ _ _ _ (number-read _ (x .before .number2 .ensures))
     ∙ go-on _ _ _ _ _ (number-read _ (x .extension-of .ensures))))

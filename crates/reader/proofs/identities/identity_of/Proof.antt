@@ -8,9 +8,9 @@ use denote.Ref.{now}
 use Rattle.bits.specs.Bits.{bits}
 use Rattle.bits.specs.Frame.{bitsIn}
 use Rattle.bits.proofs.Tests.{said-yes}
-use Rattle.codec.specs.Reading.{from}
+use Rattle.codec.specs.Reading.{resume}
 use Rattle.grammar.proofs.Windows.{identity-plain, identity-wide}
-use Rattle.reader.specs.Reader.{identityIs}
+use Rattle.reader.specs.Inner.{identityIs}
 use Rattle.reader.proofs.identities.identity_of.Statement.{statement}
 use Rattle.reader.proofs.identities.identity_of.Tie as tie
 
@@ -33,13 +33,13 @@ fits : (c : tie.Else1) →
 fits c = let a = c .before .before .before .before .before .before .args in omega (arith, there c, length-take (a .n .0) (bits (now (a .s))))
 
 returns-3 : tie.Need-returns-3
-unfolding from identityIs
+unfolding resume identityIs
 returns-3 c =
     let d = c .before .before in
     rw (d .before .before .before .start .given .1, identity-wide _ _ _ (c .before .window .ensures) (short d) (c .if2 .taken) (there d))
 
 returns-4 : tie.Need-returns-4
-unfolding from identityIs
+unfolding resume identityIs
 returns-4 c =
     let d = c .before .before in
     rw (d .before .before .before .start .given .1, identity-plain _ _ _ (c .before .window .ensures) (short d) (omega (arith, c .if2 .left)))

@@ -1,12 +1,12 @@
 -- Three lists of identities, each from where the one before it stands. Assumes nothing.
 use mathlib.Core.Path.{sym, ap, _∙_}
 use borrow.Author.Needs.{needs}
-use Rattle.codec.specs.Reading.{got, from}
-use Rattle.codec.proofs.Onward.{from-same, go-on}
+use Rattle.codec.specs.Reading.{got, resume}
+use Rattle.codec.proofs.Onward.{resume-same, go-on}
 use Rattle.grammar.specs.declared.record.Numbers.{Numbers}
 use Rattle.grammar.specs.declared.record.Lists.{Lists}
 use Rattle.grammar.proofs.Steps.{identityPart-at}
-use Rattle.reader.specs.Reader.{listsIs}
+use Rattle.reader.specs.Inner.{listsIs}
 use Rattle.reader.proofs.Readers.{identities-read}
 use Rattle.reader.proofs.lists.identity_part.Statement.{statement}
 use Rattle.reader.proofs.lists.identity_part.Tie as tie
@@ -25,9 +25,9 @@ returns c =
       excepted = none;
     } in
     c .kept-lists .ensures
-    ∙ ap (λ (none : Numbers). listsIs (from (third .identities-of3 .result .reached) (λ at. got (lists none) at))) (c .before .zero-numbers .ensures)
+    ∙ ap (λ (none : Numbers). listsIs (resume (third .identities-of3 .result .reached) (λ at. got (lists none) at))) (c .before .zero-numbers .ensures)
     ∙ sym (ap listsIs
-    (from-same _ _ _ (identityPart-at _)
+    (resume-same _ _ _ (identityPart-at _)
     ∙ go-on _ _ _ _ _ (identities-read _ (first .identities-of .ensures))
     ∙ go-on _ _ _ _ _ (identities-read _ (second .identities-of2 .ensures))
     ∙ go-on _ _ _ _ _ (identities-read _ (third .identities-of3 .ensures))))

@@ -3,11 +3,11 @@ use mathlib.Core.Path.{sym, ap, _∙_}
 use borrow.Author.Needs.{needs}
 use native.Mathlib.Omega.{arith}
 use borrow.Author.Tests.{ne-eqb}
-use Rattle.codec.specs.Reading.{got, from}
-use Rattle.codec.proofs.Onward.{from-same}
+use Rattle.codec.specs.Reading.{got, resume}
+use Rattle.codec.proofs.Onward.{resume-same}
 use Rattle.grammar.specs.declared.record.Lists.{Lists}
 use Rattle.grammar.proofs.Steps.{noPart-at}
-use Rattle.reader.specs.Reader.{listsIs}
+use Rattle.reader.specs.Inner.{listsIs}
 use Rattle.reader.proofs.lists.lists_of.Statement.{statement}
 use Rattle.reader.proofs.lists.lists_of.Tie as tie
 
@@ -22,8 +22,8 @@ returns-3 c =
     let a = c .before .before .before .before .args in
     rw (ne-eqb (a .result) 1 (omega arith), ne-eqb (a .result) 2 (omega arith))
     (c .kept-lists .ensures
-    ∙ ap (λ (none : Lists). listsIs (from (a .start) (λ at. got none at))) (c .before .zero-lists .ensures)
-    ∙ sym (ap listsIs (from-same _ _ _ (noPart-at _))))
+    ∙ ap (λ (none : Lists). listsIs (resume (a .start) (λ at. got none at))) (c .before .zero-lists .ensures)
+    ∙ sym (ap listsIs (resume-same _ _ _ (noPart-at _))))
 
 pub lists-of-spec : {M : Type 1} → statement M
 lists-of-spec = tie.close (tie.spec (λ c κs. search needs) (λ c κs. search needs) (λ c κs. search needs) (λ c κs. search needs) returns returns-2 returns-3)

@@ -2,7 +2,7 @@
 use native.Mathlib.Omega.{arith}
 use borrow.Author.Needs.{needs}
 use borrow.Author.Tests.{lt-ltb, le-ltb}
-use Rattle.reader.specs.Reader.{digitIn}
+use Rattle.reader.specs.Inner.{digitIn}
 use Rattle.reader.proofs.numbers.digit_in.Statement.{statement}
 use Rattle.reader.proofs.numbers.digit_in.Tie as tie
 

@@ -8,14 +8,14 @@ use denote.Ref.{now}
 use lib.ListN.{length, length-take}
 use Rattle.bits.specs.Bits.{bits}
 use Rattle.bits.specs.Frame.{bitsIn}
-use Rattle.codec.specs.Reading.{from}
-use Rattle.reader.specs.Reader.{digitsIs}
+use Rattle.codec.specs.Reading.{resume}
+use Rattle.reader.specs.Inner.{digitsIs}
 use Rattle.reader.proofs.Digits.{digits-there}
 use Rattle.reader.proofs.numbers.digits_of.Statement.{statement}
 use Rattle.reader.proofs.numbers.digits_of.Tie as tie
 
 returns : tie.Need-returns
-unfolding from digitsIs
+unfolding resume digitsIs
 returns c = rw (c .enum-told .given .1)
 
 there : (c : tie.Then1) →
@@ -35,7 +35,7 @@ add-twelve c =
     omega (arith, fits (first .before), wide .bits .ensures, wide .before .before .before .before .before, first .least .ensures, c .before .bits2 .ensures)
 
 returns-2 : tie.Need-returns-2
-unfolding from digitsIs
+unfolding resume digitsIs
 returns-2 c =
     let low = c .before .before in
     let high = low .before .before in
@@ -54,7 +54,7 @@ returns-2 c =
     )
 
 returns-3 : tie.Need-returns-3
-unfolding from
+unfolding resume
 returns-3 c = rw (c .before .before .before .before .before .start .given .1) (c .digits-one-by-one .ensures)
 
 pub digits-of-spec : {M : Type 1} → statement M

@@ -6,13 +6,13 @@ use borrow.Author.Needs.{needs}
 use denote.Ref.{now}
 use Rattle.bits.specs.Frame.{bitsIn}
 use Rattle.codec.specs.Parts.{absent, element}
-use Rattle.codec.specs.Reading.{from, readAt, numberIs, elementOf}
+use Rattle.codec.specs.Reading.{resume, readAt, numberIs, elementOf}
 use Rattle.codec.specs.declared.Reached.the-variants.{At}
 use Rattle.codec.proofs.Reading.{readAt-absent}
 use Rattle.codec.proofs.Onward.{placed-got, placed-refused, number-read, tested-element, element-bound}
 use Rattle.codec.proofs.Filling.{Filling, filling-start, filling-got, filling-refused, filling-done}
 use Rattle.grammar.specs.SiteSheet.{digitRefusal}
-use Rattle.reader.specs.Reader.{digitsIs}
+use Rattle.reader.specs.Inner.{digitsIs}
 use Rattle.reader.proofs.numbers.digits_one_by_one.Statement.{statement}
 use Rattle.reader.proofs.numbers.digits_one_by_one.Tie as tie
 
@@ -26,12 +26,12 @@ abbrev μ-loop : tie.MeasureT-loop
 read : (c : tie.After-tested Inv-loop μ-loop) →
     let l = c .before .before .before .before in
     let a = l .before .before .args in
-    c .tested .result ≡ numberIs (from (At (l .loop .at)) (readAt (element 4 digitRefusal) (bitsIn (a .n .0) (now (a .s)))))
+    c .tested .result ≡ numberIs (resume (At (l .loop .at)) (readAt (element 4 digitRefusal) (bitsIn (a .n .0) (now (a .s)))))
 unfolding elementOf
 read c = c .tested .ensures ∙ tested-element 4 _ _ _ (c .before .before .number .ensures) (c .before .digit-refusal .ensures)
 
 returns : tie.Need-returns Inv-loop μ-loop
-unfolding from digitsIs
+unfolding resume digitsIs
 returns c =
     let d = c .before .before in
     let l = d .before .before .before .before in
@@ -45,7 +45,7 @@ cast-held c =
     omega (arith, element-bound 4 digitRefusal _ _ 15 (read d) (λ v h r. omega arith))
 
 loop-again : tie.Need-loop-again Inv-loop μ-loop
-unfolding from
+unfolding resume
 loop-again c =
     let d = c .before .before .before .before in
     let l = d .before .before .before .before in
@@ -53,7 +53,7 @@ loop-again c =
     filling-got (element 4 digitRefusal) absent 0 _ 24 _ _ _ _ _ (l .loop .inv) (omega arith) _ _ e
 
 returns-2 : tie.Need-returns-2 Inv-loop μ-loop
-unfolding from digitsIs
+unfolding resume digitsIs
 returns-2 c =
     let l = c .before in
     rw (filling-done (element 4 digitRefusal) absent 0 _ 24 _ _ _ _ _ (l .loop .inv) (omega arith) (readAt-absent _))

@@ -3,11 +3,11 @@ use mathlib.Core.Path.{sym, ap, _∙_}
 use Prim.Native.Nat.{_≤_}
 use native.Mathlib.Omega.{arith}
 use borrow.Author.Needs.{needs}
-use Rattle.codec.proofs.Onward.{from-same, go-on, number-read, element-bound}
+use Rattle.codec.proofs.Onward.{resume-same, go-on, number-read, element-bound}
 use Rattle.grammar.specs.SiteSheet.{lengthRefusal}
 use Rattle.grammar.proofs.Codes.{between-le}
 use Rattle.grammar.proofs.Steps.{external-at}
-use Rattle.reader.specs.Reader.{externalIs}
+use Rattle.reader.specs.Inner.{externalIs}
 use Rattle.reader.proofs.Readers.{digits-read}
 use Rattle.reader.proofs.numbers.external_of.Statement.{statement}
 use Rattle.reader.proofs.numbers.external_of.Tie as tie
@@ -20,7 +20,7 @@ returns c =
     let d = c .before .before .before in
     c .kept-external .ensures
     ∙ sym (ap externalIs
-    (from-same _ _ _ (external-at _)
+    (resume-same _ _ _ (external-at _)
     ∙ go-on _ _ _ _ _ (number-read _ (d .before .bounded .ensures))
     ∙ go-on _ _ _ _ _ (digits-read _ (d .digits-of .ensures))))
 

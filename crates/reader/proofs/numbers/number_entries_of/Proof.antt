@@ -3,13 +3,13 @@ use Prim.Native.Nat.{_-_}
 use native.Mathlib.Omega.{arith}
 use borrow.Author.Needs.{needs}
 use Rattle.bits.specs.Frame.{bitsIn}
-use Rattle.codec.specs.Reading.{from}
+use Rattle.codec.specs.Reading.{resume}
 use Rattle.codec.proofs.Onward.{placed-got, placed-refused}
 use Rattle.codec.proofs.Filling.{Filling, filling-start, filling-got, filling-refused, filling-done}
 use Rattle.grammar.specs.Grammar.{external, noExternal}
 use Rattle.grammar.specs.Zero.{zeroNumber}
 use Rattle.grammar.proofs.Steps.{noExternal-at}
-use Rattle.reader.specs.Reader.{numberEntriesIs}
+use Rattle.reader.specs.Inner.{numberEntriesIs}
 use Rattle.reader.proofs.Readers.{external-read}
 use Rattle.reader.proofs.numbers.number_entries_of.Statement.{statement}
 use Rattle.reader.proofs.numbers.number_entries_of.Tie as tie
@@ -21,14 +21,14 @@ abbrev μ-loop : tie.MeasureT-loop
 μ-loop s n count none held₀ at₀ i₀ held at i = count - i
 
 returns : tie.Need-returns Inv-loop μ-loop
-unfolding from numberEntriesIs
+unfolding resume numberEntriesIs
 returns c = rw (c .enum-told .given .1)
 
 loop-holds : tie.Need-loop-holds Inv-loop μ-loop
 loop-holds c = filling-start external noExternal zeroNumber _ 8 _ _ (omega arith)
 
 returns-2 : tie.Need-returns-2 Inv-loop μ-loop
-unfolding from numberEntriesIs
+unfolding resume numberEntriesIs
 returns-2 c =
     let l = c .before .before .before .before in
     let told = c .enum-told2 .given .1 in
@@ -36,7 +36,7 @@ returns-2 c =
     rw (l .before .before .start .given .1, told, filling-refused external noExternal zeroNumber _ 8 _ _ _ _ _ (l .loop .inv) (omega arith) _ _ e)
 
 loop-again : tie.Need-loop-again Inv-loop μ-loop
-unfolding from
+unfolding resume
 loop-again c =
     let d = c .before .before .before .before in
     let l = d .before .before in
@@ -44,7 +44,7 @@ loop-again c =
     filling-got external noExternal zeroNumber _ 8 _ _ _ _ _ (l .loop .inv) (omega arith) _ _ e
 
 returns-3 : tie.Need-returns-3 Inv-loop μ-loop
-unfolding from numberEntriesIs
+unfolding resume numberEntriesIs
 returns-3 c =
     let l = c .before in
     rw (l .before .before .start .given .1, filling-done external noExternal zeroNumber _ 8 _ _ _ _ _ (l .loop .inv) (omega arith) (noExternal-at _))

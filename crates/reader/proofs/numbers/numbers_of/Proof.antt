@@ -6,14 +6,14 @@ use borrow.Author.Needs.{needs}
 use denote.Ref.{now}
 use Rattle.bits.specs.Frame.{bitsIn}
 use Rattle.codec.specs.Places.{places}
-use Rattle.codec.specs.Reading.{readAt, from, elementOf}
-use Rattle.codec.proofs.Onward.{from-same, go-on, number-read, tested-element}
+use Rattle.codec.specs.Reading.{readAt, resume, elementOf}
+use Rattle.codec.proofs.Onward.{resume-same, go-on, number-read, tested-element}
 use Rattle.grammar.specs.SiteSheet.{entriesOf}
 use Rattle.grammar.specs.Grammar.{external, noExternal}
 use Rattle.grammar.specs.declared.site.Row.{Row}
 use Rattle.grammar.proofs.Codes.{entriesOf-le}
 use Rattle.grammar.proofs.Steps.{externals-at}
-use Rattle.reader.specs.Reader.{numberEntriesIs, numbersIs}
+use Rattle.reader.specs.Inner.{numberEntriesIs, numbersIs}
 use Rattle.reader.proofs.Readers.{number-entries-read}
 use Rattle.reader.proofs.numbers.numbers_of.Statement.{statement}
 use Rattle.reader.proofs.numbers.numbers_of.Tie as tie
@@ -32,10 +32,10 @@ returns c =
     let a = t .before .before .before .before .args in
     c .kept-numbers .ensures
     ∙ sym (ap numbersIs
-    (from-same _ _ _ (externals-at _)
+    (resume-same _ _ _ (externals-at _)
     ∙ go-on _ _ _ _ _ (number-read _ (t .tested .ensures ∙ tested-element 4 _ _ _ (t .before .before .number .ensures) (t .before .range-refusal .ensures)))
     ∙ go-on _ _ _ _ _ (number-entries-read _ (e .number-entries-of .ensures
-    ∙ ap (λ (k : ℕ). numberEntriesIs (from (t .tested .result .reached) (readAt (places external noExternal 8 k) (bitsIn (a .n .0) (now (a .s)))))) (count (e .before))))))
+    ∙ ap (λ (k : ℕ). numberEntriesIs (resume (t .tested .result .reached) (readAt (places external noExternal 8 k) (bitsIn (a .n .0) (now (a .s)))))) (count (e .before))))))
 
 pub numbers-of-spec : {M : Type 1} → statement M
 numbers-of-spec =

@@ -2,7 +2,7 @@
 use Prim.Native.Nat.{_-_}
 use native.Mathlib.Omega.{arith}
 use borrow.Author.Needs.{needs}
-use Rattle.reader.specs.Reader.{Spread}
+use Rattle.reader.specs.Inner.{Spread}
 use Rattle.reader.proofs.Digits.{spread-one}
 use Rattle.reader.proofs.numbers.spread.Statement.{statement}
 use Rattle.reader.proofs.numbers.spread.Tie as tie

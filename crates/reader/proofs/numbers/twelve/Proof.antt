@@ -7,7 +7,7 @@ use denote.Ref.{now}
 use lib.Pow.{shl-exact, shr-lt}
 use Rattle.bits.specs.Element.{windowAt}
 use Rattle.bits.proofs.Windows.{window-lt}
-use Rattle.reader.specs.Reader.{twelveAt}
+use Rattle.reader.specs.Inner.{twelveAt}
 use Rattle.reader.proofs.numbers.twelve.Statement.{statement}
 use Rattle.reader.proofs.numbers.twelve.Tie as tie
 

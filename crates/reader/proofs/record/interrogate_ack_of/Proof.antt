@@ -2,8 +2,8 @@
 use mathlib.Core.Path.{sym, ap, _∙_}
 use borrow.Author.Needs.{needs}
 use Rattle.codec.specs.Reading.{elementOf}
-use Rattle.codec.proofs.Onward.{from-same, go-on, number-read, tested-element}
-use Rattle.reader.specs.Reader.{recordIs}
+use Rattle.codec.proofs.Onward.{resume-same, go-on, number-read, tested-element}
+use Rattle.reader.specs.Inner.{recordIs}
 use Rattle.reader.proofs.Records.{interrogateAck-at}
 use Rattle.reader.proofs.Readers.{services-read, lists-read}
 use Rattle.reader.proofs.record.interrogate_ack_of.Statement.{statement}
@@ -17,7 +17,7 @@ returns c =
     let t = d .before in
     c .kept-record .ensures
     ∙ sym (ap recordIs
-    (from-same _ _ _ (interrogateAck-at _ _ _)
+    (resume-same _ _ _ (interrogateAck-at _ _ _)
     ∙ go-on _ _ _ _ _ (number-read _ (t .tested .ensures ∙ tested-element 3 _ _ _ (t .before .before .number .ensures) (t .before .result-refusal .ensures)))
     ∙ go-on _ _ _ _ _ (number-read _ (d .number2 .ensures))
     ∙ go-on _ _ _ _ _ (services-read _ (l .before .services-of .ensures))

@@ -4,10 +4,10 @@ use borrow.Author.Needs.{needs}
 use borrow.Author.Tests.{ne-eqb}
 use denote.Ref.{now}
 use Rattle.bits.specs.Frame.{bitsIn}
-use Rattle.codec.specs.Reading.{from, readAt, elementOf}
-use Rattle.codec.proofs.Onward.{from-same, go-on, number-read, tested-element}
+use Rattle.codec.specs.Reading.{resume, readAt, elementOf}
+use Rattle.codec.proofs.Onward.{resume-same, go-on, number-read, tested-element}
 use Rattle.grammar.specs.Grammar.{pdu, restOf}
-use Rattle.reader.specs.Reader.{recordAt}
+use Rattle.reader.specs.Inner.{recordAt}
 use Rattle.reader.proofs.Records.{pdu-at}
 use Rattle.reader.proofs.Readers.{identities-read}
 use Rattle.reader.proofs.record.record_of.Statement.{statement}
@@ -19,13 +19,13 @@ after-users : (c : tie.After-struct-known) →
     let t = u .before in
     let a = t .before .before .before .before .before .before .before .args in
     let s = bitsIn (a .n .0) (now (a .s)) in
-    from (a .start) (readAt pdu s) ≡ from (u .identities-of .result .reached) (recordAt (restOf (t .tested2 .result .value)) s (t .tested2 .result .value) (u .identities-of .result .value))
+    resume (a .start) (readAt pdu s) ≡ resume (u .identities-of .result .reached) (recordAt (restOf (t .tested2 .result .value)) s (t .tested2 .result .value) (u .identities-of .result .value))
 unfolding elementOf
 after-users c =
     let u = c .before .before in
     let k = u .before in
     let t = k .before .before .before in
-    from-same _ _ _ (pdu-at _)
+    resume-same _ _ _ (pdu-at _)
     ∙ go-on _ _ _ _ _ (number-read _ (t .tested .ensures ∙ tested-element 6 _ _ _ (t .before .before .number .ensures) (t .before .ss-refusal .ensures)))
     ∙ go-on _ _ _ _ _ (number-read _ (k .tested2 .ensures ∙ tested-element 5 _ _ _ (k .before .before .number2 .ensures) (k .before .kind-refusal .ensures)))
     ∙ go-on _ _ _ _ _ (identities-read _ (u .identities-of .ensures))

@@ -1,16 +1,16 @@
 -- What is in hand is the value, unless reading was refused. Assumes nothing.
 use borrow.Author.Needs.{needs}
-use Rattle.codec.specs.Reading.{from}
-use Rattle.reader.specs.Reader.{servicesIs}
+use Rattle.codec.specs.Reading.{resume}
+use Rattle.reader.specs.Inner.{servicesIs}
 use Rattle.reader.proofs.services.kept_services.Statement.{statement}
 use Rattle.reader.proofs.services.kept_services.Tie as tie
 
 returns : tie.Need-returns
-unfolding from servicesIs
+unfolding resume servicesIs
 returns c = rw (c .enum-told2 .given .1)
 
 returns-2 : tie.Need-returns-2
-unfolding from servicesIs
+unfolding resume servicesIs
 returns-2 c = rw (c .enum-told .given .1)
 
 pub kept-services-spec : {M : Type 1} → statement M

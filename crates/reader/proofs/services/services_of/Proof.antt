@@ -1,11 +1,11 @@
 -- The number of services, then as many. Assumes nothing.
 use mathlib.Core.Path.{sym, ap, _∙_}
 use borrow.Author.Needs.{needs}
-use Rattle.codec.proofs.Onward.{from-same, go-on, number-read, element-bound}
+use Rattle.codec.proofs.Onward.{resume-same, go-on, number-read, element-bound}
 use Rattle.grammar.specs.SiteSheet.{countRefusal}
 use Rattle.grammar.proofs.Codes.{between-le}
 use Rattle.grammar.proofs.Steps.{services-at}
-use Rattle.reader.specs.Reader.{servicesIs}
+use Rattle.reader.specs.Inner.{servicesIs}
 use Rattle.reader.proofs.Readers.{service-list-read}
 use Rattle.reader.proofs.services.services_of.Statement.{statement}
 use Rattle.reader.proofs.services.services_of.Tie as tie
@@ -18,7 +18,7 @@ returns c =
     let d = c .before .before in
     c .kept-services .ensures
     ∙ sym (ap servicesIs
-    (from-same _ _ _ (services-at _)
+    (resume-same _ _ _ (services-at _)
     ∙ go-on _ _ _ _ _ (number-read _ (d .before .bounded .ensures))
     ∙ go-on _ _ _ _ _ (service-list-read _ (d .service-list-of .ensures))))
 

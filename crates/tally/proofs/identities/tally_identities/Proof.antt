@@ -22,7 +22,7 @@ returns c =
     let p = c .before .before in
     let e = p .before .before in
     let a = e .before .before .before .before .args in
-    shape _ _ _ _ (then _ (refusing 4 (rangeRefusal (a .listing)) (e .tally-element .ensures) (e .before .range-refusal .ensures))
+    shape _ _ _ _ (then _ (refusing 4 (rangeRefusal (a .list)) (e .tally-element .ensures) (e .before .range-refusal .ensures))
     (test _ _ (used identity noIdentity 8 (ap (λ (r : Row). r .entries) (e .before .before .row-of .ensures)) (p .tally-identity-places .ensures))
     (c .before .range-ends .ensures) (c .first-refusal .ensures)))
 

@@ -2,7 +2,7 @@
 use native.Mathlib.Omega.{arith}
 use borrow.Author.Needs.{needs}
 use Rattle.grammar.specs.Grammar.{numberPart}
-use Rattle.grammar.specs.declared.site.Listing.the-variants.{Identities}
+use Rattle.grammar.specs.declared.site.ListKind.the-variants.{Identities}
 use Rattle.grammar.proofs.Sizes.{size-externals, size-identities, size-noIdentities}
 use Rattle.tally.proofs.Parts.{then, shape, within}
 use Rattle.tally.proofs.lists.tally_number_part.Statement.{statement}

@@ -4,7 +4,7 @@ use native.Mathlib.Omega.{arith}
 use borrow.Author.Needs.{needs}
 use Rattle.grammar.specs.SiteSheet.{rangeRefusal}
 use Rattle.grammar.specs.Grammar.{external, noExternal, externals}
-use Rattle.grammar.specs.declared.site.Listing.the-variants.{Numbers}
+use Rattle.grammar.specs.declared.site.ListKind.the-variants.{Numbers}
 use Rattle.grammar.specs.declared.site.Row.{Row}
 use Rattle.codec.proofs.Sizes.{size-element}
 use Rattle.tally.proofs.Parts.{refusing, then, shape, within}

@@ -4,7 +4,7 @@ use native.Mathlib.Omega.{arith}
 use borrow.Author.Needs.{needs}
 use Rattle.grammar.specs.SiteSheet.{rangeRefusal}
 use Rattle.grammar.specs.Grammar.{external, noExternal, externals}
-use Rattle.grammar.specs.declared.site.Listing.the-variants.{Numbers}
+use Rattle.grammar.specs.declared.site.ListKind.the-variants.{Numbers}
 use Rattle.grammar.specs.declared.site.Row.{Row}
 use Rattle.writer.proofs.Puts.{room-first, room-next, room-shape, room-element, put-then, put-shape, put-element}
 use Rattle.writer.proofs.PutsPlaces.{room-used, put-used}

@@ -4,7 +4,7 @@ use borrow.Author.Needs.{needs}
 use Rattle.codec.specs.Parts.{mark, only}
 use Rattle.grammar.specs.SiteSheet.{ssType, kindRefusal}
 use Rattle.grammar.specs.Grammar.{pdu}
-use Rattle.grammar.specs.declared.site.Listing.the-variants.{Users, Identities}
+use Rattle.grammar.specs.declared.site.ListKind.the-variants.{Users, Identities}
 use Rattle.writer.proofs.Puts.{room-first, room-next, room-shape, room-element, room-listing, put-then, put-shape, put-element, put-listing}
 use Rattle.writer.proofs.put.put_record.Statement.{statement}
 use Rattle.writer.proofs.put.put_record.Tie as tie

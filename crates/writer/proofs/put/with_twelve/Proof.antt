@@ -8,7 +8,7 @@ use lib.ListN.{length, take, drop, getD, length-drop}
 use lib.Seq.{getD-drop}
 use lib.Arith.{digits-lt}
 use lib.Pow.{pow-add, pow-mono}
-use Rattle.writer.specs.Writing.{DigitsAfter}
+use Rattle.writer.specs.Inner.{DigitsAfter}
 use Rattle.writer.proofs.NumberRuns.{no-digits, more-digits}
 use Rattle.writer.proofs.put.with_twelve.Statement.{statement}
 use Rattle.writer.proofs.put.with_twelve.Tie as tie

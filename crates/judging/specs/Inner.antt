@@ -8,7 +8,7 @@ use Rattle.bits.specs.Bits.{pick}
 use Rattle.codec.specs.Codec.{Codec}
 use Rattle.codec.specs.Parts.{tested}
 use Rattle.codec.specs.Places.{places}
-use Rattle.codec.specs.Reading.{Answer, got, refused, readAt}
+use Rattle.codec.specs.Reading.{Found, got, refused, readAt}
 use Rattle.grammar.specs.Grammar.{identity, noIdentity, rangeEnds, secondEnd, Rest}
 use Rattle.grammar.specs.declared.record.Identity.{Identity}
 use Rattle.judging.specs.declared.Judged.{Judged}
@@ -17,7 +17,7 @@ use Rattle.judging.specs.declared.walking.Walked.{Walked}
 use Rattle.judging.specs.declared.walking.Walked.the-variants.{At, Off}
 
 -- what a walk keeps of an answer
-abbrev pub walked : {A : Type 0} → Answer A → Walked
+abbrev pub walked : {A : Type 0} → Found A → Walked
 walked (got a at) = At at
 walked (refused n p) = Off
 
@@ -47,7 +47,7 @@ ending n part (At at) = pick (ltb at n) 0 part
 ending n part Off = 0
 
 -- the part that follows an affected user, from a place on: 1 or 2, its interrogation result, if it is legal and ends the PDU; otherwise 0
-abbrev pub partAfter : ℕ → Answer Rest → ℕ
+abbrev pub partAfter : ℕ → Found Rest → ℕ
 partAfter n (got rest at) = pick (leb 1 (rest .1 .0) && leb (rest .1 .0) 2) (ending n (rest .1 .0) (At at)) 0
 partAfter n (refused k p) = 0
 

@@ -8,7 +8,7 @@ use lib.ListN.{length, getD, replicate}
 use Rattle.bits.specs.Bits.{pick}
 use Rattle.bits.specs.Element.{windowAt}
 use Rattle.codec.specs.Codec.{Codec}
-use Rattle.codec.specs.Reading.{Answer, got, andNext, unlessAt, readAt, from, reachedOf, valueOr}
+use Rattle.codec.specs.Reading.{Found, got, andNext, unlessAt, readAt, resume, reachedOf, valueOr}
 use Rattle.codec.specs.declared.Reached.{Reached}
 use Rattle.codec.specs.declared.Reached.the-variants.{At, Refused}
 use Rattle.grammar.specs.Grammar.{zeroIdentity, rangeEnds, secondEnd, Rest, toRecord}
@@ -32,10 +32,10 @@ use Rattle.reader.specs.declared.identities.IdentityRead.{IdentityRead}
 use Rattle.reader.specs.declared.identities.IdentitiesRead.{IdentitiesRead}
 use Rattle.reader.specs.declared.identities.EntriesRead.{EntriesRead}
 
-unfoldable pub identityIs : Answer Identity → IdentityRead
+unfoldable pub identityIs : Found Identity → IdentityRead
 identityIs o = record { reached = reachedOf o; value = valueOr zeroIdentity o }
 
-unfoldable pub entriesIs : Answer (List Identity) → EntriesRead
+unfoldable pub entriesIs : Found (List Identity) → EntriesRead
 entriesIs o = record { reached = reachedOf o; value = valueOr (replicate 8 zeroIdentity) o }
 
 -- two entries stand between two places, so that the second end has a place
@@ -47,12 +47,12 @@ EndsFit (Refused n p) r l = Unit {0}
 -- entries that were read from a place on, under the rule of a range's ends
 unfoldable pub endsIs : Reached → EntriesRead → ℕ → EntriesRead
 endsIs start read code =
-    entriesIs (from start (λ at. from (read .reached) (λ next. unlessAt (rangeEnds code (read .value)) (at + secondEnd (read .value)) (got (read .value) next))))
+    entriesIs (resume start (λ at. resume (read .reached) (λ next. unlessAt (rangeEnds code (read .value)) (at + secondEnd (read .value)) (got (read .value) next))))
 
-unfoldable pub identitiesIs : Answer Identities → IdentitiesRead
+unfoldable pub identitiesIs : Found Identities → IdentitiesRead
 identitiesIs o = record { reached = reachedOf o; value = valueOr zeroIdentities o }
 
-unfoldable pub digitsIs : Answer (List ℕ) → DigitsRead
+unfoldable pub digitsIs : Found (List ℕ) → DigitsRead
 digitsIs o = record { reached = reachedOf o; value = valueOr (replicate 24 0) o }
 
 -- twelve digits as one number: so many from a place on, and zeros after them
@@ -68,27 +68,27 @@ pub record Spread (high low n : ℕ) (l : List ℕ) : Type 0 where
   pub room : length l ≡ 24
   pub digits : (i : ℕ) → i < n → getD l i 0 ≡ digitIn high low i
 
-unfoldable pub externalIs : Answer Number → ExternalRead
+unfoldable pub externalIs : Found Number → ExternalRead
 externalIs o = record { reached = reachedOf o; value = valueOr zeroNumber o }
 
-unfoldable pub numberEntriesIs : Answer (List Number) → NumberEntriesRead
+unfoldable pub numberEntriesIs : Found (List Number) → NumberEntriesRead
 numberEntriesIs o = record { reached = reachedOf o; value = valueOr (replicate 8 zeroNumber) o }
 
-unfoldable pub numbersIs : Answer Numbers → NumbersRead
+unfoldable pub numbersIs : Found Numbers → NumbersRead
 numbersIs o = record { reached = reachedOf o; value = valueOr zeroNumbers o }
 
-unfoldable pub serviceListIs : Answer (List ℕ) → ServiceListRead
+unfoldable pub serviceListIs : Found (List ℕ) → ServiceListRead
 serviceListIs o = record { reached = reachedOf o; value = valueOr (replicate 7 0) o }
 
-unfoldable pub servicesIs : Answer Services → ServicesRead
+unfoldable pub servicesIs : Found Services → ServicesRead
 servicesIs o = record { reached = reachedOf o; value = valueOr zeroServices o }
 
-unfoldable pub listsIs : Answer Lists → ListsRead
+unfoldable pub listsIs : Found Lists → ListsRead
 listsIs o = record { reached = reachedOf o; value = valueOr zeroLists o }
 
 -- what follows the affected users, as the record of a PDU of a type
-unfoldable pub recordAt : Codec Rest → List Bool → ℕ → Identities → ℕ → Answer Record
+unfoldable pub recordAt : Codec Rest → List Bool → ℕ → Identities → ℕ → Found Record
 recordAt c s kind affected at = andNext (readAt c s at) (λ rest at′. got (toRecord (kind, (affected, rest))) at′)
 
-unfoldable pub recordIs : Answer Record → RecordRead
+unfoldable pub recordIs : Found Record → RecordRead
 recordIs o = record { reached = reachedOf o; value = valueOr zeroRecord o }
