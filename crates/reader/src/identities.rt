@@ -209,12 +209,7 @@ pub struct IdentitiesRead {
 }
 
 // A range type and its identities.
-pub(crate) fn identities_of(
-    s: &[u8],
-    n: BitCount,
-    start: Reached,
-    list: ListKind,
-) -> IdentitiesRead
+pub(crate) fn identities_of(s: &[u8], n: BitCount, start: Reached, list: ListKind) -> IdentitiesRead
     ensures { λ r. ⌜ r ≡ identitiesIs (resume start (readAt (identities list) (bitsIn (n .0) (now (s .entry))))) ⌝ }
 {
     let number = codec::number(s, n, start, 4);
