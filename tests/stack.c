@@ -1,8 +1,10 @@
 /*
  * The most stack that each call uses: runs it on a painted stack of its own and looks how far down the paint is gone.
- * Each call is tried on what leads it deepest: the longest PDUs of every kind, accepted, refused at their end, and not
- * to be filed. Prints a Markdown table; ends with status 1 if an answer is not the one that is expected, or a call
- * uses more than 16 KiB.
+ * Each call is tried on its largest inputs, with every number as large as it may be: the longest PDUs of every kind,
+ * for one user and for eight; archives of 512 entries and of 65,536 bytes, asked about their last entry. It is tried
+ * accepted, and refused as late as it can be: at the last element, for the last byte of room, for the last entry.
+ * Prints a Markdown table; ends with status 1 if an answer is not the one that is expected, or a call uses more than
+ * 16 KiB.
  */
 #define _XOPEN_SOURCE 700
 #include <stdio.h>
@@ -11,27 +13,32 @@
 
 #include "boc.h"
 
-enum { STACK_BYTES = 1 << 20, LIMIT = 16 * 1024, PAINT = 0xa5, HOME = 1, NETWORK = 2, USER = 5, NOBODY = 6 };
+enum { STACK_BYTES = 1 << 20, LIMIT = 16 * 1024, PAINT = 0xa5 };
+
+/* The largest network and SSI, of which each has eight digits in a listing; and the digit of every number. */
+enum { TOP = BOC_NETWORK_LIMIT - 1, DIGIT = 2 };
 
 /* What the calls are lent. */
 static uint32_t record[BOC_RECORD_WORDS], request[BOC_REQUEST_WORDS], user, part, home, decision;
-static uint8_t pdu[BOC_PDU_BYTES + 1], archive[BOC_ARCHIVE_BYTES], out[BOC_ARCHIVE_BYTES];
-static size_t bits, archive_len, room, number;
+static uint8_t pdu[BOC_PDU_BYTES + 1], archive[BOC_ARCHIVE_BYTES + 1], out[BOC_ARCHIVE_BYTES];
+static size_t bits, archive_len, room = sizeof out, number;
+
+static size_t bytes_for(size_t count) { return (count + 7) / 8; }
 
 static uint32_t nothing(void) { return BOC_OK; }
 static uint32_t reads(void)
 {
     static uint32_t found[BOC_RECORD_WORDS];
 
-    return boc_read(pdu, (bits + 7) / 8, bits, found, BOC_RECORD_WORDS);
+    return boc_read(pdu, bytes_for(bits), bits, found, BOC_RECORD_WORDS);
 }
 static uint32_t writes(void) { return boc_write(record, BOC_RECORD_WORDS, out, room, &number); }
 static uint32_t empties(void) { return boc_empty(home, out, room, &number); }
 static uint32_t captures(void)
 {
-    return boc_capture(archive, archive_len, pdu, (bits + 7) / 8, bits, out, room, &number);
+    return boc_capture(archive, archive_len, pdu, bytes_for(bits), bits, out, room, &number);
 }
-static uint32_t restores(void) { return boc_restore(archive, archive_len, NETWORK, user, part, out, room, &number); }
+static uint32_t restores(void) { return boc_restore(archive, archive_len, TOP, user, part, out, room, &number); }
 static uint32_t decides(void) { return boc_decide(archive, archive_len, request, BOC_REQUEST_WORDS, &decision); }
 static uint32_t lists(void) { return boc_contents(archive, archive_len, out, room, &number); }
 
@@ -72,6 +79,15 @@ static size_t depth(uint32_t (*call)(void))
     return sizeof stack - untouched;
 }
 
+/* Says so, and fails, where a number is not the one that is expected. */
+static void same(const char *what, size_t found, size_t expected)
+{
+    if (found != expected) {
+        fprintf(stderr, "stack: %s: %zu, not %zu\n", what, found, expected);
+        failed = 1;
+    }
+}
+
 /* Measures a call that should answer so. */
 static void expect(enum call call, uint32_t expected)
 {
@@ -80,26 +96,28 @@ static void expect(enum call call, uint32_t expected)
     /* The first run is for what a first call alone does, such as finding memcpy. */
     calls[call].call();
     used = depth(calls[call].call) - base;
-    if (answer != expected) {
-        fprintf(stderr, "stack: %s answers %u, not %u\n", calls[call].name, (unsigned)answer, (unsigned)expected);
-        failed = 1;
-    }
+    same(calls[call].name, answer, expected);
     if (used > calls[call].most)
         calls[call].most = used;
 }
 
-/* The kinds of PDUs. */
+/* ---- PDUs -------------------------------------------------------------------------------------------------------- */
+
+/* The kinds of PDUs. The range types are of groups, restricted and excepted entries. */
 static const struct kind {
-    uint32_t type, result, code; /* the code is the range type of its lists of identities */
-    size_t last;                 /* the word of its last element */
-    uint32_t of_pdu, of_record;  /* what is answered if its last four bits are ones, or its last word is 15 */
+    uint32_t type, result, codes[3];
+    size_t last;                /* the word of its last element */
+    uint32_t of_pdu, of_record; /* what is answered if its last four bits are the other ones, or its last word is 15 */
 } kinds[] = {
-    {BOC_INTERROGATE, 0, 0, BOC_INTERROGATION_TYPE, BOC_OK, BOC_VALUE},
-    {BOC_INTERROGATE_ACK, BOC_RESULT_FAILED, 0, BOC_SERVICES + 6, BOC_VALUE, BOC_VALUE},
-    {BOC_INTERROGATE_ACK, BOC_RESULT_IDENTITIES, 8, BOC_EXCEPTIONS + 24, BOC_OK, BOC_OK},
-    {BOC_INTERROGATE_ACK, BOC_RESULT_IDENTITIES, BOC_RANGE_OF_TWO, BOC_EXCEPTIONS + 6, BOC_ENDS, BOC_ENDS},
-    {BOC_INTERROGATE_ACK, BOC_RESULT_NUMBERS, 8, BOC_EXCEPTED_NUMBERS + 200, BOC_VALUE, BOC_VALUE},
+    {BOC_INTERROGATE, 0, {0}, BOC_INTERROGATION_TYPE, BOC_VALUE, BOC_VALUE},
+    {BOC_INTERROGATE_ACK, BOC_RESULT_FAILED, {0}, BOC_SERVICES + 6, BOC_VALUE, BOC_VALUE},
+    {BOC_INTERROGATE_ACK, BOC_RESULT_IDENTITIES, {8, 8, 8}, BOC_EXCEPTIONS + 24, BOC_OK, BOC_OK},
+    {BOC_INTERROGATE_ACK, BOC_RESULT_IDENTITIES, {9, 9, 9}, BOC_EXCEPTIONS + 6, BOC_ENDS, BOC_ENDS},
+    {BOC_INTERROGATE_ACK, BOC_RESULT_NUMBERS, {8, 8, 8}, BOC_EXCEPTED_NUMBERS + 200, BOC_VALUE, BOC_VALUE},
 };
+enum { KINDS = sizeof kinds / sizeof kinds[0] };
+
+static int is_part(const struct kind *kind) { return kind->result != 0; }
 
 static void fill_identities(size_t list, uint32_t code, uint32_t ssi)
 {
@@ -110,83 +128,88 @@ static void fill_identities(size_t list, uint32_t code, uint32_t ssi)
         entry = record + list + 1 + BOC_IDENTITY_WORDS * i;
         entry[BOC_ENTRY_SSI] = ssi;
         entry[BOC_ENTRY_EXTENSION_PRESENT] = 1;
-        entry[BOC_ENTRY_EXTENSION] = NETWORK;
+        entry[BOC_ENTRY_EXTENSION] = TOP;
     }
 }
 
-static void fill_numbers(size_t list)
+static void fill_numbers(size_t list, uint32_t code)
 {
     uint32_t i, digit, *entry;
 
-    record[list] = BOC_LIST_PLACES;
-    for (i = 0; i < BOC_LIST_PLACES; i++) {
+    record[list] = code;
+    for (i = 0; i < code; i++) {
         entry = record + list + 1 + BOC_NUMBER_WORDS * i;
         entry[BOC_ENTRY_LENGTH] = BOC_DIGIT_PLACES;
         for (digit = 0; digit < BOC_DIGIT_PLACES; digit++)
-            entry[BOC_ENTRY_DIGITS + digit] = BOC_DIGIT_PLUS;
+            entry[BOC_ENTRY_DIGITS + digit] = DIGIT;
     }
 }
 
-/* The longest record of a kind for so many users. */
-static void prepare(const struct kind *kind, uint32_t users)
+/* The record of a kind for so many users of an SSI. */
+static void prepare(const struct kind *kind, uint32_t users, uint32_t ssi)
 {
     memset(record, 0, sizeof record);
     record[BOC_PDU_TYPE] = kind->type;
-    fill_identities(BOC_AFFECTED, users, USER);
+    fill_identities(BOC_AFFECTED, users, ssi);
     if (kind->type == BOC_INTERROGATE) {
         record[BOC_INTERROGATION_TYPE] = 3;
         return;
     }
     record[BOC_RESULT] = kind->result;
     record[BOC_SERVICE_COUNT] = BOC_SERVICE_PLACES;
+    fill_identities(BOC_GROUPS, kind->codes[0], TOP);
     if (kind->result == BOC_RESULT_IDENTITIES) {
-        fill_identities(BOC_GROUPS, kind->code, 500);
-        fill_identities(BOC_RESTRICTED, kind->code, 100);
-        fill_identities(BOC_EXCEPTIONS, kind->code, 150);
+        fill_identities(BOC_RESTRICTED, kind->codes[1], TOP);
+        fill_identities(BOC_EXCEPTIONS, kind->codes[2], TOP);
     } else if (kind->result == BOC_RESULT_NUMBERS) {
-        fill_identities(BOC_GROUPS, kind->code, 500);
-        fill_numbers(BOC_RESTRICTED_NUMBERS);
-        fill_numbers(BOC_EXCEPTED_NUMBERS);
+        fill_numbers(BOC_RESTRICTED_NUMBERS, kind->codes[1]);
+        fill_numbers(BOC_EXCEPTED_NUMBERS, kind->codes[2]);
     }
 }
 
-/* Changes four bits that end at a bit place to ones. */
+/* Makes the PDU of the record that was prepared. */
+static void encode(void)
+{
+    same("boc_write, for a PDU", writes(), BOC_OK);
+    bits = number;
+    memset(pdu, 0, sizeof pdu);
+    memcpy(pdu, out, bytes_for(bits));
+}
+
+/* Changes the four bits that end at a bit place. */
 static void spoil(uint8_t *bytes, size_t end)
 {
     size_t i;
 
     for (i = end - 4; i < end; i++)
-        bytes[i / 8] |= (uint8_t)(0x80 >> i % 8);
+        bytes[i / 8] ^= (uint8_t)(0x80 >> i % 8);
 }
 
-/* Writes the record, accepted and refused, and leaves its PDU in `pdu`. */
+/* Writes the record that was prepared, accepted and refused. */
 static void write_each_way(const struct kind *kind)
 {
+    static const size_t every = BOC_RECORD_WORDS - 1;
     uint32_t last = record[kind->last];
 
-    room = sizeof out;
     record[kind->last] = 15;
     expect(WRITE, kind->of_record);
     record[kind->last] = last;
     /* The last word of all is a digit or unused. */
-    last = record[BOC_RECORD_WORDS - 1];
-    record[BOC_RECORD_WORDS - 1] = 15;
+    last = record[every];
+    record[every] = 15;
     expect(WRITE, BOC_VALUE);
-    record[BOC_RECORD_WORDS - 1] = last;
+    record[every] = last;
     expect(WRITE, BOC_OK);
-    bits = number;
-    memset(pdu, 0, sizeof pdu);
-    memcpy(pdu, out, (bits + 7) / 8);
-    room = (bits + 7) / 8 - 1;
+    room = bytes_for(number) - 1;
     expect(WRITE, BOC_ROOM);
     room = sizeof out;
 }
 
-/* Reads and captures what is in `pdu`. */
+/* Reads and captures what is in `pdu`; a refusal of reading is one of capture. */
 static void read_and_capture(uint32_t read, uint32_t captured)
 {
     expect(READ, read);
-    expect(CAPTURE, captured);
+    expect(CAPTURE, read == BOC_OK ? captured : read);
 }
 
 /* Reads and captures the PDU as it is, which capture answers so; spoilt; with a bit more; and with a bit less. */
@@ -196,104 +219,229 @@ static void read_each_way(const struct kind *kind, uint32_t captured)
 
     memcpy(whole, pdu, sizeof pdu);
     read_and_capture(BOC_OK, captured);
+    if (captured == BOC_OK) {
+        room = number - 1;
+        expect(CAPTURE, BOC_ROOM);
+        room = sizeof out;
+    }
     spoil(pdu, bits);
-    read_and_capture(kind->of_pdu, kind->of_pdu == BOC_OK ? captured : kind->of_pdu);
+    read_and_capture(kind->of_pdu, captured);
     memcpy(pdu, whole, sizeof pdu);
     bits++;
-    read_and_capture(BOC_LEFT, BOC_LEFT);
+    read_and_capture(BOC_LEFT, captured);
     bits -= 2;
     pdu[bits / 8] &= (uint8_t)(0xff << (8 - bits % 8));
-    read_and_capture(BOC_SHORT, BOC_SHORT);
+    read_and_capture(BOC_SHORT, captured);
     bits++;
     memcpy(pdu, whole, sizeof pdu);
 }
 
-/* Captures the PDU: the archive is then the one that holds it too. */
-static void capture(void)
+/*
+ * Every kind of PDU on an archive. A full one has room for a part of the last user in the place of the same part that
+ * is no shorter, which is the last entry and has these bytes; an empty one has room for each.
+ */
+static void offer_each_kind(uint32_t held, size_t bytes)
 {
-    room = sizeof out;
-    expect(CAPTURE, BOC_OK);
-    memcpy(archive, out, number);
-    archive_len = number;
-    room = archive_len - 1;
-    expect(CAPTURE, BOC_ROOM);
-    room = sizeof out;
+    static const uint32_t users[] = {1, BOC_LIST_PLACES};
+    const struct kind *kind;
+    uint32_t filed;
+    size_t i;
+
+    for (kind = kinds; kind < kinds + KINDS; kind++) {
+        for (i = 0; i < 2; i++) {
+            prepare(kind, users[i], TOP);
+            write_each_way(kind);
+            encode();
+            filed = held == 0 || (held == kind->result && bytes_for(bits) <= bytes) ? BOC_OK : BOC_ROOM;
+            read_each_way(kind, users[i] == 1 && is_part(kind) ? filed : BOC_UNFIT);
+        }
+    }
 }
 
-/* Restores the part of a user, and decides a call that its lists do not name. */
-static void ask(uint32_t ssi, uint32_t of_restore, uint32_t of_decide, uint32_t decided)
+/* ---- Archives ---------------------------------------------------------------------------------------------------- */
+
+/* The archive with the part of a kind for one user: is there room for it? */
+static int file(const struct kind *kind, uint32_t ssi)
 {
-    user = ssi;
-    expect(RESTORE, of_restore);
-    memset(request, 0, sizeof request);
-    request[BOC_USER_NETWORK] = NETWORK;
-    request[BOC_USER_SSI] = ssi;
-    request[BOC_SERVICE] = BOC_SERVICE_SPEECH;
-    request[BOC_DESTINATION] = part;
-    request[part == BOC_IDENTITY_PART ? BOC_SSI : BOC_LENGTH] = 1;
-    request[BOC_GROUP_GIVEN] = 1;
-    expect(DECIDE, of_decide);
-    if (decision != decided) {
-        fprintf(stderr, "stack: boc_decide decides %u, not %u\n", (unsigned)decision, (unsigned)decided);
-        failed = 1;
+    prepare(kind, 1, ssi);
+    encode();
+    if (captures() != BOC_OK)
+        return 0;
+    memcpy(archive, out, number);
+    archive_len = number;
+    return 1;
+}
+
+static void make_empty(void)
+{
+    home = TOP;
+    expect(EMPTY, BOC_OK);
+    memcpy(archive, out, number);
+    archive_len = number;
+}
+
+/* The same part with the fewest entries that give it four digits of bits, or with none, which gives it three. */
+static struct kind shorter(const struct kind *kind, int digits)
+{
+    static const uint32_t of_identities[3] = {8, 8, 3}, of_numbers[3] = {0, 8, 1}, none[3] = {0};
+    const uint32_t *most = kind->result == BOC_RESULT_IDENTITIES ? of_identities : of_numbers;
+    struct kind result = *kind;
+
+    memcpy(result.codes, digits == 4 ? most : none, sizeof result.codes);
+    return result;
+}
+
+/* The bytes that an entry of this kind takes. */
+static size_t room_for(const struct kind *kind)
+{
+    enum { ENTRY = 9 };
+
+    prepare(kind, 1, TOP);
+    encode();
+    return ENTRY + bytes_for(bits);
+}
+
+/*
+ * The archive of 512 entries with the longest listing: home network, networks and SSIs of eight digits, and bit
+ * lengths of four for as many of the last entries as there is room for. The last of all has this kind.
+ */
+static void make_many(const struct kind *kind)
+{
+    const struct kind four = shorter(kind, 4), three = shorter(kind, 3);
+    const size_t each = room_for(&four), last = room_for(kind);
+    size_t left;
+
+    make_empty();
+    for (left = BOC_ARCHIVE_ENTRIES - 1; left > 0; left--) {
+        if (!file(archive_len + left * each + last <= BOC_ARCHIVE_BYTES ? &four : &three, (uint32_t)(TOP - left)))
+            same("entries without room", left, 0);
     }
+    if (!file(kind, TOP))
+        same("entries without room", 1, 0);
+}
+
+/* The archive of as many parts of this kind as it can hold: 512, or what 65,536 bytes have room for. */
+static void make_long(const struct kind *kind)
+{
+    uint32_t ssi = TOP;
+
+    make_empty();
+    while (file(kind, ssi))
+        ssi--;
+    expect(CAPTURE, BOC_ROOM);
+}
+
+/* A call of the user to a destination that no list has, which its last digit says; its group is none of the list. */
+static void prepare_request(uint32_t destination)
+{
+    size_t i;
+
+    memset(request, 0, sizeof request);
+    request[BOC_USER_NETWORK] = TOP;
+    request[BOC_USER_SSI] = TOP;
+    request[BOC_SERVICE] = BOC_SERVICE_SHORT_DATA;
+    request[BOC_DESTINATION] = destination;
+    if (destination == BOC_TO_IDENTITY) {
+        request[BOC_NETWORK] = TOP;
+        request[BOC_SSI] = TOP - 1;
+    } else {
+        request[BOC_LENGTH] = BOC_DIGIT_PLACES;
+        for (i = 0; i < BOC_DIGIT_PLACES; i++)
+            request[BOC_DIGITS + i] = i + 1 < BOC_DIGIT_PLACES ? DIGIT : DIGIT + 1;
+    }
+    request[BOC_GROUP_GIVEN] = 1;
+    request[BOC_GROUP_NETWORK] = TOP;
+    request[BOC_GROUP_SSI] = TOP - 1;
+}
+
+/* Decides such a call. */
+static void decide(uint32_t destination, uint32_t decided)
+{
+    prepare_request(destination);
+    expect(DECIDE, BOC_OK);
+    same("the decision", decision, decided);
     request[BOC_GROUP_SSI] = BOC_NETWORK_LIMIT;
     expect(DECIDE, BOC_RANGE);
 }
 
-/* The calls that ask, on an archive that holds the part. */
-static void ask_each_way(void)
+/* The calls that ask, about the last entry, one that is not held, and with numbers out of range. */
+static void ask_each_way(uint32_t held)
 {
-    ask(USER, BOC_OK, BOC_OK, BOC_BARRED_GROUP);
-    ask(NOBODY, BOC_NOT_HELD, BOC_OK, BOC_PART_NOT_HELD);
-    user = USER;
-    room = 1;
+    uint32_t other = BOC_IDENTITY_PART + BOC_NUMBER_PART - held;
+
+    user = TOP;
+    part = held;
+    expect(RESTORE, BOC_OK);
+    room = bytes_for(number) - 1;
     expect(RESTORE, BOC_ROOM);
-    expect(CONTENTS, BOC_ROOM);
     room = sizeof out;
+    part = other;
+    expect(RESTORE, BOC_NOT_HELD);
     user = BOC_NETWORK_LIMIT;
     expect(RESTORE, BOC_RANGE);
+    decide(held, BOC_BARRED_GROUP);
+    decide(other, BOC_PART_NOT_HELD);
     expect(CONTENTS, BOC_OK);
+    room = number - 1;
+    expect(CONTENTS, BOC_ROOM);
+    room = sizeof out;
+}
+
+/* Every call on an archive that breaks a rule. */
+static void refuse_each(uint32_t held)
+{
+    user = TOP;
+    part = held;
+    prepare_request(held);
+    expect(CAPTURE, BOC_ARCHIVE);
+    expect(RESTORE, BOC_ARCHIVE);
+    expect(DECIDE, BOC_ARCHIVE);
+    expect(CONTENTS, BOC_ARCHIVE);
+}
+
+/* Every call on an archive whose last entry, the last user's, has this kind. */
+static void use_each_way(const struct kind *kind)
+{
+    size_t last;
+
+    ask_each_way(kind->result);
+    archive_len++;
+    refuse_each(kind->result);
+    archive_len--;
+    last = 8 * archive_len - (8 - bits % 8) % 8;
+    if (kind->of_pdu != BOC_OK) {
+        spoil(archive, last);
+        refuse_each(kind->result);
+        spoil(archive, last);
+    }
 }
 
 int main(void)
 {
-    static const uint32_t users[] = {1, BOC_LIST_PLACES};
     const struct kind *kind;
-    size_t i, k;
+    size_t i;
 
     depth(nothing);
     base = depth(nothing);
-    room = sizeof out;
-    home = HOME;
-    expect(EMPTY, BOC_OK);
-    memcpy(archive, out, number);
-    archive_len = number;
-    room = 4;
+    make_empty();
+    room = number - 1;
     expect(EMPTY, BOC_ROOM);
     home = BOC_NETWORK_LIMIT;
     expect(EMPTY, BOC_RANGE);
+    room = sizeof out;
+    offer_each_kind(0, 0);
 
-    for (k = 0; k < sizeof kinds / sizeof kinds[0]; k++) {
-        kind = &kinds[k];
-        for (i = 0; i < 2; i++) {
-            prepare(kind, users[i]);
-            write_each_way(kind);
-            if (users[i] != 1 || kind->result == 0) {
-                read_each_way(kind, BOC_UNFIT);
-                continue;
-            }
-            read_each_way(kind, BOC_OK);
-            part = kind->result;
-            capture();
-            ask_each_way();
-        }
+    for (kind = kinds; kind < kinds + KINDS; kind++) {
+        if (!is_part(kind))
+            continue;
+        make_many(kind);
+        use_each_way(kind);
+        offer_each_kind(kind->result, bytes_for(bits));
+        make_long(kind);
+        prepare(kind, 1, TOP);
+        encode();
+        use_each_way(kind);
     }
-    /* The archive's last body is a number part: a refused digit at its end. */
-    spoil(archive, 8 * archive_len - (8 - bits % 8) % 8);
-    ask(USER, BOC_ARCHIVE, BOC_ARCHIVE, decision);
-    expect(CAPTURE, BOC_ARCHIVE);
-    expect(CONTENTS, BOC_ARCHIVE);
 
     printf("| call | bytes of stack |\n|---|---|\n");
     for (i = 0; i < CALLS; i++) {
