@@ -75,7 +75,7 @@ static int capture(const struct pdu *pdu)
 
 static int restore_and_compare(uint32_t part, const struct pdu *captured)
 {
-    struct pdu back;
+    struct pdu back = {0};
 
     if (refused("restore", boc_restore(store.buffers[store.current], store.length, HOME, USER, part, back.bytes,
                                        sizeof back.bytes, &back.bits)))
@@ -138,7 +138,7 @@ static int list(void)
 
 int main(void)
 {
-    struct pdu number_part;
+    struct pdu number_part = {0};
 
     if (refused("empty", boc_empty(HOME, store.buffers[0], BOC_ARCHIVE_BYTES, &store.length)))
         return 1;
