@@ -22,7 +22,7 @@ pub enum Refusal {
     Archive = 7,
     /// A new key with 512 held, or the result exceeds 65,536 bytes or the lent buffer.
     Room = 8,
-    /// A request, user, part or home network out of its range.
+    /// A request, user, part, home network or count of words out of its range.
     Range = 9,
     /// A BOC PDU type that the standard names and that is not read.
     OtherType = 10,
@@ -66,7 +66,7 @@ impl Refusal {
             Refusal::Unfit => "a legal PDU that no archive entry may hold",
             Refusal::Archive => "the archive breaks a rule",
             Refusal::Room => "no room for the result",
-            Refusal::Range => "a request, user, part or home network out of its range",
+            Refusal::Range => "a request, user, part, home network or count of words out of its range",
             Refusal::OtherType => "a BOC PDU type that is not read",
             Refusal::NotHeld => "not held",
         }
