@@ -1,4 +1,4 @@
-//! The answers of `trials_archive`.
+//! The answers to lines about the archive.
 
 use reference::layout::REQUEST_WORDS;
 use reference::{Decision, Refusal};
@@ -11,23 +11,23 @@ const ROOM: usize = 70_000;
 const SSI_PLACE: usize = 15;
 
 /// A buffer, and the length of the archive in it.
-struct Held {
+pub struct Held {
     length: usize,
     bytes: Vec<u8>,
 }
 
-/// A line for each line of the input; for `many` one for each PDU, and an empty one.
-pub fn answers(input: &str) -> String {
-    let mut held = Held { length: 0, bytes: vec![FULL; ROOM] };
-    input.lines().map(|line| held.case(line) + "\n").collect()
-}
-
 impl Held {
+    /// No archive.
+    pub fn nothing() -> Self {
+        Held { length: 0, bytes: vec![FULL; ROOM] }
+    }
+
     fn archive(&self) -> &[u8] {
         &self.bytes[..self.length.min(ROOM)]
     }
 
-    fn case(&mut self, line: &str) -> String {
+    /// The answer to a line.
+    pub fn case(&mut self, line: &str) -> String {
         let words = &mut Words::after_first(line);
         match line.chars().next() {
             Some('e') => {
@@ -57,7 +57,7 @@ impl Held {
                 let (from, to) = (words.length(), words.length());
                 hex(&self.bytes[from..to.min(ROOM)])
             }
-            _ => line.into(),
+            _ => String::new(),
         }
     }
 

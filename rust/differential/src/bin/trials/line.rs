@@ -1,4 +1,4 @@
-//! Numbers and bytes of a line, the bits of a PDU, and what both programs print of them.
+//! Numbers and bytes of a line, the bits of a PDU, and what is printed of them.
 
 use reference::Refusal;
 

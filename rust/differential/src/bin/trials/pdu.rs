@@ -1,4 +1,4 @@
-//! The answers of `trials_pdu`.
+//! The answers to lines about the PDU given last, and to one that gives it.
 
 use reference::layout::RECORD_WORDS;
 
@@ -10,44 +10,67 @@ const ROOM: usize = 512;
 const BYTES: usize = 520;
 
 /// The PDU given last, and its record.
-struct Last {
+pub struct Last {
     bits: usize,
     bytes: [u8; BYTES],
     words: [u32; RECORD_WORDS],
 }
 
-/// A line for each line of the input.
-pub fn answers(input: &str) -> String {
-    let mut last = Last { bits: 0, bytes: [0; BYTES], words: [0; RECORD_WORDS] };
-    input.lines().map(|line| case(line, &mut last) + "\n").collect()
-}
+impl Last {
+    /// No PDU, and the record of zeros.
+    pub fn nothing() -> Self {
+        Last { bits: 0, bytes: [0; BYTES], words: [0; RECORD_WORDS] }
+    }
 
-fn case(line: &str, last: &mut Last) -> String {
-    let words = &mut Words::after_first(line);
-    let of_last = match line.chars().next() {
-        Some('0'..='9') => return pdu(line, last),
-        Some('c') => every(words, |i, _, _| with_element(last, i as usize, i, 8 - i % 8, 0)),
-        Some('e') => every(words, |i, at, width| with_element(last, last.bits, at, width, i)),
-        Some('p') => every(words, |i, width, value| with_element(last, last.bits, i, width, value)),
-        Some('s') => every(words, |i, value, _| with_word(last, i, value)),
-        Some('w') => write(words, last),
-        _ => String::new(),
-    };
-    format!("{line}{of_last}")
-}
+    /// Reads the PDU of a line, and writes its record.
+    pub fn replace(&mut self, line: &str) -> String {
+        let words = &mut Words::of(line);
+        *self = Last { bits: words.length(), ..Last::nothing() };
+        let bytes = words.bytes();
+        let count = bytes.len().min(BYTES);
+        self.bytes[..count].copy_from_slice(&bytes[..count]);
+        match reference::read(&self.bytes[..count], self.bits, &mut self.words) {
+            Ok(()) => format!("read{}{}", nonzero(&self.words), written(&self.words, ROOM)),
+            Err(refusal) => format!("refused {}", refusal.number()),
+        }
+    }
 
-/// Reads a PDU, and writes its record.
-fn pdu(line: &str, last: &mut Last) -> String {
-    let words = &mut Words::of(line);
-    last.bits = words.length();
-    let bytes = words.bytes();
-    let count = bytes.len().min(BYTES);
-    last.bytes = [0; BYTES];
-    last.bytes[..count].copy_from_slice(&bytes[..count]);
-    last.words = [0; RECORD_WORDS];
-    match reference::read(&last.bytes[..count], last.bits, &mut last.words) {
-        Ok(()) => format!("read{}{}", nonzero(&last.words), written(&last.words, ROOM)),
-        Err(refusal) => format!("refused {}", refusal.number()),
+    /// The answers to a line about what differs from the PDU or its record.
+    pub fn differ(&self, line: &str) -> String {
+        let words = &mut Words::after_first(line);
+        match line.chars().next() {
+            Some('t') => every(words, |i, _, _| self.with_element(i as usize, i, 8 - i % 8, 0)),
+            Some('f') => every(words, |i, at, width| self.with_element(self.bits, at, width, i)),
+            Some('a') => every(words, |i, width, value| self.with_element(self.bits, i, width, value)),
+            Some('s') => every(words, |i, value, _| self.with_word(i, value)),
+            Some('w') => self.write(words),
+            _ => String::new(),
+        }
+    }
+
+    /// The record with some words changed, written.
+    fn write(&self, words: &mut Words) -> String {
+        let room = words.length();
+        let mut changed = self.words;
+        while !words.is_empty() {
+            let place = words.length();
+            changed[place] = words.number();
+        }
+        written(&changed, room)
+    }
+
+    /// The answer to the first `bits` bits of the PDU with an element in its place.
+    fn with_element(&self, bits: usize, at: u32, width: u32, value: u32) -> u32 {
+        let mut bytes = self.bytes;
+        put(&mut bytes, at as usize, width as usize, value);
+        number(reference::read(&bytes[..bits.div_ceil(8)], bits, &mut [0; RECORD_WORDS]))
+    }
+
+    /// The answer to the record with one word changed.
+    fn with_word(&self, place: u32, value: u32) -> u32 {
+        let mut words = self.words;
+        words[place as usize] = value;
+        number(reference::write(&words, &mut [0; ROOM]))
     }
 }
 
@@ -69,17 +92,6 @@ fn written(words: &[u32], room: usize) -> String {
     }
 }
 
-/// The record with some words changed, written.
-fn write(words: &mut Words, last: &Last) -> String {
-    let room = words.length();
-    let mut changed = last.words;
-    while !words.is_empty() {
-        let place = words.length();
-        changed[place] = words.number();
-    }
-    written(&changed, room)
-}
-
 /// The answers of as many cases as the line says, each where it is another than the one before.
 fn every(words: &mut Words, answer: impl Fn(u32, u32, u32) -> u32) -> String {
     let (count, first, second) = (words.number(), words.number(), words.number());
@@ -92,18 +104,4 @@ fn every(words: &mut Words, answer: impl Fn(u32, u32, u32) -> u32) -> String {
         }
     }
     pairs
-}
-
-/// The answer to the first `bits` bits of the PDU with an element in its place.
-fn with_element(last: &Last, bits: usize, at: u32, width: u32, value: u32) -> u32 {
-    let mut bytes = last.bytes;
-    put(&mut bytes, at as usize, width as usize, value);
-    number(reference::read(&bytes[..bits.div_ceil(8)], bits, &mut [0; RECORD_WORDS]))
-}
-
-/// The answer to the record with one word changed.
-fn with_word(last: &Last, place: u32, value: u32) -> u32 {
-    let mut words = last.words;
-    words[place as usize] = value;
-    number(reference::write(&words, &mut [0; ROOM]))
 }

@@ -1,0 +1,71 @@
+// The lines that ask something of the archive.
+use crate::held::Held;
+use crate::input;
+use crate::show;
+use bits::BitCount;
+
+pub(crate) fn ask(line: &[u8], held: Held) {
+    let bytes = held.bytes;
+    let archive = input::first(&bytes, held.length);
+    match input::letter(line) {
+        b'r' => restore(line, archive),
+        b'v' => verify(archive),
+        b'd' => decide(line, archive),
+        b'p' => print(line, &bytes),
+        _ => {}
+    }
+}
+
+fn restore(line: &[u8], archive: &[u8]) {
+    let network = input::number_at(line, 8);
+    let ssi = input::number_at(line, network.next);
+    let part = input::number_at(line, ssi.next);
+    let room = input::number_at(line, part.next);
+    restore_to(
+        archive,
+        network.value,
+        ssi.value,
+        part.value,
+        room.value as usize,
+    );
+}
+
+fn restore_to(archive: &[u8], network: u32, ssi: u32, part: u32, room: usize) {
+    let mut out = show::full();
+    let mut count: usize = 0;
+    let end = bits::least(room, 70000);
+    let number = boc::boc_restore(archive, network, ssi, part, &mut out[0..end], &mut count);
+    restored(number, BitCount(count), out);
+}
+
+fn restored(number: u32, n: BitCount, out: [u8; 70000]) {
+    if number == 0 {
+        show::labelled(b"bits ", n.0 as u64);
+        io::write_all(1, b" ");
+        show::span(&out, 0, n.bytes());
+    } else {
+        show::labelled(b"refused ", number as u64);
+    }
+    show::rest(&out, n.bytes());
+}
+
+fn verify(archive: &[u8]) {
+    let mut out = show::full();
+    let mut size: usize = 0;
+    let number = boc::boc_contents(archive, &mut out, &mut size);
+    show::written(number, size, out);
+}
+
+fn decide(line: &[u8], archive: &[u8]) {
+    let mut words = [0u32; 34];
+    let mut verdict: u32 = 0;
+    input::numbers_at(line, 7, &mut words);
+    let number = boc::boc_decide(archive, &words, &mut verdict);
+    show::decision(number, verdict);
+}
+
+fn print(line: &[u8], bytes: &[u8]) {
+    let from = input::number_at(line, 6);
+    let to = input::number_at(line, from.next);
+    show::span(bytes, from.value as usize, to.value as usize);
+}
