@@ -142,7 +142,8 @@ delivery-statuses = refl
 abbrev counts : List ℕ
 counts = 3 ∷ 0 ∷ 0 ∷ 0 ∷ 0 ∷ 0 ∷ 0 ∷ 0 ∷ []
 
-numbers-of-services : (values countRefusal 0 8 ≡ counts) × (among 8 (λ v. pduOf 12 1 0 0 0 (record { count = v; list = replicate 7 0 }) zeroLists) ≡ counts)
+numbers-of-services : (values countRefusal 0 8 ≡ counts)
+    × (among 8 (λ v. pduOf 12 1 0 0 0 (record { count = v; list = replicate 7 0 }) zeroLists) ≡ counts)
 unfolding grammar
 numbers-of-services = (refl, refl)
 
@@ -155,7 +156,8 @@ services-mean = refl
 abbrev services : List ℕ
 services = 0 ∷ 0 ∷ 0 ∷ 0 ∷ 3 ∷ 3 ∷ 3 ∷ 3 ∷ []
 
-services-refused : (values serviceRefusal 0 8 ≡ services) × (among 8 (λ v. pduOf 12 1 0 0 0 (record { count = 1; list = v ∷ replicate 6 0 }) zeroLists) ≡ services)
+services-refused : (values serviceRefusal 0 8 ≡ services)
+    × (among 8 (λ v. pduOf 12 1 0 0 0 (record { count = 1; list = v ∷ replicate 6 0 }) zeroLists) ≡ services)
 unfolding grammar
 services-refused = (refl, refl)
 

@@ -81,5 +81,5 @@ ruling home r q = sixRules home r q
 -- `unfolding rules` opens all of it
 unfoldable pub rules : Unit {0}
 unfolding ruling sixRules isExcepted isRestricted isOutside bothEmpty covered isCovering identityAmong isEntry inRange networkOf codes
-  numberAmong isNumber same some
+    numberAmong isNumber same some
 rules = tt

@@ -19,10 +19,11 @@ returns c =
     let r = h .before .before in
     let b = r .before .before in
     let a = b .before .before .args in
-    let body : r .read .result ≡ readIs (take (bytesFor (a .n .0)) (drop (a .at) (a .archive .now))) (a .n .0) =
+    let s = drop (a .at) (a .archive .now) in
+    let body : r .read .result ≡ readIs (take (bytesFor (a .n .0)) s) (a .n .0) =
     r .read .ensures
-    ∙ ap (λ (k : ℕ). readIs (take k (drop (a .at) (a .archive .now))) (a .n .0)) (add-sub-cancel-left (a .at) (b .bytes .result) ∙ b .bytes .ensures) in
-    let ruled : u .rule .result ≡ ruling (homeOf (a .archive .now)) (readIs (take (bytesFor (a .n .0)) (drop (a .at) (a .archive .now))) (a .n .0) .found) (a .request) =
+    ∙ ap (λ (k : ℕ). readIs (take k s) (a .n .0)) (add-sub-cancel-left (a .at) (b .bytes .result) ∙ b .bytes .ensures) in
+    let ruled : u .rule .result ≡ ruling (homeOf (a .archive .now)) (readIs (take (bytesFor (a .n .0)) s) (a .n .0) .found) (a .request) =
     u .rule .ensures ∙ rw (h .home .ensures, body) in
     c .decision-of .ensures ∙ ap decisionOf ruled
 
