@@ -46,8 +46,8 @@ fn part_for(destination: Destination) -> u32
 // What the body of n bits at a place of the archive says of the call.
 fn judge(archive: &[u8], at: usize, n: BitCount, request: Request) -> Decision
     requires { ⌜ at + bytesFor (n .0) ≤ length (now archive) ⌝ }
-    ensures { λ r. ⌜ let body = take (bytesFor (n .0)) (drop at (now (archive .entry))) in
-        r ≡ decisionOf (ruling (homeOf (now (archive .entry))) (readIs body (n .0) .found) request) ⌝ }
+    ensures { λ r. ⌜ (let body = take (bytesFor (n .0)) (drop at (now (archive .entry))) in
+        r ≡ decisionOf (ruling (homeOf (now (archive .entry))) (readIs body (n .0) .found) request)) ⌝ }
 {
     let end = at + n.bytes();
     let reading = pdu::read(&archive[at..end], n);
