@@ -4,7 +4,7 @@ use mathlib.Core.Path.{_≡_, refl}
 use mathlib.Core.Bool.{Bool, true, false}
 use mathlib.Core.List.{List, [], _∷_, _++_}
 use Prim.Native.Nat.{ℕ, _*_}
-use lib.ListN.{drop, replicate}
+use lib.ListN.{length, drop, replicate}
 use Rattle.bits.specs.Bits.{bitsOf}
 use Rattle.bits.proofs.Table.{values}
 use Rattle.codec.specs.Codec.{Outcome, ok, no}
@@ -42,12 +42,15 @@ identities code = record { code = code; entries = replicate 8 (home 5) }
 
 -- numbers with one length, and one digit in all places
 abbrev numbers : ℕ → ℕ → ℕ → Numbers
-numbers code length digit = record { code = code; entries = replicate 8 (record { length = record { 0 = length }; digits = replicate 24 digit }) }
+numbers code digits digit = record { code = code; entries = replicate 8 (record { length = record { 0 = digits }; digits = replicate 24 digit }) }
 
-abbrev pduOf : ℕ → ℕ → ℕ → ℕ → ℕ → Services → Lists → Record
+abbrev oneService : Services
+oneService = record { count = 1; list = replicate 7 0 }
+
+abbrev pduOf : ℕ → Identities → ℕ → ℕ → ℕ → Services → Lists → Record
 pduOf kind users asked result delivery services lists = record {
   kind = kind;
-  affected = identities users;
+  affected = users;
   asked = asked;
   result = result;
   delivery = delivery;
@@ -57,20 +60,20 @@ pduOf kind users asked result delivery services lists = record {
 
 -- an INTERROGATE ACK with a result and lists
 abbrev ackOf : ℕ → Lists → Record
-ackOf result lists = pduOf 12 1 0 result 0 (record { count = 1; list = replicate 7 0 }) lists
+ackOf result lists = pduOf 12 (identities 1) 0 result 0 oneService lists
 
-abbrev identityPart : ℕ → ℕ → ℕ → Record
+abbrev identityPart : Identities → Identities → Identities → Record
 identityPart groups restricted exceptions = ackOf 1 (record {
-  groups = identities groups;
-  restricted = identities restricted;
-  exceptions = identities exceptions;
+  groups = groups;
+  restricted = restricted;
+  exceptions = exceptions;
   numbers = zeroNumbers;
   excepted = zeroNumbers;
 })
 
-abbrev numberPart : ℕ → Numbers → Numbers → Record
+abbrev numberPart : Identities → Numbers → Numbers → Record
 numberPart groups restricted excepted = ackOf 2 (record {
-  groups = identities groups;
+  groups = groups;
   restricted = zeroIdentities;
   exceptions = zeroIdentities;
   numbers = restricted;
@@ -106,7 +109,7 @@ kinds =
     ∷ 3 ∷ 3  -- 14 and 15: reserved
     ∷ 3 ∷ 3 ∷ 3 ∷ 3 ∷ 3 ∷ 3 ∷ 3 ∷ 3 ∷ 3 ∷ 3 ∷ 3 ∷ 3 ∷ 3 ∷ 3 ∷ 3 ∷ 3 ∷ []  -- 16 to 31: beyond the four bits that table 23 has
 
-pdu-types : (values kindRefusal 0 32 ≡ kinds) × (among 32 (λ v. pduOf v 1 1 0 0 (record { count = 1; list = replicate 7 0 }) zeroLists) ≡ kinds)
+pdu-types : (values kindRefusal 0 32 ≡ kinds) × (among 32 (λ v. pduOf v (identities 1) 1 0 0 oneService zeroLists) ≡ kinds)
 unfolding grammar
 pdu-types = (refl, refl)
 
@@ -122,18 +125,23 @@ interrogation-results : (values resultRefusal 0 8 ≡ results) × (among 8 (λ v
 unfolding grammar
 interrogation-results = (refl, refl)
 
+-- the lists follow the results 1 and 2 only: 51 bits without, three range types of 4 bits more with them
+lists-follow : values (λ v. length (pdu .print (ackOf v zeroLists))) 0 8 ≡ 51 ∷ 63 ∷ 63 ∷ 51 ∷ 51 ∷ 51 ∷ 51 ∷ 51 ∷ []
+unfolding grammar
+lists-follow = refl
+
 -- ---- interrogation type, 2 bits, table 36: reserved; identities; external numbers; both
 
 abbrev askings : List ℕ
 askings = 3 ∷ 0 ∷ 0 ∷ 0 ∷ []
 
-interrogation-types : (values askedRefusal 0 4 ≡ askings) × (among 4 (λ v. pduOf 11 1 v 0 0 zeroServices zeroLists) ≡ askings)
+interrogation-types : (values askedRefusal 0 4 ≡ askings) × (among 4 (λ v. pduOf 11 (identities 1) v 0 0 zeroServices zeroLists) ≡ askings)
 unfolding grammar
 interrogation-types = (refl, refl)
 
 -- ---- delivery status, 2 bits, table 29: not requested; pending; acknowledged; unknown
 
-delivery-statuses : among 4 (λ v. pduOf 12 1 0 0 v (record { count = 1; list = replicate 7 0 }) zeroLists) ≡ 0 ∷ 0 ∷ 0 ∷ 0 ∷ []
+delivery-statuses : among 4 (λ v. pduOf 12 (identities 1) 0 0 v oneService zeroLists) ≡ 0 ∷ 0 ∷ 0 ∷ 0 ∷ []
 unfolding grammar
 delivery-statuses = refl
 
@@ -143,7 +151,7 @@ abbrev counts : List ℕ
 counts = 3 ∷ 0 ∷ 0 ∷ 0 ∷ 0 ∷ 0 ∷ 0 ∷ 0 ∷ []
 
 numbers-of-services : (values countRefusal 0 8 ≡ counts)
-    × (among 8 (λ v. pduOf 12 1 0 0 0 (record { count = v; list = replicate 7 0 }) zeroLists) ≡ counts)
+    × (among 8 (λ v. pduOf 12 (identities 1) 0 0 0 (record { count = v; list = replicate 7 0 }) zeroLists) ≡ counts)
 unfolding grammar
 numbers-of-services = (refl, refl)
 
@@ -157,7 +165,7 @@ abbrev services : List ℕ
 services = 0 ∷ 0 ∷ 0 ∷ 0 ∷ 3 ∷ 3 ∷ 3 ∷ 3 ∷ []
 
 services-refused : (values serviceRefusal 0 8 ≡ services)
-    × (among 8 (λ v. pduOf 12 1 0 0 0 (record { count = 1; list = v ∷ replicate 6 0 }) zeroLists) ≡ services)
+    × (among 8 (λ v. pduOf 12 (identities 1) 0 0 0 (record { count = 1; list = v ∷ replicate 6 0 }) zeroLists) ≡ services)
 unfolding grammar
 services-refused = (refl, refl)
 
@@ -187,8 +195,8 @@ abbrev forUsers : List ℕ
 forUsers = 3 ∷ 0 ∷ 0 ∷ 0 ∷ 0 ∷ 0 ∷ 0 ∷ 0 ∷ 0 ∷ 0 ∷ 3 ∷ 3 ∷ 3 ∷ 3 ∷ 3 ∷ 3 ∷ []
 
 users-refused : (values (rangeRefusal of.Users) 0 16 ≡ forUsers)
-    × (among 16 (λ v. pduOf 11 v 1 0 0 zeroServices zeroLists) ≡ forUsers)
-    × (among 16 (λ v. pduOf 12 v 0 0 0 (record { count = 1; list = replicate 7 0 }) zeroLists) ≡ forUsers)
+    × (among 16 (λ v. pduOf 11 (identities v) 1 0 0 zeroServices zeroLists) ≡ forUsers)
+    × (among 16 (λ v. pduOf 12 (identities v) 0 0 0 oneService zeroLists) ≡ forUsers)
 unfolding grammar
 users-refused = (refl, refl, refl)
 
@@ -197,10 +205,10 @@ abbrev forIdentities : List ℕ
 forIdentities = 0 ∷ 0 ∷ 0 ∷ 0 ∷ 0 ∷ 0 ∷ 0 ∷ 0 ∷ 0 ∷ 0 ∷ 3 ∷ 3 ∷ 3 ∷ 3 ∷ 3 ∷ 3 ∷ []
 
 identities-refused : (values (rangeRefusal of.Identities) 0 16 ≡ forIdentities)
-    × (among 16 (λ v. identityPart v 0 0) ≡ forIdentities)
-    × (among 16 (λ v. identityPart 0 v 0) ≡ forIdentities)
-    × (among 16 (λ v. identityPart 0 0 v) ≡ forIdentities)
-    × (among 16 (λ v. numberPart v zeroNumbers zeroNumbers) ≡ forIdentities)
+    × (among 16 (λ v. identityPart (identities v) zeroIdentities zeroIdentities) ≡ forIdentities)
+    × (among 16 (λ v. identityPart zeroIdentities (identities v) zeroIdentities) ≡ forIdentities)
+    × (among 16 (λ v. identityPart zeroIdentities zeroIdentities (identities v)) ≡ forIdentities)
+    × (among 16 (λ v. numberPart (identities v) zeroNumbers zeroNumbers) ≡ forIdentities)
 unfolding grammar
 identities-refused = (refl, refl, refl, refl, refl)
 
@@ -209,8 +217,8 @@ abbrev forNumbers : List ℕ
 forNumbers = 0 ∷ 0 ∷ 0 ∷ 0 ∷ 0 ∷ 0 ∷ 0 ∷ 0 ∷ 0 ∷ 3 ∷ 3 ∷ 3 ∷ 3 ∷ 3 ∷ 3 ∷ 3 ∷ []
 
 numbers-refused : (values (rangeRefusal of.Numbers) 0 16 ≡ forNumbers)
-    × (among 16 (λ v. numberPart 0 (numbers v 1 0) zeroNumbers) ≡ forNumbers)
-    × (among 16 (λ v. numberPart 0 zeroNumbers (numbers v 1 0)) ≡ forNumbers)
+    × (among 16 (λ v. numberPart zeroIdentities (numbers v 1 0) zeroNumbers) ≡ forNumbers)
+    × (among 16 (λ v. numberPart zeroIdentities zeroNumbers (numbers v 1 0)) ≡ forNumbers)
 unfolding grammar
 numbers-refused = (refl, refl, refl)
 
@@ -222,7 +230,7 @@ lengths =
     ∷ 0 ∷ 0 ∷ 0 ∷ 0 ∷ 0 ∷ 0 ∷ 0 ∷ 0 ∷ 0 ∷ 0 ∷ 0 ∷ 0 ∷ 0 ∷ 0 ∷ 0 ∷ 0 ∷ 0 ∷ 0 ∷ 0 ∷ 0 ∷ 0 ∷ 0 ∷ 0 ∷ 0
     ∷ 3 ∷ 3 ∷ 3 ∷ 3 ∷ 3 ∷ 3 ∷ 3 ∷ []
 
-number-lengths : (values lengthRefusal 0 32 ≡ lengths) × (among 32 (λ v. numberPart 0 (numbers 1 v 0) zeroNumbers) ≡ lengths)
+number-lengths : (values lengthRefusal 0 32 ≡ lengths) × (among 32 (λ v. numberPart zeroIdentities (numbers 1 v 0) zeroNumbers) ≡ lengths)
 unfolding grammar
 number-lengths = (refl, refl)
 
@@ -237,7 +245,7 @@ digits-mean = refl
 abbrev digits : List ℕ
 digits = 0 ∷ 0 ∷ 0 ∷ 0 ∷ 0 ∷ 0 ∷ 0 ∷ 0 ∷ 0 ∷ 0 ∷ 0 ∷ 0 ∷ 0 ∷ 3 ∷ 3 ∷ 3 ∷ []
 
-digits-refused : (values digitRefusal 0 16 ≡ digits) × (among 16 (λ v. numberPart 0 zeroNumbers (numbers 1 24 v)) ≡ digits)
+digits-refused : (values digitRefusal 0 16 ≡ digits) × (among 16 (λ v. numberPart zeroIdentities zeroNumbers (numbers 1 24 v)) ≡ digits)
 unfolding grammar
 digits-refused = (refl, refl)
 
@@ -254,6 +262,21 @@ range-ends : (endsRefusal (home 199) (home 199) ≡ 0) × (endsRefusal (home 200
     × (endsRefusal (home 100) (abroad 0 199) ≡ 4) × (endsRefusal (abroad 0 100) (home 199) ≡ 4)
 unfolding endsRefusal
 range-ends = (refl, refl, refl, refl, refl, refl)
+
+-- they are looked at in every list of identities, and only if its range type is 9
+abbrev reversed : ℕ → Identities
+reversed code = record { code = code; entries = home 200 ∷ replicate 7 (home 199) }
+
+abbrev forReversed : List ℕ
+forReversed = 0 ∷ 0 ∷ 0 ∷ 0 ∷ 0 ∷ 0 ∷ 0 ∷ 0 ∷ 0 ∷ 4 ∷ 3 ∷ 3 ∷ 3 ∷ 3 ∷ 3 ∷ 3 ∷ []
+
+reversed-refused : (pdu .fault (pduOf 11 (reversed 9) 1 0 0 zeroServices zeroLists) ≡ 4)
+    × (among 16 (λ v. identityPart (reversed v) zeroIdentities zeroIdentities) ≡ forReversed)
+    × (among 16 (λ v. identityPart zeroIdentities (reversed v) zeroIdentities) ≡ forReversed)
+    × (among 16 (λ v. identityPart zeroIdentities zeroIdentities (reversed v)) ≡ forReversed)
+    × (among 16 (λ v. numberPart (reversed v) zeroNumbers zeroNumbers) ≡ forReversed)
+unfolding grammar
+reversed-refused = (refl, refl, refl, refl, refl)
 
 -- the network is the extension if that is present, 0 too, otherwise the one that a missing extension means
 networks : (networkOf 1 (home 5) ≡ 1) × (networkOf 1 (abroad 2 5) ≡ 2) × (networkOf 1 (abroad 0 5) ≡ 0)
