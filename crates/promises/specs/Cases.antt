@@ -1,4 +1,4 @@
--- Worked cases of the six rules, as one list that antt computes beside the profiles: services, single entries and ranges with and without
+-- Worked cases of the six rules, as lists that antt computes beside the profiles: services, single entries and ranges with and without
 -- extension, groups, external numbers; and decisions from the bytes of an archive. Home network 1, user 1/5.
 use mathlib.Core.Path.{_≡_, refl}
 use mathlib.Core.List.{List, [], _∷_, _++_, map}
@@ -137,8 +137,9 @@ dial = dialBy 1
 
 -- ---- the cases
 
-pub cases : All (
-    -- rule 1: which services a part lists; a part without entries bars what it lists with cause 1
+-- rule 1: which services a part lists; a part without entries bars what it lists with cause 1
+abbrev listedServices : List Case
+listedServices =
     decides (bare (0 ∷ [])) (speech 1 9 NoGroup) (Barred 1)  -- 0 is every service
     ∷ decides (bare (0 ∷ [])) (circuitData 1 9 NoGroup) (Barred 1)
     ∷ decides (bare (0 ∷ [])) (shortData 1 9 NoGroup) (Barred 1)
@@ -151,8 +152,12 @@ pub cases : All (
     ∷ decides (bare (1 ∷ 1 ∷ 1 ∷ 1 ∷ 1 ∷ 1 ∷ 2 ∷ [])) (circuitData 1 9 NoGroup) (Barred 1)  -- the seventh
     ∷ decides (bare (1 ∷ 1 ∷ 1 ∷ 1 ∷ 1 ∷ 1 ∷ 0 ∷ [])) (shortData 1 9 NoGroup) (Barred 1)  -- 0 in the seventh place
     ∷ decides (bare (1 ∷ [])) (speech 1 9 (group 1 500)) (Barred 1)  -- rule 5, whatever the group
-    -- single entries: without extension, with the home network spelt out, of other networks
-    ∷ decides singles (speech 1 7 NoGroup) (Barred 2)  -- no extension: the home network
+    ∷ []
+
+-- single entries: without extension, with the home network spelt out, of other networks
+abbrev singleEntries : List Case
+singleEntries =
+    decides singles (speech 1 7 NoGroup) (Barred 2)  -- no extension: the home network
     ∷ decides singles (speech 2 7 NoGroup) Allowed
     ∷ decides singles (speech 1 8 NoGroup) (Barred 2)  -- the home network spelt out
     ∷ decides singles (speech 2 8 NoGroup) Allowed
@@ -167,16 +172,24 @@ pub cases : All (
     ∷ decides eight (speech 1 12 NoGroup) Allowed  -- excepted, the first of a range
     ∷ decides eight (speech 1 13 NoGroup) Allowed  -- excepted, the last of a range
     ∷ decides eight (speech 1 14 NoGroup) (Barred 2)  -- beyond the excepted range
-    -- ranges of another network; exceptions with extension
-    ∷ decides abroad (speech 2 99 NoGroup) Allowed
+    ∷ []
+
+-- ranges of another network; exceptions with extension
+abbrev rangesAbroad : List Case
+rangesAbroad =
+    decides abroad (speech 2 99 NoGroup) Allowed
     ∷ decides abroad (speech 2 100 NoGroup) (Barred 2)  -- the first
     ∷ decides abroad (speech 2 199 NoGroup) (Barred 2)  -- the last
     ∷ decides abroad (speech 2 200 NoGroup) Allowed
     ∷ decides abroad (speech 1 150 NoGroup) Allowed  -- the home network is not in it
     ∷ decides abroad (speech 2 150 NoGroup) Allowed  -- excepted
     ∷ decides abroad (speech 2 160 NoGroup) (Barred 2)  -- excepted in the home network only
-    -- groups: no extension, another network, the home network spelt out; none restricted
-    ∷ decides grouped (speech 1 9 (group 1 500)) Allowed  -- its group is in the list
+    ∷ []
+
+-- groups: no extension, another network, the home network spelt out; none restricted
+abbrev groupLists : List Case
+groupLists =
+    decides grouped (speech 1 9 (group 1 500)) Allowed  -- its group is in the list
     ∷ decides grouped (speech 1 9 (group 2 500)) (Barred 0)  -- another network
     ∷ decides grouped (speech 1 9 (group 2 600)) Allowed  -- with extension
     ∷ decides grouped (speech 1 9 (group 1 600)) (Barred 0)
@@ -187,14 +200,22 @@ pub cases : All (
     ∷ decides grouped (circuitData 1 9 NoGroup) Allowed  -- nor does a service that is not listed
     ∷ decides C (speech 1 8 NoGroup) (Barred 2)  -- restricted comes before the group
     ∷ decides A (speech 1 99 (group 1 500)) Allowed  -- an empty group list asks for none
-    -- a range of groups
-    ∷ decides ranged (speech 1 9 (group 1 499)) (Barred 0)
+    ∷ []
+
+-- a range of groups
+abbrev groupRanges : List Case
+groupRanges =
+    decides ranged (speech 1 9 (group 1 499)) (Barred 0)
     ∷ decides ranged (speech 1 9 (group 1 500)) Allowed  -- the first
     ∷ decides ranged (speech 1 9 (group 1 509)) Allowed  -- the last
     ∷ decides ranged (speech 1 9 (group 1 510)) (Barred 0)
     ∷ decides ranged (speech 1 9 (group 2 505)) (Barred 0)  -- another network
-    -- number parts: restricted, excepted, both, and neither
-    ∷ decides (numberPart [] (n112 ∷ []) []) (dial n112 NoGroup) (Barred 2)  -- restricted
+    ∷ []
+
+-- number parts: restricted, excepted, both, and neither
+abbrev numberLists : List Case
+numberLists =
+    decides (numberPart [] (n112 ∷ []) []) (dial n112 NoGroup) (Barred 2)  -- restricted
     ∷ decides (numberPart [] (n112 ∷ []) []) (dial n113 NoGroup) Allowed  -- another number
     ∷ decides (numberPart [] [] (n112 ∷ [])) (dial n112 NoGroup) Allowed  -- excepted
     ∷ decides (numberPart [] [] (n112 ∷ [])) (dial n113 NoGroup) (Barred 1)  -- no groups, none restricted
@@ -209,8 +230,12 @@ pub cases : All (
     ∷ decides (numberPart (at 500 ∷ []) (n112 ∷ []) []) (dial n112 (group 1 500)) (Barred 2)  -- restricted comes first
     ∷ decides (numberPart (at 500 ∷ []) [] (n112 ∷ [])) (dial n113 (group 1 500)) Allowed  -- none restricted, but groups
     ∷ decides (numberPart (at 500 ∷ []) [] (n112 ∷ [])) (dial n112 NoGroup) Allowed  -- an exception needs no group
-    -- numbers match if all digits and the length are equal
-    ∷ decides (numberPart [] (n112 ∷ []) []) (dial (1 ∷ 1 ∷ []) NoGroup) Allowed  -- shorter
+    ∷ []
+
+-- numbers match if all digits and the length are equal
+abbrev numberDigits : List Case
+numberDigits =
+    decides (numberPart [] (n112 ∷ []) []) (dial (1 ∷ 1 ∷ []) NoGroup) Allowed  -- shorter
     ∷ decides (numberPart [] (n112 ∷ []) []) (dial (1 ∷ 1 ∷ 2 ∷ 0 ∷ []) NoGroup) Allowed  -- longer by a zero
     ∷ decides (numberPart [] (n112 ∷ []) []) (dial (2 ∷ 1 ∷ 2 ∷ []) NoGroup) Allowed  -- the first digit differs
     ∷ decides (numberPart [] (n112 ∷ []) []) (dial (1 ∷ 0 ∷ 2 ∷ []) NoGroup) Allowed  -- the second differs
@@ -225,251 +250,21 @@ pub cases : All (
     ∷ decides (numberPart [] (replicate 24 9 ∷ []) []) (dial (replicate 23 9) NoGroup) Allowed  -- one less
     ∷ decides (numberPart [] eightNumbers []) (dial (8 ∷ []) NoGroup) (Barred 2)  -- the eighth number
     ∷ decides (numberPart [] eightNumbers []) (dial (9 ∷ []) NoGroup) Allowed
-    ∷ [])
+    ∷ []
+
+pub cases : All listedServices × All singleEntries × All rangesAbroad × All groupLists × All groupRanges × All numberLists × All numberDigits
 unfolding rules
 cases = (
-  refl,
-  (
-    refl,
-    (
-      refl,
-      (
-        refl,
-        (
-          refl,
-          (
-            refl,
-            (
-              refl,
-              (
-                refl,
-                (
-                  refl,
-                  (
-                    refl,
-                    (
-                      refl,
-                      (
-                        refl,
-                        (
-                          refl,
-                          (
-                            refl,
-                            (
-                              refl,
-                              (
-                                refl,
-                                (
-                                  refl,
-                                  (
-                                    refl,
-                                    (
-                                      refl,
-                                      (
-                                        refl,
-                                        (
-                                          refl,
-                                          (
-                                            refl,
-                                            (
-                                              refl,
-                                              (
-                                                refl,
-                                                (
-                                                  refl,
-                                                  (
-                                                    refl,
-                                                    (
-                                                      refl,
-                                                      (
-                                                        refl,
-                                                        (
-                                                          refl,
-                                                          (
-                                                            refl,
-                                                            (
-                                                              refl,
-                                                              (
-                                                                refl,
-                                                                (
-                                                                  refl,
-                                                                  (
-                                                                    refl,
-                                                                    (
-                                                                      refl,
-                                                                      (
-                                                                        refl,
-                                                                        (
-                                                                          refl,
-                                                                          (
-                                                                            refl,
-                                                                            (
-                                                                              refl,
-                                                                              (
-                                                                                refl,
-                                                                                (
-                                                                                  refl,
-                                                                                  (
-                                                                                    refl,
-                                                                                    (
-                                                                                      refl,
-                                                                                      (
-                                                                                        refl,
-                                                                                        (
-                                                                                          refl,
-                                                                                          (
-                                                                                            refl,
-                                                                                            (
-                                                                                              refl,
-                                                                                              (
-                                                                                                refl,
-                                                                                                (
-                                                                                                  refl,
-                                                                                                  (
-                                                                                                    refl,
-                                                                                                    (
-                                                                                                      refl,
-                                                                                                      (
-                                                                                                        refl,
-                                                                                                        (
-                                                                                                          refl,
-                                                                                                          (
-                                                                                                            refl,
-                                                                                                            (
-                                                                                                              refl,
-                                                                                                              (
-                                                                                                                refl,
-                                                                                                                (
-                                                                                                                  refl,
-                                                                                                                  (
-                                                                                                                    refl,
-                                                                                                                    (
-                                                                                                                      refl,
-                                                                                                                      (
-                                                                                                                        refl,
-                                                                                                                        (
-                                                                                                                          refl,
-                                                                                                                          (
-                                                                                                                            refl,
-                                                                                                                            (
-                                                                                                                              refl,
-                                                                                                                              (
-                                                                                                                                refl,
-                                                                                                                                (
-                                                                                                                                  refl,
-                                                                                                                                  (
-                                                                                                                                    refl,
-                                                                                                                                    (
-                                                                                                                                      refl,
-                                                                                                                                      (
-                                                                                                                                        refl,
-                                                                                                                                        (
-                                                                                                                                          refl,
-                                                                                                                                          (
-                                                                                                                                            refl,
-                                                                                                                                            (
-                                                                                                                                              refl,
-                                                                                                                                              (
-                                                                                                                                                refl,
-                                                                                                                                                (
-                                                                                                                                                  refl,
-                                                                                                                                                  (
-                                                                                                                                                    refl,
-                                                                                                                                                    (
-                                                                                                                                                      refl,
-                                                                                                                                                      (
-                                                                                                                                                        refl,
-                                                                                                                                                        (
-                                                                                                                                                          refl,
-                                                                                                                                                          (
-                                                                                                                                                            refl,
-                                                                                                                                                            (
-                                                                                                                                                              refl,
-                                                                                                                                                              (
-                                                                                                                                                                refl,
-                                                                                                                                                                tt,
-                                                                                                                                                              ),
-                                                                                                                                                            ),
-                                                                                                                                                          ),
-                                                                                                                                                        ),
-                                                                                                                                                      ),
-                                                                                                                                                    ),
-                                                                                                                                                  ),
-                                                                                                                                                ),
-                                                                                                                                              ),
-                                                                                                                                            ),
-                                                                                                                                          ),
-                                                                                                                                        ),
-                                                                                                                                      ),
-                                                                                                                                    ),
-                                                                                                                                  ),
-                                                                                                                                ),
-                                                                                                                              ),
-                                                                                                                            ),
-                                                                                                                          ),
-                                                                                                                        ),
-                                                                                                                      ),
-                                                                                                                    ),
-                                                                                                                  ),
-                                                                                                                ),
-                                                                                                              ),
-                                                                                                            ),
-                                                                                                          ),
-                                                                                                        ),
-                                                                                                      ),
-                                                                                                    ),
-                                                                                                  ),
-                                                                                                ),
-                                                                                              ),
-                                                                                            ),
-                                                                                          ),
-                                                                                        ),
-                                                                                      ),
-                                                                                    ),
-                                                                                  ),
-                                                                                ),
-                                                                              ),
-                                                                            ),
-                                                                          ),
-                                                                        ),
-                                                                      ),
-                                                                    ),
-                                                                  ),
-                                                                ),
-                                                              ),
-                                                            ),
-                                                          ),
-                                                        ),
-                                                      ),
-                                                    ),
-                                                  ),
-                                                ),
-                                              ),
-                                            ),
-                                          ),
-                                        ),
-                                      ),
-                                    ),
-                                  ),
-                                ),
-                              ),
-                            ),
-                          ),
-                        ),
-                      ),
-                    ),
-                  ),
-                ),
-              ),
-            ),
-          ),
-        ),
-      ),
-    ),
-  ),
+  (refl, (refl, (refl, (refl, (refl, (refl, (refl, (refl, (refl, (refl, (refl, (refl, tt)))))))))))),
+  (refl, (refl, (refl, (refl, (refl, (refl, (refl, (refl, (refl, (refl, (refl, (refl, (refl, (refl, (refl, tt))))))))))))))),
+  (refl, (refl, (refl, (refl, (refl, (refl, (refl, tt))))))),
+  (refl, (refl, (refl, (refl, (refl, (refl, (refl, (refl, (refl, (refl, (refl, tt))))))))))),
+  (refl, (refl, (refl, (refl, (refl, tt))))),
+  (refl, (refl, (refl, (refl, (refl, (refl, (refl, (refl, (refl, (refl, (refl, (refl, (refl, (refl, (refl, tt))))))))))))))),
+  (refl, (refl, (refl, (refl, (refl, (refl, (refl, (refl, (refl, (refl, (refl, (refl, (refl, (refl, (refl, tt))))))))))))))),
 )
 
--- Only A held: a number is judged by the number part, which is not held; so is another user. What A says is the decision.
+-- Only A held. A number is judged by the number part, which is not held; nor is any part of user 2/5. The other answers are what A says.
 held : (decideIs bytesA (dial n112 NoGroup) ≡ decision.NotHeld)
     × (decideIs bytesA (speech 1 200 NoGroup) ≡ decision.Allowed)
     × (decideIs bytesA (speech 1 100 NoGroup) ≡ decision.Barred 2)

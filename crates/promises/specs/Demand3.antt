@@ -35,7 +35,8 @@ module _ (home : ℕ) (lent : List ℕ) (m : ℕ) (e : emptyIs home (length lent
   module _ (network ssi part : ℕ) (r : inRange network ssi part ≡ true) (out : List ℕ) where
     -- Restoring gives exactly its bits, if the buffer has room for them,
     pub restores-the-last : (o : Offer) → last network ssi part ≡ some o → bytesFor (o .bits) ≤ length out
-        → (restoreIs archive network ssi part (length out) ≡ Bits (record { 0 = o .bits })) × (restoreOut archive network ssi part out ≡ over (o .pdu) out)
+        → (restoreIs archive network ssi part (length out) ≡ Bits (record { 0 = o .bits }))
+        × (restoreOut archive network ssi part out ≡ over (o .pdu) out)
     restores-the-last = history.always home lent m e offers network ssi part r out
 
     -- or "not held", and no byte changed.
