@@ -16,7 +16,6 @@ use Rattle.rules.specs.Rule.{ruling}
 use Rattle.rules.specs.declared.request.Destination.{Destination}
 use Rattle.rules.specs.declared.request.Destination.the-variants.{Identity, Number}
 use Rattle.rules.specs.declared.request.Request.{Request}
-use Rattle.rules.specs.declared.Decision.the-variants.{NotHeld, Refused}
 use Rattle.archive.specs.Reading.{homeOf, reading, isArchive}
 use Rattle.archive.specs.Restoring.{inRange, fetchIs}
 use Rattle.archive.specs.declared.Fetched.{Fetched}
@@ -24,7 +23,9 @@ use Rattle.archive.specs.declared.Fetched.the-variants.{Body, NoArchive}
 use Rattle.archive.specs.declared.Fetched.the-variants as fetched
 use Rattle.archive.proofs.Lookup.{Right, BodyIs, fetch-right, fetch-none}
 use Rattle.archive.proofs.Capturing.{home-read}
+use Rattle.barring.specs.Decision.{decisionOf}
 use Rattle.barring.specs.Decide.{partFor, judgedBy, partIn, decideIs}
+use Rattle.barring.specs.declared.Decision.the-variants.{NotHeld, Refused}
 
 user-first : (a b c d e f : Bool) → pick {A = ℕ} (a && b && c && d && e && f) 0 9 ≡ 0 → a ≡ true
 user-first true b c d e f h = refl
@@ -72,12 +73,12 @@ module _ (b : List ℕ) (q : Request) (e : requestRefusal q ≡ 0) where
     pub body-within : at + bytesFor (n .0) ≤ length b
     body-within = body .1 .inside
 
-    pub decide-body : ruling (homeOf b) (readIs (take (bytesFor (n .0)) (drop at b)) (n .0) .found) q ≡ decideIs b q
+    pub decide-body : decisionOf (ruling (homeOf b) (readIs (take (bytesFor (n .0)) (drop at b)) (n .0) .found) q) ≡ decideIs b q
     decide-body =
         let k = body .1 in
         sym (decide-held (body .0) ∙ ap (judgedBy (reading b .home) q) (k .is)
-        ∙ ap₂ (λ (s : List ℕ) (m : BitCount). ruling (reading b .home) (readIs s (m .0) .found) q) (k .body) (k .bits)
-        ∙ ap (λ (h : ℕ). ruling h (readIs (take (bytesFor (n .0)) (drop at b)) (n .0) .found) q) (sym (home-read b (body .0))))
+        ∙ ap₂ (λ (s : List ℕ) (m : BitCount). decisionOf (ruling (reading b .home) (readIs s (m .0) .found) q)) (k .body) (k .bits)
+        ∙ ap (λ (h : ℕ). decisionOf (ruling h (readIs (take (bytesFor (n .0)) (drop at b)) (n .0) .found) q)) (sym (home-read b (body .0))))
 
   pub decide-missing : fetchedFor ≡ fetched.NotHeld → NotHeld ≡ decideIs b q
   decide-missing f =

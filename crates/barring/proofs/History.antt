@@ -14,30 +14,32 @@ use Rattle.reader.specs.Read.{readIs}
 use Rattle.rules.specs.Request.{requestRefusal}
 use Rattle.rules.specs.Rule.{ruling}
 use Rattle.rules.specs.declared.request.Request.{Request}
-use Rattle.rules.specs.declared.Decision.{Decision}
-use Rattle.rules.specs.declared.Decision.the-variants.{Allowed, NotHeld, Refused}
 use Rattle.archive.specs.Model.{Held}
 use Rattle.archive.specs.Reading.{isArchive}
 use Rattle.archive.specs.Keeping.{emptyIs, emptyOut}
 use Rattle.archive.specs.History.{Offer, afterAll, lastAccepted}
 use Rattle.archive.specs.declared.Archived.the-variants.{Bytes}
 use Rattle.archive.proofs.History.{Matches, kept}
+use Rattle.barring.specs.Decision.{decisionOf}
 use Rattle.barring.specs.Decide.{partFor, judgedBy, partIn, decideIs}
+use Rattle.barring.specs.declared.Decision.{Decision}
+use Rattle.barring.specs.declared.Decision.the-variants.{Allowed, NotHeld, Refused}
 use Rattle.barring.proofs.Decided.{request-ranged, decide-held}
 
 -- what the last PDU accepted says of the call
 abbrev pub saidBy : ℕ → Request → Option Offer → Decision
 saidBy home q none = NotHeld
-saidBy home q (some o) = ruling home (readIs (o .pdu) (o .bits) .found) q
+saidBy home q (some o) = decisionOf (ruling home (readIs (o .pdu) (o .bits) .found) q)
 
 matched : (home : ℕ) (q : Request) (l : Option Held) (last : Option Offer) → Matches l last → judgedBy home q l ≡ saidBy home q last
 matched home q none none m = refl
-matched home q (some h) (some o) m = ap₂ (λ (s : List ℕ) (n : BitCount). ruling home (readIs s (n .0) .found) q) (m .0) (m .1)
+matched home q (some h) (some o) m = ap₂ (λ (s : List ℕ) (n : BitCount). decisionOf (ruling home (readIs s (n .0) .found) q)) (m .0) (m .1)
 matched home q none (some o) m = absurd m
 matched home q (some h) none m = absurd m
 
 -- from an empty archive, for any offers and every well-formed request
-module _ (home : ℕ) (lent : List ℕ) (m : ℕ) (e : emptyIs home (length lent) ≡ Bytes m) (os : List Offer) (q : Request) (f : requestRefusal q ≡ 0) where
+module _ (home : ℕ) (lent : List ℕ) (m : ℕ) (e : emptyIs home (length lent) ≡ Bytes m)
+    (os : List Offer) (q : Request) (f : requestRefusal q ≡ 0) where
   abbrev pub start : List ℕ
   start = take m (emptyOut home lent)
 

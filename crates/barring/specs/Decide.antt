@@ -10,11 +10,12 @@ use Rattle.rules.specs.Rule.{ruling}
 use Rattle.rules.specs.declared.request.Destination.{Destination}
 use Rattle.rules.specs.declared.request.Destination.the-variants.{Identity, Number}
 use Rattle.rules.specs.declared.request.Request.{Request}
-use Rattle.rules.specs.declared.Decision.{Decision}
-use Rattle.rules.specs.declared.Decision.the-variants.{NotHeld, Refused}
 use Rattle.archive.specs.Model.{Held, keyFor}
 use Rattle.archive.specs.Reading.{reading, isArchive}
 use Rattle.archive.specs.Restoring.{lookup}
+use Rattle.barring.specs.Decision.{decisionOf}
+use Rattle.barring.specs.declared.Decision.{Decision}
+use Rattle.barring.specs.declared.Decision.the-variants.{NotHeld, Refused}
 
 -- an identity is judged by the user's identity part, an external number by the number part
 unfoldable pub partFor : Destination → ℕ
@@ -24,7 +25,7 @@ partFor (Number length) = 2
 -- if that part isn't held, the answer is "not held"
 abbrev pub judgedBy : ℕ → Request → Option Held → Decision
 judgedBy home q none = NotHeld
-judgedBy home q (some h) = ruling home (readIs (h .body) (h .entry .bits .0) .found) q
+judgedBy home q (some h) = decisionOf (ruling home (readIs (h .body) (h .entry .bits .0) .found) q)
 
 -- the part of the request's user that an archive holds
 abbrev pub partIn : List ℕ → Request → Option Held

@@ -1,7 +1,14 @@
--- The numbers of a decision.
+-- What a rule says as a decision, and the numbers of a decision.
 use Prim.Native.Nat.{ℕ}
-use Rattle.rules.specs.declared.Decision.{Decision}
-use Rattle.rules.specs.declared.Decision.the-variants.{Allowed, Barred, NotHeld, Refused}
+use Rattle.rules.specs.declared.Ruling.{Ruling}
+use Rattle.rules.specs.declared.Ruling.the-variants as ruling
+use Rattle.barring.specs.declared.Decision.{Decision}
+use Rattle.barring.specs.declared.Decision.the-variants.{Allowed, Barred, NotHeld, Refused}
+
+-- a rule allows or bars; "not held" and refusals come from elsewhere
+abbrev pub decisionOf : Ruling → Decision
+decisionOf ruling.Allowed = Allowed
+decisionOf (ruling.Barred cause) = Barred cause
 
 -- the refusal number, 0 for none
 abbrev pub decidedNumber : Decision → ℕ

@@ -1,7 +1,7 @@
 // Whether a call is barred: the decision from an archive (document 01, "The barring rule").
 use archive::Fetched;
 use bits::BitCount;
-pub use rules::Decision;
+use rules::Ruling;
 use rules::request::Destination;
 use rules::request::Request;
 use rules::request::request_refusal;
@@ -12,7 +12,26 @@ ghost use Rattle.bits.specs.Frame.{bytesFor};
 ghost use Rattle.reader.specs.Read.{readIs};
 ghost use Rattle.rules.specs.Rule.{ruling};
 ghost use Rattle.archive.specs.Reading.{homeOf};
+ghost use Rattle.barring.specs.Decision.{decisionOf};
 ghost use Rattle.barring.specs.Decide.{partFor, decideIs};
+
+// The answer to a request: allowed; barred, with its cause; the part that judges it is not held; or refused, with its number.
+pub enum Decision {
+    Allowed,
+    Barred(u32),
+    NotHeld,
+    Refused(u32),
+}
+
+// What a part says, as the answer to a request.
+fn decision_of(ruling: Ruling) -> Decision
+    ensures { λ r. ⌜ r ≡ decisionOf ruling ⌝ }
+{
+    match ruling {
+        Ruling::Allowed => Decision::Allowed,
+        Ruling::Barred(cause) => Decision::Barred(cause),
+    }
+}
 
 // The part by which a destination is judged: 1 is the identity part, 2 the number part.
 fn part_for(destination: Destination) -> u32
@@ -27,12 +46,13 @@ fn part_for(destination: Destination) -> u32
 // What the body of n bits at a place of the archive says of the call.
 fn judge(archive: &[u8], at: usize, n: BitCount, request: Request) -> Decision
     requires { ⌜ at + bytesFor (n .0) ≤ length (now archive) ⌝ }
-    ensures { λ r. ⌜ r ≡ ruling (homeOf (now (archive .entry))) (readIs (take (bytesFor (n .0)) (drop at (now (archive .entry)))) (n .0) .found) request ⌝ }
+    ensures { λ r. ⌜ (let body = take (bytesFor (n .0)) (drop at (now (archive .entry))) in
+        r ≡ decisionOf (ruling (homeOf (now (archive .entry))) (readIs body (n .0) .found) request)) ⌝ }
 {
     let end = at + n.bytes();
     let reading = pdu::read(&archive[at..end], n);
     let part = reading.found;
-    rules::rule(part, archive::home(archive), request)
+    decision_of(rules::rule(part, archive::home(archive), request))
 }
 
 // Whether the archive bars the call: 9 before 7, then the part of the request's user.

@@ -9,8 +9,6 @@ use Rattle.reader.specs.declared.Answer.the-variants as answer
 use Rattle.writer.specs.Write.{writtenNumber, writeIs, outIs}
 use Rattle.writer.specs.declared.Written.{Written}
 use Rattle.writer.specs.declared.Written.the-variants as written
-use Rattle.rules.specs.declared.Decision.{Decision}
-use Rattle.rules.specs.declared.Decision.the-variants as decided
 use Rattle.archive.specs.declared.Archived.{Archived}
 use Rattle.archive.specs.declared.Archived.the-variants as archived
 use Rattle.archive.specs.declared.Restored.{Restored}
@@ -21,6 +19,8 @@ use Rattle.words.specs.RecordWords.{areRecord, recordWords, recordFrom}
 use Rattle.words.specs.RequestWords.{isRequest, requestFrom}
 use Rattle.barring.specs.Decide.{decideIs}
 use Rattle.barring.specs.Decision.{decidedNumber, verdictOf}
+use Rattle.barring.specs.declared.Decision.{Decision}
+use Rattle.barring.specs.declared.Decision.the-variants as decided
 
 -- ---- boc_read
 

@@ -10,7 +10,8 @@ use Rattle.bits.specs.Bits.{pick, bitsOf, value}
 use Rattle.codec.specs.Codec.{Codec}
 use Rattle.codec.specs.Parts.{number, absent, element, seq, _>>=_, _>>_, tested, shaped, mark}
 use Rattle.codec.specs.Places.{nil, cons, places}
-use Rattle.grammar.specs.SiteSheet.{ssType, rangeType, rowOf, entriesOf, rangeRefusal, digitOf, digitRefusal, serviceOf, serviceRefusal, kindRefusal, resultRefusal, askedRefusal, countRefusal, lengthRefusal}
+use Rattle.grammar.specs.SiteSheet.{ssType, entriesOf, rangeRefusal, digitRefusal, serviceRefusal, codes}
+use Rattle.grammar.specs.SiteSheet.{kindRefusal, resultRefusal, askedRefusal, countRefusal, lengthRefusal}
 use Rattle.grammar.specs.declared.site.ListKind.{ListKind}
 use Rattle.grammar.specs.declared.site.ListKind.the-variants as of
 use Rattle.grammar.specs.declared.record.Identity.{Identity}
@@ -224,7 +225,15 @@ pdu =
       restOf kind)
     toRecord fromRecord (λ a c f. refl) (λ r. refl))
 
--- `unfolding grammar` opens all of it
+-- `unfolding grammar` opens all of it, part by part
+unfoldable pub codecs : Unit {0}
+unfolding mark shaped seq element tested number absent places cons nil bitsOf value
+codecs = tt
+
+unfoldable pub entries : Unit {0}
+unfolding extension identity noIdentity endsRefusal rangeEnds identities noIdentities external noExternal externals noExternals
+entries = tt
+
 unfoldable pub grammar : Unit {0}
-unfolding pdu mark shaped seq element tested number absent places cons nil extension identity noIdentity endsRefusal rangeEnds identities noIdentities external noExternal externals noExternals services noServices identityPart numberPart noPart interrogate interrogateAck rangeType rowOf rangeRefusal digitOf digitRefusal serviceOf serviceRefusal kindRefusal resultRefusal bitsOf value
+unfolding pdu interrogate interrogateAck services noServices identityPart numberPart noPart entries codecs codes
 grammar = tt

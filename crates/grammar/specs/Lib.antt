@@ -3,3 +3,4 @@ pub mod Grammar
 pub mod Zero
 pub mod ProfileRecords
 pub mod Examples
+pub mod Tables

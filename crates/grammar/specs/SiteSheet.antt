@@ -109,3 +109,8 @@ countRefusal = between 1 7
 -- length of an external number: 1 to 24 digits
 abbrev pub lengthRefusal : ℕ → ℕ
 lengthRefusal = between 1 24
+
+-- `unfolding codes` opens all of it
+unfoldable pub codes : Unit {0}
+unfolding rangeType rowOf rangeRefusal digitOf digitRefusal allDigits serviceOf serviceRefusal kindRefusal resultRefusal
+codes = tt

@@ -21,7 +21,8 @@ abbrev pub zeroServices : Services
 zeroServices = record { count = 0; list = replicate 7 0 }
 
 abbrev pub zeroLists : Lists
-zeroLists = record { groups = zeroIdentities; restricted = zeroIdentities; exceptions = zeroIdentities; numbers = zeroNumbers; excepted = zeroNumbers }
+zeroLists =
+    record { groups = zeroIdentities; restricted = zeroIdentities; exceptions = zeroIdentities; numbers = zeroNumbers; excepted = zeroNumbers }
 
 abbrev pub zeroRecord : Record
 zeroRecord = record { kind = 0; affected = zeroIdentities; asked = 0; result = 0; delivery = 0; services = zeroServices; lists = zeroLists }

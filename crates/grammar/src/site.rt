@@ -1,7 +1,8 @@
 // The codes of a PDU's elements, by the site sheet and the standard's tables: each has its meaning or is refused.
 ghost use mathlib.Core.Path.{_≡_};
 ghost use Rattle.codec.specs.Parts.{only};
-ghost use Rattle.grammar.specs.SiteSheet.{rangeType, rowOf, rangeRefusal, ssType, digitOf, digitRefusal, allDigits, serviceOf, serviceRefusal, kindRefusal, resultRefusal, between};
+ghost use Rattle.grammar.specs.SiteSheet.{rangeType, rowOf, rangeRefusal, ssType, digitOf, digitRefusal, allDigits, serviceOf};
+ghost use Rattle.grammar.specs.SiteSheet.{serviceRefusal, kindRefusal, resultRefusal, between};
 ghost use Rattle.grammar.specs.Grammar.{endsRefusal, networkOf};
 use crate::record::Identity;
 

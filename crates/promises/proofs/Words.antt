@@ -18,6 +18,7 @@ use Rattle.promises.specs.Words.{Promise}
 use Rattle.promises.proofs.Demand1.Reading as reading
 use Rattle.promises.proofs.Demand1.Writing as writing
 use Rattle.promises.proofs.Demand1.Decision as deciding
+use Rattle.promises.proofs.Requests.{tests}
 
 -- 0 is answered to 514 words and a PDU that is accepted
 read-both : (s : List ℕ) (n words : ℕ) → readNumber s n words ≡ 0 → (words ≡ 514) × (refusalOf (readIs s n .answer) ≡ 0)
@@ -39,7 +40,7 @@ decided-words b w e =
     let q = requestFrom w in
     let k = picked (eqb (length w) 34 && areRequest w) e (λ x. omega arith) in
     let are = both (eqb (length w) 34) (areRequest w) (k .0) in
-    let r = deciding.accepted q b 0 (deciding.promise .table b q .exactly 0 .0 (k .1)) refl .0 in
+    let r = tests q (deciding.accepted q b 0 (deciding.promise .table b q .exactly 0 .0 (k .1)) refl .0) in
     ranged-words w (eqb-true (length w) 34 (are .0)) (are .1) (r .destination) (r .digits) (r .unused)
 
 pub promise : Promise

@@ -11,14 +11,15 @@ use Rattle.reader.specs.Read.{readIs}
 use Rattle.rules.specs.Request.{requestRefusal}
 use Rattle.rules.specs.Rule.{ruling}
 use Rattle.rules.specs.declared.request.Request.{Request}
-use Rattle.rules.specs.declared.Decision.the-variants.{Allowed, NotHeld}
 use Rattle.archive.specs.Keeping.{over, emptyIs, emptyOut}
 use Rattle.archive.specs.Restoring.{inRange, restoreIs, restoreOut}
 use Rattle.archive.specs.History.{Offer, afterAll, lastAccepted}
 use Rattle.archive.specs.declared.Archived.the-variants.{Bytes}
 use Rattle.archive.specs.declared.Restored.the-variants.{Bits, Refused}
 use Rattle.archive.proofs.History as history
+use Rattle.barring.specs.Decision.{decisionOf}
 use Rattle.barring.specs.Decide.{partFor, partIn, decideIs}
+use Rattle.barring.specs.declared.Decision.the-variants.{Allowed, NotHeld}
 use Rattle.barring.proofs.History as deciding
 
 -- The empty archive of a home network, the m bytes that `empty` wrote; and PDUs offered one after another, each with the buffer lent for it.
@@ -34,7 +35,8 @@ module _ (home : ℕ) (lent : List ℕ) (m : ℕ) (e : emptyIs home (length lent
   module _ (network ssi part : ℕ) (r : inRange network ssi part ≡ true) (out : List ℕ) where
     -- Restoring gives exactly its bits, if the buffer has room for them,
     pub restores-the-last : (o : Offer) → last network ssi part ≡ some o → bytesFor (o .bits) ≤ length out
-        → (restoreIs archive network ssi part (length out) ≡ Bits (record { 0 = o .bits })) × (restoreOut archive network ssi part out ≡ over (o .pdu) out)
+        → (restoreIs archive network ssi part (length out) ≡ Bits (record { 0 = o .bits }))
+        × (restoreOut archive network ssi part out ≡ over (o .pdu) out)
     restores-the-last = history.always home lent m e offers network ssi part r out
 
     -- or "not held", and no byte changed.
@@ -45,7 +47,7 @@ module _ (home : ℕ) (lent : List ℕ) (m : ℕ) (e : emptyIs home (length lent
   module _ (q : Request) (f : requestRefusal q ≡ 0) where
     -- The decision is the barring rule applied to the record of that same PDU,
     pub decides-by-the-last : (o : Offer) → last (q .user .network) (q .user .ssi) (partFor (q .destination)) ≡ some o
-        → decideIs archive q ≡ ruling home (readIs (o .pdu) (o .bits) .found) q
+        → decideIs archive q ≡ decisionOf (ruling home (readIs (o .pdu) (o .bits) .found) q)
     decides-by-the-last o l = deciding.decided home lent m e offers q f ∙ ap (deciding.saidBy home q) l
 
     -- or "not held".

@@ -4,6 +4,7 @@ pub mod Demand2
 pub mod Demand3
 pub mod Archive
 pub mod Profiles
+pub mod Cases
 pub mod Rules
 pub mod Words
 pub mod Determined

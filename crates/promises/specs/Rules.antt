@@ -6,7 +6,7 @@ use Rattle.grammar.specs.declared.record.Record.{Record}
 use Rattle.rules.specs.Matching.{covered}
 use Rattle.rules.specs.Rule.{isExcepted, ruling, outsideGroup}
 use Rattle.rules.specs.declared.request.Request.{Request}
-use Rattle.rules.specs.declared.Decision.the-variants.{Allowed, Barred}
+use Rattle.rules.specs.declared.Ruling.the-variants.{Allowed, Barred}
 use Rattle.rules.proofs.Rules as rules
 
 module _ (home : ℕ) (part : Record) (q : Request) where

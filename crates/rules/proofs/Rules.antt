@@ -7,9 +7,10 @@ use Rattle.bits.specs.Bits.{pick}
 use Rattle.bits.proofs.Tests.{never, same-pick}
 use Rattle.grammar.specs.declared.record.Record.{Record}
 use Rattle.rules.specs.Matching.{covered}
-use Rattle.rules.specs.Rule.{isExcepted, isRestricted, isOutside, inGroups, bothEmpty, ruling, sixRules, outsideGroup, restrictedService, restrictedAddress}
+use Rattle.rules.specs.Rule.{isExcepted, isRestricted, isOutside, inGroups, bothEmpty, ruling, sixRules}
+use Rattle.rules.specs.Rule.{outsideGroup, restrictedService, restrictedAddress}
 use Rattle.rules.specs.declared.request.Request.{Request}
-use Rattle.rules.specs.declared.Decision.the-variants.{Allowed, Barred}
+use Rattle.rules.specs.declared.Ruling.the-variants.{Allowed, Barred}
 
 module _ (home : ℕ) (r : Record) (q : Request) where
   -- a call by a service that the part does not list is allowed
@@ -34,7 +35,8 @@ module _ (home : ℕ) (r : Record) (q : Request) where
       (isRestricted home (r .lists) (q .destination) (q .digits)) (bothEmpty (r .lists) (q .destination)) (rw (inside h) at e)
     where
       apart : (a b c d : Bool)
-          → pick (not a) Allowed (pick b Allowed (pick c (Barred restrictedAddress) (pick d (Barred restrictedService) Allowed))) ≡ Barred outsideGroup → ⊥
+          → pick (not a) Allowed (pick b Allowed (pick c (Barred restrictedAddress) (pick d (Barred restrictedService) Allowed)))
+          ≡ Barred outsideGroup → ⊥
       apart false b c d e = never cc
       apart true true c d e = never cc
       apart true false true d e = never cc

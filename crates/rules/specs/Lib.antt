@@ -1,5 +1,5 @@
 pub mod Request
 pub mod Matching
 pub mod Rule
-pub mod Profiles
+pub mod ProfileCalls
 pub mod Examples

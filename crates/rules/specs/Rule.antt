@@ -8,7 +8,7 @@ use Rattle.bits.specs.Lists.{some}
 use Rattle.grammar.specs.declared.record.Identities.{Identities}
 use Rattle.grammar.specs.declared.record.Lists.{Lists}
 use Rattle.grammar.specs.declared.record.Record.{Record}
-use Rattle.grammar.specs.SiteSheet.{rangeType, rowOf}
+use Rattle.grammar.specs.SiteSheet.{codes}
 use Rattle.grammar.specs.Grammar.{networkOf}
 use Rattle.rules.specs.Matching.{isEntry, inRange, identityAmong, same, isNumber, numberAmong, isCovering, covered}
 use Rattle.rules.specs.declared.request.Destination.{Destination}
@@ -16,8 +16,8 @@ use Rattle.rules.specs.declared.request.Destination.the-variants.{Identi
 use Rattle.rules.specs.declared.request.Group.{Group}
 use Rattle.rules.specs.declared.request.Group.the-variants.{Of, NoGroup}
 use Rattle.rules.specs.declared.request.Request.{Request}
-use Rattle.rules.specs.declared.Decision.{Decision}
-use Rattle.rules.specs.declared.Decision.the-variants.{Allowed, Barred}
+use Rattle.rules.specs.declared.Ruling.{Ruling}
+use Rattle.rules.specs.declared.Ruling.the-variants.{Allowed, Barred}
 
 -- rejection causes, table 38: called party outside allowed user group; restricted service type; restricted destination address
 abbrev pub outsideGroup : ℕ
@@ -65,7 +65,7 @@ bothEmpty l destination = isEmpty (l .groups .code) && isEmpty (restrictedCode l
 
 -- ---- the six rules, first that applies
 
-unfoldable pub sixRules : ℕ → Record → Request → Decision
+unfoldable pub sixRules : ℕ → Record → Request → Ruling
 sixRules missing r q =
     pick (not (covered (r .services) (q .service))) Allowed  -- 1
     (pick (isExcepted missing (r .lists) (q .destination) (q .digits)) Allowed  -- 2
@@ -75,10 +75,11 @@ sixRules missing r q =
     Allowed))))  -- 6
 
 -- an entry without extension means the home network
-unfoldable pub ruling : ℕ → Record → Request → Decision
+unfoldable pub ruling : ℕ → Record → Request → Ruling
 ruling home r q = sixRules home r q
 
 -- `unfolding rules` opens all of it
 unfoldable pub rules : Unit {0}
-unfolding ruling sixRules isExcepted isRestricted isOutside bothEmpty covered isCovering identityAmong isEntry inRange networkOf numberAmong isNumber same some rangeType rowOf
+unfolding ruling sixRules isExcepted isRestricted isOutside bothEmpty covered isCovering identityAmong isEntry inRange networkOf codes
+    numberAmong isNumber same some
 rules = tt

@@ -20,40 +20,38 @@ const RESTRICTED_SERVICE: u32 = 1;
 
 const RESTRICTED_ADDRESS: u32 = 2;
 
-// The answer to a request: allowed; barred, with its cause; the part that judges it is not held; or refused, with its number.
-pub enum Decision {
+// What a part says of a call: allowed; or barred, with its cause.
+pub enum Ruling {
     Allowed,
     Barred(u32),
-    NotHeld,
-    Refused(u32),
 }
 
 // What the part of a user says of a call of that user: the first rule that applies.
-pub fn rule(part: Record, home: u32, request: Request) -> Decision
+pub fn rule(part: Record, home: u32, request: Request) -> Ruling
     ensures { λ r. ⌜ r ≡ ruling home part request ⌝ }
 {
     // An entry without extension means the home network.
     let missing = home;
     let services = part.services;
     if !covers(services, request.service) {
-        return Decision::Allowed;
+        return Ruling::Allowed;
     }
     let lists = part.lists;
     let destination = request.destination;
     let digits = request.digits;
     if is_excepted(lists, missing, destination, digits) {
-        return Decision::Allowed;
+        return Ruling::Allowed;
     }
     if is_restricted(lists, missing, destination, digits) {
-        return Decision::Barred(RESTRICTED_ADDRESS);
+        return Ruling::Barred(RESTRICTED_ADDRESS);
     }
     let groups = lists.groups;
     let group = request.group;
     if is_outside(groups, missing, group) {
-        return Decision::Barred(OUTSIDE_GROUP);
+        return Ruling::Barred(OUTSIDE_GROUP);
     }
     if both_empty(lists, destination) {
-        return Decision::Barred(RESTRICTED_SERVICE);
+        return Ruling::Barred(RESTRICTED_SERVICE);
     }
-    Decision::Allowed
+    Ruling::Allowed
 }

@@ -36,7 +36,7 @@ fn in_range(first: Identity, last: Identity, missing: u32, u: User) -> bool
 }
 
 // One of n single entries is this user.
-fn is_single(entries: [Identity; 8], n: u32, missing: u32, u: User) -> bool
+fn is_one_of(entries: [Identity; 8], n: u32, missing: u32, u: User) -> bool
     ensures { λ r. ⌜ r ≡ some (isEntry missing u) (take n entries) ⌝ }
 {
     let count = bits::least(n as usize, 8);
@@ -59,7 +59,7 @@ pub(crate) fn identity_among(list: Identities, missing: u32, u: User) -> bool
     let entries = list.entries;
     match grammar::site::range_type(list.code) {
         RangeType::Empty => false,
-        RangeType::Single(n) => is_single(entries, n, missing, u),
+        RangeType::Single(n) => is_one_of(entries, n, missing, u),
         RangeType::FirstAndLast => in_range(entries[0], entries[1], missing, u),
         RangeType::NoRangeType => false,
     }

@@ -83,7 +83,7 @@ fn digits_used(destination: Destination) -> DigitCount
 }
 
 // Each used place has a legal digit.
-fn has_digits(digits: [u8; 24], length: DigitCount) -> bool
+fn used_are_digits(digits: [u8; 24], length: DigitCount) -> bool
     ensures { λ r. ⌜ r ≡ every isDigit (take (length .0) digits) ⌝ }
 {
     let n = bits::least(length.0 as usize, 24);
@@ -98,7 +98,7 @@ fn has_digits(digits: [u8; 24], length: DigitCount) -> bool
 }
 
 // Each place that is not used is zero.
-fn is_clear(digits: [u8; 24], length: DigitCount) -> bool
+fn unused_are_zero(digits: [u8; 24], length: DigitCount) -> bool
     ensures { λ r. ⌜ r ≡ every isUnused (drop (length .0) digits) ⌝ }
 {
     let mut i = bits::least(length.0 as usize, 24);
@@ -132,10 +132,10 @@ pub fn request_refusal(request: Request) -> u32
     }
     let digits = request.digits;
     let length = digits_used(destination);
-    if !has_digits(digits, length) {
+    if !used_are_digits(digits, length) {
         return 9;
     }
-    if !is_clear(digits, length) {
+    if !unused_are_zero(digits, length) {
         return 9;
     }
     0

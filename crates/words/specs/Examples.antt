@@ -6,7 +6,7 @@ use Prim.Native.Nat.{ℕ}
 use lib.ListN.{length, replicate}
 use Rattle.grammar.specs.Zero.{zeroRecord}
 use Rattle.grammar.specs.ProfileRecords.{A}
-use Rattle.rules.specs.Profiles.{speech, group500}
+use Rattle.rules.specs.ProfileCalls.{speech, group500}
 use Rattle.rules.specs.declared.request.Destination.the-variants.{Number}
 use Rattle.rules.specs.declared.request.Group.the-variants.{NoGroup}
 use Rattle.words.specs.RecordWords.{word, recordWords, narrowed, records}

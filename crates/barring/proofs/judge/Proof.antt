@@ -4,6 +4,9 @@ use Prim.Native.Nat.{ℕ}
 use lib.ListN.{take, drop}
 use Rattle.bits.specs.Frame.{bytesFor}
 use Rattle.reader.specs.Read.{readIs}
+use Rattle.rules.specs.Rule.{ruling}
+use Rattle.archive.specs.Reading.{homeOf}
+use Rattle.barring.specs.Decision.{decisionOf}
 use native.Mathlib.Nat.{add-sub-cancel-left}
 use borrow.Author.Needs.{needs}
 use Rattle.barring.proofs.judge.Statement.{statement}
@@ -11,14 +14,18 @@ use Rattle.barring.proofs.judge.Tie as tie
 
 returns : tie.Need-returns
 returns c =
-    let h = c .before in
+    let u = c .before in
+    let h = u .before in
     let r = h .before .before in
     let b = r .before .before in
     let a = b .before .before .args in
-    let body : r .read .result ≡ readIs (take (bytesFor (a .n .0)) (drop (a .at) (a .archive .now))) (a .n .0) =
+    let s = drop (a .at) (a .archive .now) in
+    let body : r .read .result ≡ readIs (take (bytesFor (a .n .0)) s) (a .n .0) =
     r .read .ensures
-    ∙ ap (λ (k : ℕ). readIs (take k (drop (a .at) (a .archive .now))) (a .n .0)) (add-sub-cancel-left (a .at) (b .bytes .result) ∙ b .bytes .ensures) in
-    c .rule .ensures ∙ rw (h .home .ensures, body)
+    ∙ ap (λ (k : ℕ). readIs (take k s) (a .n .0)) (add-sub-cancel-left (a .at) (b .bytes .result) ∙ b .bytes .ensures) in
+    let ruled : u .rule .result ≡ ruling (homeOf (a .archive .now)) (readIs (take (bytesFor (a .n .0)) s) (a .n .0) .found) (a .request) =
+    u .rule .ensures ∙ rw (h .home .ensures, body) in
+    c .decision-of .ensures ∙ ap decisionOf ruled
 
 pub judge-spec : {M : Type 1} → statement M
 judge-spec =
@@ -29,6 +36,7 @@ judge-spec =
     (λ c. search needs)
     (λ c. search needs)
     (λ c. search needs)
+    (λ c κs. search needs)
     (λ c κs. search needs)
     (λ c κs. search needs)
     (λ c κs. search needs)

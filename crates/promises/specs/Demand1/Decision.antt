@@ -1,35 +1,63 @@
 -- Demand 1, the decision: "9, 7. Each is given exactly then." It is lent nothing to change.
 use mathlib.Core.Path.{_≡_, refl}
+use mathlib.Core.Logic.{_↔_}
 use mathlib.Core.Bool.{true, false}
 use mathlib.Core.List.{List, [], _∷_}
-use Prim.Native.Nat.{ℕ}
+use Prim.Native.Nat.{ℕ, _≤_, _<_}
 use lib.ListN.{take, drop, replicate}
-use Rattle.bits.specs.Lists.{every}
-use Rattle.rules.specs.Request.{isUser, isService, isDestination, isGroup, isDigit, isUnused, digitsUsed, requests}
-use Rattle.rules.specs.Profiles.{speech}
-use Rattle.rules.specs.declared.request.Group.the-variants.{NoGroup}
+use Rattle.bits.specs.Lists.{Each}
+use Rattle.rules.specs.Request.{requestRefusal, requests}
+use Rattle.rules.specs.ProfileCalls.{speech}
+use Rattle.rules.specs.declared.request.User.{User}
+use Rattle.rules.specs.declared.request.Destination.{Destination}
+use Rattle.rules.specs.declared.request.Destination.the-variants.{Identity, Number}
+use Rattle.rules.specs.declared.request.Group.{Group}
+use Rattle.rules.specs.declared.request.Group.the-variants.{Of, NoGroup}
 use Rattle.rules.specs.declared.request.Request.{Request}
-use Rattle.rules.specs.declared.Decision.{Decision}
-use Rattle.rules.specs.declared.Decision.the-variants.{Allowed, Barred, NotHeld}
 use Rattle.archive.specs.Reading.{isArchive}
 use Rattle.archive.specs.Examples.{calls}
 use Rattle.barring.specs.Decide.{decideIs}
 use Rattle.barring.specs.Decision.{decidedNumber, verdictOf}
+use Rattle.barring.specs.declared.Decision.{Decision}
+use Rattle.barring.specs.declared.Decision.the-variants.{Allowed, Barred, NotHeld}
 use Rattle.promises.specs.Answers.{Exactly}
 
 abbrev pub number : List ℕ → Request → ℕ
 number b q = decidedNumber (decideIs b q)
 
--- a request in its range
-pub record Ranged (q : Request) : Type 0 where
-  pub user : isUser (q .user) ≡ true
-  pub service : isService (q .service) ≡ true
-  pub destination : isDestination (q .destination) ≡ true
-  pub group : isGroup (q .group) ≡ true
-  pub digits : every isDigit (take (digitsUsed (q .destination)) (q .digits)) ≡ true
-  pub unused : every isUnused (drop (digitsUsed (q .destination)) (q .digits)) ≡ true
+-- ---- a request in its range
 
--- the table of refusals, as far as the decision goes
+-- networks and SSIs are below 16,777,216
+abbrev pub Below : User → Type 0
+Below u = (u .network < 16777216) × (u .ssi < 16777216)
+
+-- an identity, or an external number of 1 to 24 digits
+abbrev pub Reached : Destination → Type 0
+Reached (Identity u) = Below u
+Reached (Number length) = (1 ≤ length .0) × (length .0 ≤ 24)
+
+-- a group or none
+abbrev pub Grouped : Group → Type 0
+Grouped (Of u) = Below u
+Grouped NoGroup = Unit {0}
+
+-- an identity uses no digit place, a number as many as its length
+abbrev pub used : Destination → ℕ
+used (Identity u) = 0
+used (Number length) = length .0
+
+pub record Ranged (q : Request) : Type 0 where
+  pub user : Below (q .user)
+  pub service : (1 ≤ q .service) × (q .service ≤ 3)
+  pub destination : Reached (q .destination)
+  pub group : Grouped (q .group)
+  -- digits are 0 to 9, *, # and +
+  pub digits : Each (λ d. d ≤ 12) (take (used (q .destination)) (q .digits))
+  -- places that are not used are zero
+  pub unused : Each (λ d. d ≡ 0) (drop (used (q .destination)) (q .digits))
+
+-- ---- the table of refusals, as far as the decision goes
+
 pub data Given (b : List ℕ) (q : Request) : ℕ → Type 0 where
   success : Ranged q → isArchive b ≡ true → Given b q 0
   -- 9: a request out of its range
@@ -52,6 +80,8 @@ pub data Verdict : ℕ → Decision → Type 0 where
 
 -- Proved in proofs/Demand1/Decision.antt.
 pub record Promise : Type 0 where
+  -- a request is not refused exactly if it is in its range
+  pub ranged : (q : Request) → (requestRefusal q ≡ 0) ↔ Ranged q
   pub table : (b : List ℕ) (q : Request) → Exactly (number b q) (0 ∷ 9 ∷ 7 ∷ []) (Given b q)
   -- "Success returns the decision."
   pub success : (b : List ℕ) (q : Request) → number b q ≡ 0 → Verdict (verdictOf (decideIs b q)) (decideIs b q)

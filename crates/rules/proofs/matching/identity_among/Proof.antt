@@ -12,7 +12,7 @@ returns-2 : tie.Need-returns-2
 unfolding identityAmong
 returns-2 c =
     let d = c .before .before in
-    rw (← d .before .before .range-type .ensures, d .n .given .1) (c .is-single .ensures)
+    rw (← d .before .before .range-type .ensures, d .n .given .1) (c .is-one-of .ensures)
 
 returns-3 : tie.Need-returns-3
 unfolding identityAmong

@@ -44,7 +44,7 @@ returns-5 : tie.Need-returns-5
 unfolding requestRefusal
 returns-5 c =
     let d = c .before .before in
-    rw (grouped (d .before .before), ← d .digits-used .ensures, said-no (c .before .has-digits .ensures) (c .if5 .taken))
+    rw (grouped (d .before .before), ← d .digits-used .ensures, said-no (c .before .used-are-digits .ensures) (c .if5 .taken))
 
 returns-6 : tie.Need-returns-6
 unfolding requestRefusal
@@ -53,8 +53,8 @@ returns-6 c =
     rw (
       grouped (d .before .before),
       ← d .digits-used .ensures,
-      said-yes (c .before .before .before .has-digits .ensures) (c .before .before .if5 .left),
-      said-no (c .before .is-clear .ensures) (c .if6 .taken),
+      said-yes (c .before .before .before .used-are-digits .ensures) (c .before .before .if5 .left),
+      said-no (c .before .unused-are-zero .ensures) (c .if6 .taken),
     )
 
 returns-7 : tie.Need-returns-7
@@ -64,8 +64,8 @@ returns-7 c =
     rw (
       grouped (d .before .before),
       ← d .digits-used .ensures,
-      said-yes (c .before .before .before .has-digits .ensures) (c .before .before .if5 .left),
-      said-yes (c .before .is-clear .ensures) (c .if6 .left),
+      said-yes (c .before .before .before .used-are-digits .ensures) (c .before .before .if5 .left),
+      said-yes (c .before .unused-are-zero .ensures) (c .if6 .left),
     )
 
 pub request-refusal-spec : {M : Type 1} → statement M

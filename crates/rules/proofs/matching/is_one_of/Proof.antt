@@ -11,8 +11,8 @@ use Rattle.bits.proofs.Lists.{take-used}
 use Rattle.grammar.specs.Grammar.{zeroIdentity}
 use Rattle.rules.specs.Matching.{isEntry}
 use Rattle.rules.proofs.Search.{passed, found, some-end}
-use Rattle.rules.proofs.matching.is_single.Statement.{statement}
-use Rattle.rules.proofs.matching.is_single.Tie as tie
+use Rattle.rules.proofs.matching.is_one_of.Statement.{statement}
+use Rattle.rules.proofs.matching.is_one_of.Tie as tie
 
 abbrev Inv-entries : tie.InvT-entries
 Inv-entries n missing u entries count found₀ i₀ found i =
@@ -52,8 +52,8 @@ returns-2 c =
     found (isEntry (a .missing) (a .u)) (a .t1) zeroIdentity (d .entries-test .taken) (omega arith)
     (sym (c .before .is-entry .ensures) ∙ c .if1 .taken) (d .before .entries .inv .1 .1)
 
-pub is-single-spec : {M : Type 1} → statement M
-is-single-spec =
+pub is-one-of-spec : {M : Type 1} → statement M
+is-one-of-spec =
     tie.close
     (tie.spec
     Inv-entries

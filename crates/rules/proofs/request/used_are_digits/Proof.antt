@@ -10,8 +10,8 @@ use Rattle.bits.specs.Lists.{every}
 use Rattle.bits.proofs.Lists.{take-used}
 use Rattle.rules.specs.Request.{isDigit}
 use Rattle.rules.proofs.Search.{stays, fails, every-end}
-use Rattle.rules.proofs.request.has_digits.Statement.{statement}
-use Rattle.rules.proofs.request.has_digits.Tie as tie
+use Rattle.rules.proofs.request.used_are_digits.Statement.{statement}
+use Rattle.rules.proofs.request.used_are_digits.Tie as tie
 
 abbrev Inv-loop : tie.InvT-loop
 Inv-loop digits n i₀ i = (i ≤ n) × (every isDigit (slice i n digits) ≡ every isDigit (take n digits))
@@ -51,8 +51,8 @@ returns-2 c =
     let a = c .before .before .before .before .args in
     every-end (c .loop-test .left) isDigit (a .t1) (c .before .loop .inv .1) ∙ whole (c .before .before)
 
-pub has-digits-spec : {M : Type 1} → statement M
-has-digits-spec =
+pub used-are-digits-spec : {M : Type 1} → statement M
+used-are-digits-spec =
     tie.close
     (tie.spec
     Inv-loop

@@ -10,8 +10,8 @@ use Rattle.bits.specs.Lists.{every}
 use Rattle.bits.proofs.Lists.{drop-used}
 use Rattle.rules.specs.Request.{isUnused}
 use Rattle.rules.proofs.Search.{stays, fails, every-end}
-use Rattle.rules.proofs.request.is_clear.Statement.{statement}
-use Rattle.rules.proofs.request.is_clear.Tie as tie
+use Rattle.rules.proofs.request.unused_are_zero.Statement.{statement}
+use Rattle.rules.proofs.request.unused_are_zero.Tie as tie
 
 abbrev Inv-loop : tie.InvT-loop
 Inv-loop digits i₀ i = (i ≤ 24) × (every isUnused (slice i 24 digits) ≡ every isUnused (slice i₀ 24 digits))
@@ -48,8 +48,8 @@ returns-2 c =
     let done : 24 ≤ d .loop .i = omega arith in
     every-end done isUnused (d .before .before .before .args .t1) (d .loop .inv .1) ∙ rest (d .before)
 
-pub is-clear-spec : {M : Type 1} → statement M
-is-clear-spec =
+pub unused-are-zero-spec : {M : Type 1} → statement M
+unused-are-zero-spec =
     tie.close
     (tie.spec
     Inv-loop
