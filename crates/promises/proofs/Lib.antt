@@ -1,4 +1,6 @@
 pub mod Tables
 pub mod Demand1
 pub mod Words
+pub mod Calls
+pub mod Sequences
 pub mod Determined

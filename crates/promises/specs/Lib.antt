@@ -6,4 +6,6 @@ pub mod Archive
 pub mod Profiles
 pub mod Rules
 pub mod Words
+pub mod Calls
+pub mod Sequences
 pub mod Determined
