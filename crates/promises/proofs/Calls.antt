@@ -34,9 +34,12 @@ use Rattle.words.specs.RecordWords.{word, recordWords, recordFrom}
 use Rattle.words.specs.RequestWords.{areDestination, areGroup, areRequest, isRequest, requestFrom}
 use Rattle.barring.specs.Decide.{partIn, decideIs}
 use Rattle.barring.specs.Decision.{decidedNumber, verdictOf}
-use Rattle.boc.specs.Calls.{ifAccepted, readNumber, readWords, writtenLength, writeNumber, writeOut, writeBits, archivedLength, emptyNumber, captureNumber, restoredLength, restoreNumber, decidedVerdict, decideNumber, decideDecision, listedLength, contentsNumber}
+use Rattle.boc.specs.Calls.{ifAccepted, readNumber, readWords, writtenLength, writeNumber, writeOut, writeBits, archivedLength, emptyNumber}
+use Rattle.boc.specs.Calls.{captureNumber, restoredLength, restoreNumber, decidedVerdict, decideNumber, decideDecision, listedLength}
+use Rattle.boc.specs.Calls.{contentsNumber}
 use Rattle.promises.specs.Answers.{OneOf, Exactly}
-use Rattle.promises.specs.Calls.{Checked, wrong, right, OfRecord, OfDestination, identity, number, OfGroup, given, not-given, OfRequest, Read, Write, Empty, Capture, Restore, Decide, Contents}
+use Rattle.promises.specs.Calls.{Checked, wrong, right, OfRecord, OfDestination, identity, number, OfGroup, given, not-given, OfRequest}
+use Rattle.promises.specs.Calls.{Read, Write, Empty, Capture, Restore, Decide, Contents}
 use Rattle.promises.specs.Demand1.Reading as read
 use Rattle.promises.specs.Demand1.Decision as decision
 use Rattle.promises.proofs.Tables.{exactly, wider}
@@ -141,7 +144,9 @@ module _ (s : List ℕ) (n : ℕ) (w : List ℕ) where
   pub read-kept : Read s n w
   unfolding readNumber readWords
   read-kept = record {
-    table = checked (eqb (length w) 514) (eqb-true (length w) 514) (eq-eqb (length w) 514) refl (wider read.numbers (9 ∷ []) (refusalOf (readIs s n .answer))) (reading.promise .table s n);
+    table =
+        checked (eqb (length w) 514) (eqb-true (length w) 514) (eq-eqb (length w) 514) refl
+        (wider read.numbers (9 ∷ []) (refusalOf (readIs s n .answer))) (reading.promise .table s n);
     success = λ e.
         let k = picked (eqb (length w) 514) e (λ x. omega arith) in
         let p = reading.promise .success s n (k .1) in
@@ -161,7 +166,8 @@ module _ (w out : List ℕ) (old : ℕ) where
   unfolding writeNumber writeOut writeBits
   write-kept = record {
     table =
-        checked (eqb (length w) 514) (eqb-true (length w) 514) (eq-eqb (length w) 514) refl (wider (0 ∷ 3 ∷ 4 ∷ 8 ∷ []) (9 ∷ []) (writtenNumber (writeIs (recordFrom w) out)))
+        checked (eqb (length w) 514) (eqb-true (length w) 514) (eq-eqb (length w) 514) refl
+        (wider (0 ∷ 3 ∷ 4 ∷ 8 ∷ []) (9 ∷ []) (writtenNumber (writeIs (recordFrom w) out)))
         (writing.promise .table (recordFrom w) out);
     success = λ e.
         let k = picked (eqb (length w) 514) e (λ x. omega arith) in

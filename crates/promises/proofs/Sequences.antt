@@ -48,7 +48,8 @@ zero-taken b o e =
 not-zero : (k : ℕ) → eqb (suc k) 0 ≡ false
 not-zero k = false-unless (eqb (suc k) 0) (λ t. absurd (omega (arith, eqb-true (suc k) 0 t)))
 
-goes : (a : Archived) (b out : List ℕ) (old : ℕ) → (a ≡ Refused 0 → ⊥) → pick (eqb (archivedNumber a) 0) (take (archivedLength a old) out) b ≡ keptOf a b out
+goes : (a : Archived) (b out : List ℕ) (old : ℕ) → (a ≡ Refused 0 → ⊥)
+    → pick (eqb (archivedNumber a) 0) (take (archivedLength a old) out) b ≡ keptOf a b out
 goes (Bytes n) b out old h = refl
 goes (Refused zero) b out old h = absurd (h refl)
 goes (Refused (suc k)) b out old h = rw (not-zero k)
@@ -74,7 +75,8 @@ gone-on-all b [] = refl
 gone-on-all b (c ∷ cs) = gone-on-all (goneOn b c) cs ∙ ap (λ (x : List ℕ). afterAll x (offers cs)) (gone-on b c)
 
 module _ (network ssi part : ℕ) where
-  last-zero : (b : List ℕ) (last : Option Offer) (cs : List Call) → lastZero network ssi part b last cs ≡ lastAccepted network ssi part b last (offers cs)
+  last-zero : (b : List ℕ) (last : Option Offer) (cs : List Call)
+      → lastZero network ssi part b last cs ≡ lastAccepted network ssi part b last (offers cs)
   unfolding lastZero lastAccepted offers
   last-zero b last [] = refl
   last-zero b last (c ∷ cs) =
@@ -94,7 +96,8 @@ request-zero : (b : List ℕ) (q : Request) → decidedNumber (decideIs b q) ≡
 unfolding decideIs
 request-zero b q = go (eqb (requestRefusal q) 0) refl (pick (isArchive b) (judgedBy (reading b .home) q (partIn b q)) (decided.Refused 7))
   where
-    go : (p : Bool) → eqb (requestRefusal q) 0 ≡ p → (d : Decision) → decidedNumber (pick p d (decided.Refused (requestRefusal q))) ≡ 0 → requestRefusal q ≡ 0
+    go : (p : Bool) → eqb (requestRefusal q) 0 ≡ p → (d : Decision) → decidedNumber (pick p d (decided.Refused (requestRefusal q))) ≡ 0
+        → requestRefusal q ≡ 0
     go true f d e = eqb-true (requestRefusal q) 0 f
     go false f d e = e
 
@@ -138,7 +141,9 @@ module _ (home : ℕ) (lent : List ℕ) (old : ℕ) (calls : List Call) (e : emp
 
   last-is : (network ssi part : ℕ) → lastAccepted network ssi part start none (offers calls) ≡ last network ssi part
   last-is network ssi part =
-      sym (last-zero network ssi part (begun home lent old) none calls ∙ ap (λ (x : List ℕ). lastAccepted network ssi part x none (offers calls)) begun-is)
+      sym
+      (last-zero network ssi part (begun home lent old) none calls
+      ∙ ap (λ (x : List ℕ). lastAccepted network ssi part x none (offers calls)) begun-is)
 
   module _ (network ssi part : ℕ) (r : inRange network ssi part ≡ true) (out : List ℕ) (bits : ℕ) where
     abbrev Gives : ℕ → ℕ → List ℕ → List ℕ → Type 0

@@ -18,7 +18,8 @@ use Rattle.archive.specs.Listing.{listOut}
 use Rattle.words.specs.RecordWords.{word, recordWords, recordFrom}
 use Rattle.words.specs.RequestWords.{requestFrom}
 use Rattle.barring.specs.Decide.{partIn, decideIs}
-use Rattle.boc.specs.Calls.{readNumber, readWords, writeNumber, writeOut, writeBits, emptyNumber, emptyLength, captureNumber, captureLength, restoreNumber, restoreBits, decideNumber, decideDecision, contentsNumber, contentsLength}
+use Rattle.boc.specs.Calls.{readNumber, readWords, writeNumber, writeOut, writeBits, emptyNumber, emptyLength, captureNumber, captureLength}
+use Rattle.boc.specs.Calls.{restoreNumber, restoreBits, decideNumber, decideDecision, contentsNumber, contentsLength}
 use Rattle.promises.specs.Answers.{Exactly}
 use Rattle.promises.specs.Demand1.Reading as reading
 use Rattle.promises.specs.Demand1.Writing as writing
@@ -90,7 +91,8 @@ pub record Restore (archive : List ℕ) (network ssi part : ℕ) (out : List ℕ
   pub table : Exactly (restoreNumber archive network ssi part out) (0 ∷ 9 ∷ 7 ∷ 11 ∷ 8 ∷ []) (restore.Given archive network ssi part (length out))
   -- the PDU that is held and its bits
   pub success : restoreNumber archive network ssi part out ≡ 0
-      → (h : Held) × (restoreOut archive network ssi part out ≡ over (h .body) out) × (restoreBits archive network ssi part out old ≡ h .entry .bits .0)
+      → (h : Held) × (restoreOut archive network ssi part out ≡ over (h .body) out)
+      × (restoreBits archive network ssi part out old ≡ h .entry .bits .0)
   pub refusal : (restoreNumber archive network ssi part out ≡ 0 → ⊥)
       → (restoreOut archive network ssi part out ≡ out) × (restoreBits archive network ssi part out old ≡ old)
 

@@ -7,5 +7,6 @@ pub mod Profiles
 pub mod Rules
 pub mod Words
 pub mod Calls
+pub mod CallsMet
 pub mod Sequences
 pub mod Determined

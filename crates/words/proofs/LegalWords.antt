@@ -18,7 +18,8 @@ use Rattle.grammar.specs.Grammar.{pdu}
 use Rattle.grammar.proofs.Codes.{digit-refusal}
 use Rattle.rules.specs.Request.{isDestination, digitsUsed, isDigit, isUnused}
 use Rattle.rules.specs.declared.request.Destination.the-variants.{Identity, Number}
-use Rattle.words.specs.Places.{listPlaces, digitPlaces, numberWidth, numbersAt, exceptedAt, listsAt, recordWidth, numberEntriesAt, exceptedEntriesAt, kindAt, identityAt, lengthAt, digitsAt, requestWidth}
+use Rattle.words.specs.Places.{listPlaces, digitPlaces, numberWidth, numbersAt, exceptedAt, listsAt, recordWidth, numberEntriesAt}
+use Rattle.words.specs.Places.{exceptedEntriesAt, kindAt, identityAt, lengthAt, digitsAt, requestWidth}
 use Rattle.words.specs.RecordWords.{word, entriesFrom, narrow, narrowed, numberFrom, numbersFrom, listsFrom, recordWords, recordFrom}
 use Rattle.words.specs.RequestWords.{areDestination, areGroup, areRequest, userFrom, destinationFrom, requestWords, requestFrom}
 use Rattle.words.proofs.RecordInverse.{record-forth}

@@ -12,8 +12,10 @@ use Rattle.grammar.specs.declared.record.Identity.{Identity}
 use Rattle.grammar.specs.declared.record.Identities.{Identities}
 use Rattle.grammar.specs.declared.record.Numbers.{Numbers}
 use Rattle.grammar.specs.declared.record.Services.{Services}
-use Rattle.words.specs.Places.{listPlaces, digitPlaces, servicePlaces, identityWidth, identitiesWidth, numberWidth, entriesWidth, numbersWidth, servicesWidth}
-use Rattle.words.specs.RecordWords.{word, narrow, narrowed, identityWords, identitiesWords, numberWords, numbersWords, servicesWords, identityFrom, identitiesFrom, numberFrom, numbersFrom, servicesFrom}
+use Rattle.words.specs.Places.{listPlaces, digitPlaces, servicePlaces, identityWidth, identitiesWidth, numberWidth, entriesWidth}
+use Rattle.words.specs.Places.{numbersWidth, servicesWidth}
+use Rattle.words.specs.RecordWords.{word, narrow, narrowed, identityWords, identitiesWords, numberWords, numbersWords, servicesWords}
+use Rattle.words.specs.RecordWords.{identityFrom, identitiesFrom, numberFrom, numbersFrom, servicesFrom}
 use Rattle.words.specs.Sized.{SizedNumber, SizedNumbers, SizedIdentities}
 use Rattle.words.proofs.Layouts.{spelt-word, spelt-then, narrowed-bytes, Layout, entries-long, entries-back, entries-forth}
 
@@ -78,7 +80,8 @@ module _ (w : List ℕ) where
   pub numbers-forth : numbersWidth ≤ length w → Bytes (take entriesWidth (drop 1 w)) → numbersWords (numbersFrom w) ≡ take numbersWidth w
   unfolding numbersWords numbersFrom
   numbers-forth h b =
-      spelt-then w 0 1 entriesWidth (spelt-word w 0 (omega arith)) (entries-forth number bytes-parts listPlaces (drop 1 w) (omega (arith, length-drop 1 w)) b)
+      spelt-then w 0 1 entriesWidth (spelt-word w 0 (omega arith))
+      (entries-forth number bytes-parts listPlaces (drop 1 w) (omega (arith, length-drop 1 w)) b)
 
 pub services-back : (l : Services) (rest : List ℕ) → length (l .list) ≡ servicePlaces → servicesFrom (servicesWords l ++ rest) ≡ l
 unfolding servicesWords servicesFrom

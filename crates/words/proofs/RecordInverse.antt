@@ -8,11 +8,15 @@ use lib.Seq.{take-all, drop-drop}
 use Rattle.bits.specs.Bits.{Bytes}
 use Rattle.grammar.specs.declared.record.Identities.{Identities}
 use Rattle.grammar.specs.declared.record.Record.{Record}
-use Rattle.words.specs.Places.{identitiesWidth, entriesWidth, numbersWidth, servicesWidth, restrictedAt, exceptionsAt, numbersAt, exceptedAt, listsWidth, affectedAt, askedAt, resultAt, deliveryAt, servicesAt, listsAt, recordWidth, numberEntriesAt, exceptedEntriesAt}
-use Rattle.words.specs.RecordWords.{identitiesWords, numbersWords, servicesWords, listsWords, recordWords, identitiesFrom, numbersFrom, servicesFrom, listsFrom, recordFrom}
+use Rattle.words.specs.Places.{identitiesWidth, entriesWidth, numbersWidth, servicesWidth, restrictedAt, exceptionsAt, numbersAt}
+use Rattle.words.specs.Places.{exceptedAt, listsWidth, affectedAt, askedAt, resultAt, deliveryAt, servicesAt, listsAt, recordWidth}
+use Rattle.words.specs.Places.{numberEntriesAt, exceptedEntriesAt}
+use Rattle.words.specs.RecordWords.{identitiesWords, numbersWords, servicesWords, listsWords, recordWords, identitiesFrom, numbersFrom}
+use Rattle.words.specs.RecordWords.{servicesFrom, listsFrom, recordFrom}
 use Rattle.words.specs.Sized.{SizedIdentities, SizedRecord}
 use Rattle.words.proofs.Layouts.{drop-after, word-after, spelt-word, spelt-then}
-use Rattle.words.proofs.ListInverse.{identities-long, identities-back, identities-forth, numbers-long, numbers-back, numbers-forth, services-back, services-forth}
+use Rattle.words.proofs.ListInverse.{identities-long, identities-back, identities-forth, numbers-long, numbers-back, numbers-forth}
+use Rattle.words.proofs.ListInverse.{services-back, services-forth}
 
 -- ---- the five lists
 
@@ -24,7 +28,8 @@ lists-forth w h b b′ =
     spelt-then w 0 identitiesWidth (listsWidth - restrictedAt) (identities-forth w (omega arith))
     (spelt-then w restrictedAt identitiesWidth (listsWidth - exceptionsAt) (identities-forth (drop restrictedAt w) (omega (arith, room restrictedAt)))
     (spelt-then w exceptionsAt identitiesWidth (listsWidth - numbersAt) (identities-forth (drop exceptionsAt w) (omega (arith, room exceptionsAt)))
-    (spelt-then w numbersAt numbersWidth numbersWidth (numbers-forth (drop numbersAt w) (omega (arith, room numbersAt)) (rw (drop-drop 1 numbersAt w) b))
+    (spelt-then w numbersAt numbersWidth numbersWidth
+    (numbers-forth (drop numbersAt w) (omega (arith, room numbersAt)) (rw (drop-drop 1 numbersAt w) b))
     (numbers-forth (drop exceptedAt w) (omega (arith, room exceptedAt)) (rw (drop-drop 1 exceptedAt w) b′)))))
 
 -- ---- the record
@@ -56,13 +61,16 @@ module _ (r : Record) (f : SizedRecord r) where
       let e : (k : ℕ) → drop (identitiesWidth + k) w ≡ drop k from-e = past (l .groups) (f .lists .groups) from-e in
       let x : (k : ℕ) → drop (identitiesWidth + k) from-e ≡ drop k from-x = past (l .restricted) (f .lists .restricted) from-x in
       let n : (k : ℕ) → drop (identitiesWidth + k) from-x ≡ drop k from-n = past (l .exceptions) (f .lists .exceptions) from-n in
-      let last : drop numbersWidth from-n ≡ y = drop-after (numbersWords (l .numbers)) y numbersWidth 0 (numbers-long (l .numbers) (f .lists .numbers)) in
+      let last : drop numbersWidth from-n ≡ y =
+      drop-after (numbersWords (l .numbers)) y numbersWidth 0 (numbers-long (l .numbers) (f .lists .numbers))
+      in
+      let y-at = e (exceptionsAt + numbersWidth) ∙ x (restrictedAt + numbersWidth) ∙ n numbersWidth ∙ last ∙ sym (append-nil y) in
       λ i. record {
         groups = identities-back (l .groups) (f .lists .groups) from-e i;
         restricted = (ap identitiesFrom (e 0) ∙ identities-back (l .restricted) (f .lists .restricted) from-x) i;
         exceptions = (ap identitiesFrom (e restrictedAt ∙ x 0) ∙ identities-back (l .exceptions) (f .lists .exceptions) from-n) i;
         numbers = (ap numbersFrom (e exceptionsAt ∙ x restrictedAt ∙ n 0) ∙ numbers-back (l .numbers) (f .lists .numbers) y) i;
-        excepted = (ap numbersFrom (e (exceptionsAt + numbersWidth) ∙ x (restrictedAt + numbersWidth) ∙ n numbersWidth ∙ last ∙ sym (append-nil y)) ∙ numbers-back (l .excepted) (f .lists .excepted) []) i;
+        excepted = (ap numbersFrom y-at ∙ numbers-back (l .excepted) (f .lists .excepted) []) i;
       }
 
   pub record-long : length (recordWords r) ≡ recordWidth
@@ -95,7 +103,8 @@ unfolding recordWords recordFrom
 record-forth w h b b′ =
     let room : (at : ℕ) → length (drop at w) ≡ length w - at = λ at. length-drop at w in
     let lists =
-    lists-forth (drop listsAt w) (omega (arith, room listsAt)) (rw (drop-drop (numbersAt + 1) listsAt w) b) (rw (drop-drop (exceptedAt + 1) listsAt w) b′)
+    lists-forth (drop listsAt w) (omega (arith, room listsAt)) (rw (drop-drop (numbersAt + 1) listsAt w) b)
+    (rw (drop-drop (exceptedAt + 1) listsAt w) b′)
     in
     spelt-then w 0 1 (recordWidth - affectedAt) (spelt-word w 0 (omega arith))
     (spelt-then w affectedAt identitiesWidth (recordWidth - askedAt) (identities-forth (drop affectedAt w) (omega (arith, room affectedAt)))

@@ -16,7 +16,8 @@ use Rattle.rules.specs.declared.request.Destination.the-variants as to
 use Rattle.rules.specs.declared.request.Group.{Group}
 use Rattle.rules.specs.declared.request.Group.the-variants.{Of, NoGroup}
 use Rattle.rules.specs.declared.request.Request.{Request}
-use Rattle.words.specs.Places.{affectedAt, askedAt, resultAt, deliveryAt, servicesAt, listsAt, recordWidth, serviceAt, kindAt, identityAt, lengthAt, digitsAt, givenAt, groupAt, requestWidth}
+use Rattle.words.specs.Places.{affectedAt, askedAt, resultAt, deliveryAt, servicesAt, listsAt, recordWidth, serviceAt, kindAt, identityAt}
+use Rattle.words.specs.Places.{lengthAt, digitsAt, givenAt, groupAt, requestWidth}
 use Rattle.words.specs.RecordWords.{word, recordWords, recordFrom, narrowed, records}
 use Rattle.words.specs.RequestWords.{areRequest, requestFrom, requestWords, requests}
 

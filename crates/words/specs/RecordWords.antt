@@ -14,7 +14,8 @@ use Rattle.grammar.specs.declared.record.Numbers.{Numbers}
 use Rattle.grammar.specs.declared.record.Services.{Services}
 use Rattle.grammar.specs.declared.record.Lists.{Lists}
 use Rattle.grammar.specs.declared.record.Record.{Record}
-use Rattle.words.specs.Places.{listPlaces, digitPlaces, servicePlaces, identityWidth, numberWidth, restrictedAt, exceptionsAt, numbersAt, exceptedAt, affectedAt, askedAt, resultAt, deliveryAt, servicesAt, listsAt, recordWidth}
+use Rattle.words.specs.Places.{listPlaces, digitPlaces, servicePlaces, identityWidth, numberWidth, restrictedAt, exceptionsAt, numbersAt}
+use Rattle.words.specs.Places.{exceptedAt, affectedAt, askedAt, resultAt, deliveryAt, servicesAt, listsAt, recordWidth}
 use Rattle.words.specs.declared.record.GivenRecord.{GivenRecord}
 
 -- ---- to words

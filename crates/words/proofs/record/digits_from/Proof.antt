@@ -32,7 +32,8 @@ returns c =
     let start = c .before .before .before in
     let a = start .args in
     let w = now (a .words) in
-    filled-all (c .loop-test .left) (c .before .loop .inv) ∙ words-narrowed digitPlaces (drop (a .at) w) (omega (arith, length-drop (a .at) w, start .pre))
+    filled-all (c .loop-test .left) (c .before .loop .inv)
+    ∙ words-narrowed digitPlaces (drop (a .at) w) (omega (arith, length-drop (a .at) w, start .pre))
 
 pub digits-from-spec : {M : Type 1} → statement M
 digits-from-spec =

@@ -27,7 +27,10 @@ returns c =
     let loop = c .before .before in
     let a = loop .before .before .args in
     let w = now (a .words) in
-    let e = filled-all (c .before .loop-test .left) (loop .loop .inv .0) ∙ ap (entriesFrom numberFrom numberWidth listPlaces) (sym (drop-drop 1 (a .at) w)) in
+    let e =
+    filled-all (c .before .loop-test .left) (loop .loop .inv .0)
+    ∙ ap (entriesFrom numberFrom numberWidth listPlaces) (sym (drop-drop 1 (a .at) w))
+    in
     λ i. record { code = first-word w (a .at) i; entries = e i }
 
 pub numbers-from-spec : {M : Type 1} → statement M
