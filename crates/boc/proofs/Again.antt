@@ -10,13 +10,14 @@ use Rattle.reader.specs.Read.{readIs}
 use Rattle.reader.specs.declared.Answer.the-variants.{Accepted}
 use Rattle.pdu.specs.Accepted.{acceptedAs}
 use Rattle.pdu.proofs.RoundTrip.{accepted-legal, written-read}
+use Rattle.words.specs.Places.{recordWidth}
 use Rattle.words.specs.RecordWords.{recordWords}
 use Rattle.words.specs.Sized.{SizedRecord}
 use Rattle.words.proofs.RecordInverse.{record-long, record-back}
 use Rattle.words.proofs.LegalRecords.{record-sized}
 use Rattle.boc.specs.Calls.{readWords, writeNumber, writeOut, writeBits}
 
-module _ (s : List ℕ) (n : ℕ) (words : List ℕ) (l : length words ≡ 514) (a : readIs s n .answer ≡ Accepted) where
+module _ (s : List ℕ) (n : ℕ) (words : List ℕ) (l : length words ≡ recordWidth) (a : readIs s n .answer ≡ Accepted) where
   abbrev found : Record
   found = readIs s n .found
 
@@ -28,13 +29,13 @@ module _ (s : List ℕ) (n : ℕ) (words : List ℕ) (l : length words ≡ 514) 
 
   left : readWords s n words ≡ recordWords found
   unfolding readWords
-  left = rw (eq-eqb (length words) 514 l, a)
+  left = rw (eq-eqb (length words) recordWidth l, a)
 
   pub written-again : (out : List ℕ) (old : ℕ) → Bytes s → length s ≤ length out
       → let w = readWords s n words in (writeNumber w out ≡ 0) × (writeOut w out ≡ s ++ drop (length s) out) × (writeBits w out old ≡ n)
   unfolding writeNumber writeOut writeBits
   written-again out old y h =
       let w = written-read s n found out y whole h in
-      let e = eq-eqb (length (recordWords found)) 514 (record-long found sized) in
+      let e = eq-eqb (length (recordWords found)) recordWidth (record-long found sized) in
       let b = record-back found sized in
       (rw (left, e, b, w .0), rw (left, e, b, w .1), rw (left, e, b, w .0))

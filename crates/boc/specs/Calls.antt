@@ -9,6 +9,9 @@ use Rattle.reader.specs.declared.Answer.the-variants as answer
 use Rattle.writer.specs.Write.{writtenNumber, writeIs, outIs}
 use Rattle.writer.specs.declared.Written.{Written}
 use Rattle.writer.specs.declared.Written.the-variants as written
+use Rattle.archive.specs.Keeping.{archivedNumber, emptyIs, captureIs}
+use Rattle.archive.specs.Restoring.{restoredNumber, restoreIs}
+use Rattle.archive.specs.Listing.{listedNumber, listIs}
 use Rattle.archive.specs.declared.Archived.{Archived}
 use Rattle.archive.specs.declared.Archived.the-variants as archived
 use Rattle.archive.specs.declared.Restored.{Restored}
@@ -56,11 +59,29 @@ abbrev pub archivedLength : Archived → ℕ → ℕ
 archivedLength (archived.Bytes n) old = n
 archivedLength (archived.Refused k) old = old
 
+abbrev pub emptyNumber : ℕ → List ℕ → ℕ
+emptyNumber home out = archivedNumber (emptyIs home (length out))
+
+abbrev pub emptyLength : ℕ → List ℕ → ℕ → ℕ
+emptyLength home out old = archivedLength (emptyIs home (length out)) old
+
+abbrev pub captureNumber : List ℕ → List ℕ → ℕ → List ℕ → ℕ
+captureNumber b s n out = archivedNumber (captureIs b s n (length out))
+
+abbrev pub captureLength : List ℕ → List ℕ → ℕ → List ℕ → ℕ → ℕ
+captureLength b s n out old = archivedLength (captureIs b s n (length out)) old
+
 -- ---- boc_restore
 
 abbrev pub restoredLength : Restored → ℕ → ℕ
 restoredLength (restored.Bits n) old = n .0
 restoredLength (restored.Refused k) old = old
+
+abbrev pub restoreNumber : List ℕ → ℕ → ℕ → ℕ → List ℕ → ℕ
+restoreNumber b network ssi part out = restoredNumber (restoreIs b network ssi part (length out))
+
+abbrev pub restoreBits : List ℕ → ℕ → ℕ → ℕ → List ℕ → ℕ → ℕ
+restoreBits b network ssi part out old = restoredLength (restoreIs b network ssi part (length out)) old
 
 -- ---- boc_decide
 
@@ -71,15 +92,21 @@ decidedVerdict decided.Allowed old = verdictOf decided.Allowed
 decidedVerdict decided.NotHeld old = verdictOf decided.NotHeld
 decidedVerdict (decided.Refused k) old = old
 
--- 34 words that are a request's, otherwise 9
+-- 9 unless they are a request's words
 unfoldable pub decideNumber : List ℕ → List ℕ → ℕ
 decideNumber b words = pick (isRequest words) (decidedNumber (decideIs b (requestFrom words))) 9
 
-unfoldable pub decision : List ℕ → List ℕ → ℕ → ℕ
-decision b words old = pick (isRequest words) (decidedVerdict (decideIs b (requestFrom words)) old) old
+unfoldable pub decideDecision : List ℕ → List ℕ → ℕ → ℕ
+decideDecision b words old = pick (isRequest words) (decidedVerdict (decideIs b (requestFrom words)) old) old
 
 -- ---- boc_contents
 
 abbrev pub listedLength : Listed → ℕ → ℕ
 listedLength (listed.Bytes n) old = n
 listedLength (listed.Refused k) old = old
+
+abbrev pub contentsNumber : List ℕ → List ℕ → ℕ
+contentsNumber b out = listedNumber (listIs b (length out))
+
+abbrev pub contentsLength : List ℕ → List ℕ → ℕ → ℕ
+contentsLength b out old = listedLength (listIs b (length out)) old

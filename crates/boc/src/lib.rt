@@ -12,150 +12,150 @@ use words::record;
 use words::request;
 ghost use mathlib.Core.Path.{_≡_};
 ghost use lib.ListN.{length};
-ghost use Rattle.archive.specs.Keeping.{archivedNumber, emptyIs, emptyOut, captureIs, captureOut};
-ghost use Rattle.archive.specs.Restoring.{restoredNumber, restoreIs, restoreOut};
-ghost use Rattle.archive.specs.Listing.{listedNumber, listIs, listOut};
-ghost use Rattle.boc.specs.Calls.{readNumber, readWords, writeNumber, writeOut, writeBits, archivedLength, restoredLength, decideNumber, decision, listedLength};
+ghost use Rattle.archive.specs.Keeping.{emptyOut, captureOut};
+ghost use Rattle.archive.specs.Restoring.{restoreOut};
+ghost use Rattle.archive.specs.Listing.{listOut};
+ghost use Rattle.boc.specs.Calls.{readNumber, readWords, writeNumber, writeOut, writeBits, emptyNumber, emptyLength, captureNumber, captureLength, restoreNumber, restoreBits, decideNumber, decideDecision, contentsNumber, contentsLength};
 
-// Reads the PDU of `count` bits in `bytes`; its record goes to 514 words.
+// Reads the PDU of `bits` bits in `pdu`; its record goes to `record`.
 #[no_mangle]
-pub extern "C" fn boc_read(bytes: &[u8], count: usize, words: &mut [u32]) -> u32
-    ensures { λ r. ⌜ r ≡ readNumber (now (bytes .entry)) count (length (now (words .entry))) ⌝ }
-    ensures { λ _. ⌜ now (words .exit) ≡ readWords (now (bytes .entry)) count (now (words .entry)) ⌝ }
+pub extern "C" fn boc_read(pdu: &[u8], bits: usize, record: &mut [u32]) -> u32
+    ensures { λ r. ⌜ r ≡ readNumber (now (pdu .entry)) bits (length (now («record» .entry))) ⌝ }
+    ensures { λ _. ⌜ now («record» .exit) ≡ readWords (now (pdu .entry)) bits (now («record» .entry)) ⌝ }
 {
-    if words.len() != record::RECORD_WORDS {
+    if record.len() != record::RECORD_WORDS {
         return 9;
     }
-    let reading = pdu::read(bytes, BitCount(count));
+    let reading = pdu::read(pdu, BitCount(bits));
     let answer = reading.answer;
     let found = reading.found;
     match answer {
         Answer::Accepted => {
-            record::put_record(words, found);
+            record::put_record(record, found);
             0
         },
         Answer::Refused(number) => number,
     }
 }
 
-// Writes the record in 514 words as a PDU; its length in bits goes to `count`.
+// Writes a record as a PDU; its length in bits goes to `bits`.
 #[no_mangle]
-pub extern "C" fn boc_write(words: &[u32], out: &mut [u8], count: &mut usize) -> u32
-    ensures { λ r. ⌜ r ≡ writeNumber (now (words .entry)) (now (out .entry)) ⌝ }
-    ensures { λ _. ⌜ now (out .exit) ≡ writeOut (now (words .entry)) (now (out .entry)) ⌝ }
-    ensures { λ _. ⌜ now (count .exit) ≡ writeBits (now (words .entry)) (now (out .entry)) (now (count .entry)) ⌝ }
+pub extern "C" fn boc_write(record: &[u32], out: &mut [u8], bits: &mut usize) -> u32
+    ensures { λ r. ⌜ r ≡ writeNumber (now («record» .entry)) (now (out .entry)) ⌝ }
+    ensures { λ _. ⌜ now (out .exit) ≡ writeOut (now («record» .entry)) (now (out .entry)) ⌝ }
+    ensures { λ _. ⌜ now (bits .exit) ≡ writeBits (now («record» .entry)) (now (out .entry)) (now (bits .entry)) ⌝ }
 {
-    let spelt = record::record_from(words);
+    let spelt = record::record_from(record);
     if !spelt.given {
         return 9;
     }
     match pdu::write(spelt.found, out) {
-        Written::Bits(length) => {
-            *count = length.0;
+        Written::Bits(n) => {
+            *bits = n.0;
             0
         },
         Written::Refused(number) => number,
     }
 }
 
-// Writes the empty archive of a home network; its length in bytes goes to `size`.
+// Writes the empty archive of a home network; its length in bytes goes to `length`.
 #[no_mangle]
-pub extern "C" fn boc_empty(home: u32, out: &mut [u8], size: &mut usize) -> u32
-    ensures { λ r. ⌜ r ≡ archivedNumber (emptyIs home (length (now (out .entry)))) ⌝ }
+pub extern "C" fn boc_empty(home: u32, out: &mut [u8], length: &mut usize) -> u32
+    ensures { λ r. ⌜ r ≡ emptyNumber home (now (out .entry)) ⌝ }
     ensures { λ _. ⌜ now (out .exit) ≡ emptyOut home (now (out .entry)) ⌝ }
-    ensures { λ _. ⌜ now (size .exit) ≡ archivedLength (emptyIs home (length (now (out .entry)))) (now (size .entry)) ⌝ }
+    ensures { λ _. ⌜ now (length .exit) ≡ emptyLength home (now (out .entry)) (now (length .entry)) ⌝ }
 {
     match archive::empty(home, out) {
         Archived::Bytes(n) => {
-            *size = n;
+            *length = n;
             0
         },
         Archived::Refused(number) => number,
     }
 }
 
-// Captures the PDU of `count` bits in `bytes`: writes the new archive; its length in bytes goes to `size`.
+// Captures the PDU of `bits` bits in `pdu`: writes the new archive; its length in bytes goes to `length`.
 #[no_mangle]
 pub extern "C" fn boc_capture(
-    held: &[u8],
-    bytes: &[u8],
-    count: usize,
+    archive: &[u8],
+    pdu: &[u8],
+    bits: usize,
     out: &mut [u8],
-    size: &mut usize,
+    length: &mut usize,
 ) -> u32
-    ensures { λ r. ⌜ r ≡ archivedNumber (captureIs (now (held .entry)) (now (bytes .entry)) count (length (now (out .entry)))) ⌝ }
-    ensures { λ _. ⌜ now (out .exit) ≡ captureOut (now (held .entry)) (now (bytes .entry)) count (now (out .entry)) ⌝ }
-    ensures { λ _. ⌜ now (size .exit) ≡ archivedLength (captureIs (now (held .entry)) (now (bytes .entry)) count (length (now (out .entry)))) (now (size .entry)) ⌝ }
+    ensures { λ r. ⌜ r ≡ captureNumber (now (archive .entry)) (now (pdu .entry)) bits (now (out .entry)) ⌝ }
+    ensures { λ _. ⌜ now (out .exit) ≡ captureOut (now (archive .entry)) (now (pdu .entry)) bits (now (out .entry)) ⌝ }
+    ensures { λ _. ⌜ now (length .exit) ≡ captureLength (now (archive .entry)) (now (pdu .entry)) bits (now (out .entry)) (now (length .entry)) ⌝ }
 {
-    match archive::capture(held, bytes, BitCount(count), out) {
+    match archive::capture(archive, pdu, BitCount(bits), out) {
         Archived::Bytes(n) => {
-            *size = n;
+            *length = n;
             0
         },
         Archived::Refused(number) => number,
     }
 }
 
-// Restores the PDU held for a user and part; its length in bits goes to `count`.
+// Restores the PDU held for a user and part; its length in bits goes to `bits`.
 #[no_mangle]
 pub extern "C" fn boc_restore(
-    held: &[u8],
+    archive: &[u8],
     network: u32,
     ssi: u32,
     part: u32,
     out: &mut [u8],
-    count: &mut usize,
+    bits: &mut usize,
 ) -> u32
-    ensures { λ r. ⌜ r ≡ restoredNumber (restoreIs (now (held .entry)) network ssi part (length (now (out .entry)))) ⌝ }
-    ensures { λ _. ⌜ now (out .exit) ≡ restoreOut (now (held .entry)) network ssi part (now (out .entry)) ⌝ }
-    ensures { λ _. ⌜ now (count .exit) ≡ restoredLength (restoreIs (now (held .entry)) network ssi part (length (now (out .entry)))) (now (count .entry)) ⌝ }
+    ensures { λ r. ⌜ r ≡ restoreNumber (now (archive .entry)) network ssi part (now (out .entry)) ⌝ }
+    ensures { λ _. ⌜ now (out .exit) ≡ restoreOut (now (archive .entry)) network ssi part (now (out .entry)) ⌝ }
+    ensures { λ _. ⌜ now (bits .exit) ≡ restoreBits (now (archive .entry)) network ssi part (now (out .entry)) (now (bits .entry)) ⌝ }
 {
-    match archive::restore(held, network, ssi, part, out) {
+    match archive::restore(archive, network, ssi, part, out) {
         Restored::Bits(n) => {
-            *count = n.0;
+            *bits = n.0;
             0
         },
         Restored::Refused(number) => number,
     }
 }
 
-// Decides the request in 34 words; the decision goes to `verdict`: 0 to 2 barred with that cause, 3 allowed, 4 not held.
+// Decides a request; the decision goes to `decision`: 0 to 2 barred with that cause, 3 allowed, 4 not held.
 #[no_mangle]
-pub extern "C" fn boc_decide(held: &[u8], words: &[u32], verdict: &mut u32) -> u32
-    ensures { λ r. ⌜ r ≡ decideNumber (now (held .entry)) (now (words .entry)) ⌝ }
-    ensures { λ _. ⌜ now (verdict .exit) ≡ decision (now (held .entry)) (now (words .entry)) (now (verdict .entry)) ⌝ }
+pub extern "C" fn boc_decide(archive: &[u8], request: &[u32], decision: &mut u32) -> u32
+    ensures { λ r. ⌜ r ≡ decideNumber (now (archive .entry)) (now (request .entry)) ⌝ }
+    ensures { λ _. ⌜ now (decision .exit) ≡ decideDecision (now (archive .entry)) (now (request .entry)) (now (decision .entry)) ⌝ }
 {
-    let spelt = request::request_from(words);
+    let spelt = request::request_from(request);
     if !spelt.given {
         return 9;
     }
-    match barring::decide(held, spelt.asked) {
+    match barring::decide(archive, spelt.asked) {
         Decision::Barred(cause) => {
-            *verdict = cause;
+            *decision = cause;
             0
         },
         Decision::Allowed => {
-            *verdict = 3;
+            *decision = 3;
             0
         },
         Decision::NotHeld => {
-            *verdict = 4;
+            *decision = 4;
             0
         },
         Decision::Refused(number) => number,
     }
 }
 
-// Lists an archive as text; its length in bytes goes to `size`.
+// Lists an archive as text; its length in bytes goes to `length`.
 #[no_mangle]
-pub extern "C" fn boc_contents(held: &[u8], out: &mut [u8], size: &mut usize) -> u32
-    ensures { λ r. ⌜ r ≡ listedNumber (listIs (now (held .entry)) (length (now (out .entry)))) ⌝ }
-    ensures { λ _. ⌜ now (out .exit) ≡ listOut (now (held .entry)) (now (out .entry)) ⌝ }
-    ensures { λ _. ⌜ now (size .exit) ≡ listedLength (listIs (now (held .entry)) (length (now (out .entry)))) (now (size .entry)) ⌝ }
+pub extern "C" fn boc_contents(archive: &[u8], out: &mut [u8], length: &mut usize) -> u32
+    ensures { λ r. ⌜ r ≡ contentsNumber (now (archive .entry)) (now (out .entry)) ⌝ }
+    ensures { λ _. ⌜ now (out .exit) ≡ listOut (now (archive .entry)) (now (out .entry)) ⌝ }
+    ensures { λ _. ⌜ now (length .exit) ≡ contentsLength (now (archive .entry)) (now (out .entry)) (now (length .entry)) ⌝ }
 {
-    match listing::list(held, out) {
-        Listed::Bytes(length) => {
-            *size = length;
+    match listing::list(archive, out) {
+        Listed::Bytes(n) => {
+            *length = n;
             0
         },
         Listed::Refused(number) => number,

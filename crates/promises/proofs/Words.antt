@@ -9,6 +9,7 @@ use lib.ListN.{length}
 use lib.Dec.{eqb}
 use Rattle.bits.proofs.Tests.{both, picked}
 use Rattle.reader.specs.Read.{refusalOf, readIs}
+use Rattle.words.specs.Places.{recordWidth, requestWidth}
 use Rattle.words.specs.RecordWords.{recordWords, recordFrom}
 use Rattle.words.specs.RequestWords.{areRequest, requestWords, requestFrom}
 use Rattle.words.proofs.LegalWords.{legal-words, ranged-words}
@@ -20,10 +21,10 @@ use Rattle.promises.proofs.Demand1.Writing as writing
 use Rattle.promises.proofs.Demand1.Decision as deciding
 use Rattle.promises.proofs.Requests.{tests}
 
--- 0 is answered to 514 words and a PDU that is accepted
-read-both : (s : List ℕ) (n words : ℕ) → readNumber s n words ≡ 0 → (words ≡ 514) × (refusalOf (readIs s n .answer) ≡ 0)
+-- 0 is answered to as many words as a record has and a PDU that is accepted
+read-both : (s : List ℕ) (n words : ℕ) → readNumber s n words ≡ 0 → (words ≡ recordWidth) × (refusalOf (readIs s n .answer) ≡ 0)
 unfolding readNumber
-read-both s n words e = let k = picked (eqb words 514) e (λ x. omega arith) in (eqb-true words 514 (k .0), k .1)
+read-both s n words e = let k = picked (eqb words recordWidth) e (λ x. omega arith) in (eqb-true words recordWidth (k .0), k .1)
 
 -- ---- words that are accepted
 
@@ -31,17 +32,17 @@ written-words : (w out : List ℕ) → writeNumber w out ≡ 0 → recordWords (
 unfolding writeNumber
 written-words w out e =
     let r = recordFrom w in
-    let k = picked (eqb (length w) 514) e (λ x. omega arith) in
-    legal-words w (eqb-true (length w) 514 (k .0)) (writing.accepted r out 0 (writing.promise .table r out .exactly 0 .0 (k .1)) refl .0)
+    let k = picked (eqb (length w) recordWidth) e (λ x. omega arith) in
+    legal-words w (eqb-true (length w) recordWidth (k .0)) (writing.accepted r out 0 (writing.promise .table r out .exactly 0 .0 (k .1)) refl .0)
 
 decided-words : (b w : List ℕ) → decideNumber b w ≡ 0 → requestWords (requestFrom w) ≡ w
 unfolding decideNumber
 decided-words b w e =
     let q = requestFrom w in
-    let k = picked (eqb (length w) 34 && areRequest w) e (λ x. omega arith) in
-    let are = both (eqb (length w) 34) (areRequest w) (k .0) in
+    let k = picked (eqb (length w) requestWidth && areRequest w) e (λ x. omega arith) in
+    let are = both (eqb (length w) requestWidth) (areRequest w) (k .0) in
     let r = tests q (deciding.accepted q b 0 (deciding.promise .table b q .exactly 0 .0 (k .1)) refl .0) in
-    ranged-words w (eqb-true (length w) 34 (are .0)) (are .1) (r .destination) (r .digits) (r .unused)
+    ranged-words w (eqb-true (length w) requestWidth (are .0)) (are .1) (r .destination) (r .digits) (r .unused)
 
 pub promise : Promise
 promise = record {

@@ -7,4 +7,7 @@ pub mod Profiles
 pub mod Cases
 pub mod Rules
 pub mod Words
+pub mod Calls
+pub mod CallsMet
+pub mod Sequences
 pub mod Determined

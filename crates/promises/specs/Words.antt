@@ -7,6 +7,7 @@ use lib.ListN.{length, take, drop}
 use Rattle.bits.specs.Bits.{Bytes}
 use Rattle.grammar.specs.declared.record.Record.{Record}
 use Rattle.rules.specs.declared.request.Request.{Request}
+use Rattle.words.specs.Places.{digitPlaces, entriesWidth, recordWidth, numberEntriesAt, exceptedEntriesAt, lengthAt, digitsAt, requestWidth}
 use Rattle.words.specs.RecordWords.{word, recordWords, recordFrom}
 use Rattle.words.specs.RequestWords.{areRequest, requestWords, requestFrom}
 use Rattle.words.specs.Sized.{SizedRecord, SizedRequest}
@@ -16,23 +17,25 @@ use Rattle.boc.specs.Calls.{readNumber, readWords, writeNumber, writeOut, write
 
 -- ---- records
 
--- A record has 514 words, and they are read as that record.
-pub record-words : (r : Record) → SizedRecord r → (length (recordWords r) ≡ 514) × (recordFrom (recordWords r) ≡ r)
+-- A record has its number of words, and they are read as that record.
+pub record-words : (r : Record) → SizedRecord r → (length (recordWords r) ≡ recordWidth) × (recordFrom (recordWords r) ≡ r)
 record-words r f = (records.record-long r f, records.record-back r f)
 
--- 514 words are the words of one record, if the lengths and digits among them are bytes.
-pub words-record : (w : List ℕ) → length w ≡ 514 → Bytes (take 200 (drop 113 w)) → Bytes (take 200 (drop 314 w)) → recordWords (recordFrom w) ≡ w
+-- As many words are the words of one record, if the lengths and digits among them are bytes.
+pub words-record : (w : List ℕ) → length w ≡ recordWidth → Bytes (take entriesWidth (drop numberEntriesAt w))
+    → Bytes (take entriesWidth (drop exceptedEntriesAt w)) → recordWords (recordFrom w) ≡ w
 words-record = records.record-forth
 
 -- ---- requests
 
--- A request has 34 words; they pass as a request's, and are read as that request.
+-- A request has its number of words; they pass as a request's, and are read as that request.
 pub request-words : (q : Request) → SizedRequest q
-    → (length (requestWords q) ≡ 34) × (areRequest (requestWords q) ≡ true) × (requestFrom (requestWords q) ≡ q)
+    → (length (requestWords q) ≡ requestWidth) × (areRequest (requestWords q) ≡ true) × (requestFrom (requestWords q) ≡ q)
 request-words q f = (requests.request-long q f, requests.request-are q f, requests.request-back q f)
 
--- 34 words that pass are the words of one request, if its length and digits are bytes.
-pub words-request : (w : List ℕ) → length w ≡ 34 → areRequest w ≡ true → word w 6 < 256 → Bytes (take 24 (drop 7 w)) → requestWords (requestFrom w) ≡ w
+-- As many words that pass are the words of one request, if its length and digits are bytes.
+pub words-request : (w : List ℕ) → length w ≡ requestWidth → areRequest w ≡ true → word w lengthAt < 256
+    → Bytes (take digitPlaces (drop digitsAt w)) → requestWords (requestFrom w) ≡ w
 words-request = requests.request-forth
 
 -- ---- the calls

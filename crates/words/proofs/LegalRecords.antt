@@ -13,7 +13,8 @@ use Rattle.codec.specs.Codec.{Codec, Legal}
 use Rattle.codec.specs.Parts.{absent, seq}
 use Rattle.codec.proofs.Legality.{legal-seq, legal-shaped, legal-tested, legal-mark, legal-element, legal-absent, legal-places, legal-length}
 use Rattle.grammar.specs.SiteSheet.{entriesOf}
-use Rattle.grammar.specs.Grammar.{identities, noIdentities, external, noExternal, externals, noExternals, services, noServices, identityPart, numberPart, noPart, Rest, interrogate, interrogateAck, fromLists, fromRecord, pdu}
+use Rattle.grammar.specs.Grammar.{identities, noIdentities, external, noExternal, externals, noExternals, services, noServices, identityPart}
+use Rattle.grammar.specs.Grammar.{numberPart, noPart, Rest, interrogate, interrogateAck, fromLists, fromRecord, pdu}
 use Rattle.grammar.specs.declared.site.ListKind.{ListKind}
 use Rattle.grammar.specs.declared.site.ListKind.the-variants.{Users}
 use Rattle.grammar.specs.declared.record.Identities.{Identities}

@@ -18,6 +18,8 @@ use Rattle.grammar.specs.Grammar.{pdu}
 use Rattle.grammar.proofs.Codes.{digit-refusal}
 use Rattle.rules.specs.Request.{isDestination, digitsUsed, isDigit, isUnused}
 use Rattle.rules.specs.declared.request.Destination.the-variants.{Identity, Number}
+use Rattle.words.specs.Places.{listPlaces, digitPlaces, numberWidth, numbersAt, exceptedAt, listsAt, recordWidth, numberEntriesAt}
+use Rattle.words.specs.Places.{exceptedEntriesAt, kindAt, identityAt, lengthAt, digitsAt, requestWidth}
 use Rattle.words.specs.RecordWords.{word, entriesFrom, narrow, narrowed, numberFrom, numbersFrom, listsFrom, recordWords, recordFrom}
 use Rattle.words.specs.RequestWords.{areDestination, areGroup, areRequest, userFrom, destinationFrom, requestWords, requestFrom}
 use Rattle.words.proofs.RecordInverse.{record-forth}
@@ -34,23 +36,26 @@ narrowed-small (x ∷ s) (h, t) (suc i) = narrowed-small s t i
 
 -- ---- records
 
-number-bytes : (w : List ℕ) → SmallNumber (numberFrom w) → Bytes (take 25 w)
+number-bytes : (w : List ℕ) → SmallNumber (numberFrom w) → Bytes (take numberWidth w)
 unfolding numberFrom narrowed
 number-bytes [] h = narrowed-small [] tt
-number-bytes (x ∷ w) h = narrowed-small (x ∷ take 24 w) (h .small)
+number-bytes (x ∷ w) h = narrowed-small (x ∷ take digitPlaces w) (h .small)
 
-entries-bytes : (count : ℕ) (w : List ℕ) → Each SmallNumber (entriesFrom numberFrom 25 count w) → Bytes (take (25 * count) w)
+entries-bytes : (count : ℕ) (w : List ℕ) → Each SmallNumber (entriesFrom numberFrom numberWidth count w) → Bytes (take (numberWidth * count) w)
 unfolding entriesFrom
 entries-bytes zero w h = λ i. omega arith
 entries-bytes (suc c) w (h, t) =
-    let z : 25 * suc c ≡ 25 + 25 * c = omega arith in
-    rw (z, take-add 25 (25 * c) w) (bytes-append (take 25 w) (take (25 * c) (drop 25 w)) (number-bytes w h) (entries-bytes c (drop 25 w) t))
+    let n = numberWidth in
+    let z : n * suc c ≡ n + n * c = omega arith in
+    rw (z, take-add n (n * c) w) (bytes-append (take n w) (take (n * c) (drop n w)) (number-bytes w h) (entries-bytes c (drop n w) t))
 
-pub legal-words : (w : List ℕ) → length w ≡ 514 → Legal pdu (recordFrom w) → recordWords (recordFrom w) ≡ w
+pub legal-words : (w : List ℕ) → length w ≡ recordWidth → Legal pdu (recordFrom w) → recordWords (recordFrom w) ≡ w
 unfolding recordFrom listsFrom numbersFrom
 legal-words w l h =
     let k = numbers-small (recordFrom w) h in
-    record-forth w l (entries-bytes 8 (drop 113 w) (rw (drop-drop 75 37 w, drop-drop 1 112 w) at (k .0))) (entries-bytes 8 (drop 314 w) (rw (drop-drop 276 37 w, drop-drop 1 313 w) at (k .1)))
+    record-forth w l
+    (entries-bytes listPlaces (drop numberEntriesAt w) (rw (drop-drop numbersAt listsAt w, drop-drop 1 (listsAt + numbersAt) w) at (k .0)))
+    (entries-bytes listPlaces (drop exceptedEntriesAt w) (rw (drop-drop exceptedAt listsAt w, drop-drop 1 (listsAt + exceptedAt) w) at (k .1)))
 
 -- ---- requests
 
@@ -70,23 +75,33 @@ digits-small (suc u) (x ∷ s) p q =
     let k = both (isDigit x) (every isDigit (take u s)) p in
     (digit-small x (k .0), digits-small u s (k .1) q)
 
--- word 6 is a number's length, or an identity's zero
-length-byte : (w : List ℕ) → areDestination w ≡ true → isDestination (destinationFrom w) ≡ true → word w 6 < 256
-unfolding areDestination destinationFrom isDestination
-length-byte w = go (eqb (word w 3) 1) refl
-  where
-    go : (p : Bool) → eqb (word w 3) 1 ≡ p → p && eqb (word w 6) 0 || eqb (word w 3) 2 && (eqb (word w 4) 0 && eqb (word w 5) 0) ≡ true
-        → isDestination (pick p (Identity (userFrom w 4)) (Number (record { 0 = narrow (word w 6) }))) ≡ true → word w 6 < 256
-    go true k e h = omega (arith, no-length (word w 3) (word w 6) (eqb (word w 4) 0 && eqb (word w 5) 0) (eqb-true (word w 3) 1 k) e)
-    go false k e h =
-        let few = both (leb 1 (narrow (word w 6))) (leb (narrow (word w 6)) 24) h in
-        omega (arith, leb-true (narrow (word w 6)) 24 (few .1))
+-- the word for the length is a number's, or an identity's zero
+module _ (w : List ℕ) where
+  abbrev kind : ℕ
+  kind = word w kindAt
 
-pub ranged-words : (w : List ℕ) → length w ≡ 34 → areRequest w ≡ true
+  abbrev used : ℕ
+  used = word w lengthAt
+
+  abbrev unnamed : Bool
+  unnamed = eqb (word w identityAt) 0 && eqb (word w (identityAt + 1)) 0
+
+  length-byte : areDestination w ≡ true → isDestination (destinationFrom w) ≡ true → used < 256
+  unfolding areDestination destinationFrom isDestination
+  length-byte = go (eqb kind 1) refl
+    where
+      go : (p : Bool) → eqb kind 1 ≡ p → p && eqb used 0 || eqb kind 2 && unnamed ≡ true
+          → isDestination (pick p (Identity (userFrom w identityAt)) (Number (record { 0 = narrow used }))) ≡ true → used < 256
+      go true k e h = omega (arith, no-length kind used unnamed (eqb-true kind 1 k) e)
+      go false k e h =
+          let few = both (leb 1 (narrow used)) (leb (narrow used) 24) h in
+          omega (arith, leb-true (narrow used) 24 (few .1))
+
+pub ranged-words : (w : List ℕ) → length w ≡ requestWidth → areRequest w ≡ true
     → let q = requestFrom w in
     isDestination (q .destination) ≡ true → every isDigit (take (digitsUsed (q .destination)) (q .digits)) ≡ true
     → every isUnused (drop (digitsUsed (q .destination)) (q .digits)) ≡ true → requestWords q ≡ w
 unfolding requestFrom areRequest
 ranged-words w l are d p q =
-    let s = digits-small (digitsUsed (destinationFrom w)) (narrowed (take 24 (drop 7 w))) p q in
-    request-forth w l are (length-byte w (both (areDestination w) (areGroup w) are .0) d) (narrowed-small (take 24 (drop 7 w)) s)
+    let s = digits-small (digitsUsed (destinationFrom w)) (narrowed (take digitPlaces (drop digitsAt w))) p q in
+    request-forth w l are (length-byte w (both (areDestination w) (areGroup w) are .0) d) (narrowed-small (take digitPlaces (drop digitsAt w)) s)

@@ -14,6 +14,7 @@ use Rattle.rules.specs.declared.request.Destination.{Destination}
 use Rattle.rules.specs.declared.request.Destination.the-variants.{Identity, Number}
 use Rattle.rules.specs.declared.request.Group.{Group}
 use Rattle.rules.specs.declared.request.Group.the-variants.{Of, NoGroup}
+use Rattle.words.specs.Places.{givenAt}
 use Rattle.words.specs.RecordWords.{word, narrow}
 use Rattle.words.specs.RequestWords.{areDestination, areGroup, destinationFrom, groupFrom, destinationWords, groupWords}
 
@@ -48,7 +49,7 @@ abbrev pub isGroup : ℕ → ℕ → ℕ → Bool
 isGroup given network ssi = eqb given 1 || eqb given 0 && (eqb network 0 && eqb ssi 0)
 
 -- words whose last three are the group's
-module _ (w : List ℕ) (g : Group) (e : (k : ℕ) → word w (31 + k) ≡ word (groupWords g) k) where
+module _ (w : List ℕ) (g : Group) (e : (k : ℕ) → word w (givenAt + k) ≡ word (groupWords g) k) where
   pub group-back : groupFrom w ≡ g
   unfolding groupWords groupFrom
   group-back = (λ i. groupOf (e 0 i) (e 1 i) (e 2 i)) ∙ go g

@@ -1,3 +1,4 @@
+pub mod Places
 pub mod RecordWords
 pub mod RequestWords
 pub mod Sized

@@ -14,6 +14,8 @@ use Rattle.grammar.specs.declared.record.Numbers.{Numbers}
 use Rattle.grammar.specs.declared.record.Services.{Services}
 use Rattle.grammar.specs.declared.record.Lists.{Lists}
 use Rattle.grammar.specs.declared.record.Record.{Record}
+use Rattle.words.specs.Places.{listPlaces, digitPlaces, servicePlaces, identityWidth, numberWidth, restrictedAt, exceptionsAt, numbersAt}
+use Rattle.words.specs.Places.{exceptedAt, affectedAt, askedAt, resultAt, deliveryAt, servicesAt, listsAt, recordWidth}
 use Rattle.words.specs.declared.record.GivenRecord.{GivenRecord}
 
 -- ---- to words
@@ -70,41 +72,41 @@ unfoldable pub identityFrom : List ℕ → Identity
 identityFrom w = record { ssi = word w 0; present = word w 1; extension = word w 2 }
 
 unfoldable pub identitiesFrom : List ℕ → Identities
-identitiesFrom w = record { code = word w 0; entries = entriesFrom identityFrom 3 8 (drop 1 w) }
+identitiesFrom w = record { code = word w 0; entries = entriesFrom identityFrom identityWidth listPlaces (drop 1 w) }
 
 unfoldable pub numberFrom : List ℕ → Number
-numberFrom w = record { length = record { 0 = narrow (word w 0) }; digits = narrowed (take 24 (drop 1 w)) }
+numberFrom w = record { length = record { 0 = narrow (word w 0) }; digits = narrowed (take digitPlaces (drop 1 w)) }
 
 unfoldable pub numbersFrom : List ℕ → Numbers
-numbersFrom w = record { code = word w 0; entries = entriesFrom numberFrom 25 8 (drop 1 w) }
+numbersFrom w = record { code = word w 0; entries = entriesFrom numberFrom numberWidth listPlaces (drop 1 w) }
 
 unfoldable pub servicesFrom : List ℕ → Services
-servicesFrom w = record { count = word w 0; list = take 7 (drop 1 w) }
+servicesFrom w = record { count = word w 0; list = take servicePlaces (drop 1 w) }
 
 unfoldable pub listsFrom : List ℕ → Lists
 listsFrom w = record {
   groups = identitiesFrom w;
-  restricted = identitiesFrom (drop 25 w);
-  exceptions = identitiesFrom (drop 50 w);
-  numbers = numbersFrom (drop 75 w);
-  excepted = numbersFrom (drop 276 w);
+  restricted = identitiesFrom (drop restrictedAt w);
+  exceptions = identitiesFrom (drop exceptionsAt w);
+  numbers = numbersFrom (drop numbersAt w);
+  excepted = numbersFrom (drop exceptedAt w);
 }
 
 unfoldable pub recordFrom : List ℕ → Record
 recordFrom w = record {
   kind = word w 0;
-  affected = identitiesFrom (drop 1 w);
-  asked = word w 26;
-  result = word w 27;
-  delivery = word w 28;
-  services = servicesFrom (drop 29 w);
-  lists = listsFrom (drop 37 w);
+  affected = identitiesFrom (drop affectedAt w);
+  asked = word w askedAt;
+  result = word w resultAt;
+  delivery = word w deliveryAt;
+  services = servicesFrom (drop servicesAt w);
+  lists = listsFrom (drop listsAt w);
 }
 
--- ---- a slice of words: 514 are a record's; another number of them gives no record and is left alone
+-- ---- a slice of words: as many as a record has are one; another number of them gives no record and is left alone
 
 abbrev pub areRecord : ℕ → Bool
-areRecord words = eqb words 514
+areRecord words = eqb words recordWidth
 
 unfoldable pub putRecord : Record → List ℕ → List ℕ
 putRecord r words = pick (areRecord (length words)) (recordWords r) words

@@ -1,5 +1,5 @@
--- A request as 34 words: user network 0, SSI 1; service 2; kind of destination 3 (1 identity, 2 number), network 4, SSI 5, length 6,
--- 24 digits from 7 on; group given 31 (0 or 1), network 32, SSI 33. Words that the request does not use are zero.
+-- A request as words of 32 bits, in this order: the user's network and SSI; service; kind of destination (1 identity, 2 number), network,
+-- SSI, length, 24 digits; group given (0 or 1), its network and SSI. Words that the request does not use are zero.
 use Prim.Native.Nat.{ℕ, _+_}
 use mathlib.Core.List.{List, [], _∷_, _++_}
 use mathlib.Core.Bool.{Bool, true, false, _&&_, _||_}
@@ -12,6 +12,7 @@ use Rattle.rules.specs.declared.request.Destination.the-variants.{Identity, Num
 use Rattle.rules.specs.declared.request.Group.{Group}
 use Rattle.rules.specs.declared.request.Group.the-variants.{Of, NoGroup}
 use Rattle.rules.specs.declared.request.Request.{Request}
+use Rattle.words.specs.Places.{digitPlaces, serviceAt, kindAt, identityAt, lengthAt, digitsAt, givenAt, groupAt, requestWidth}
 use Rattle.words.specs.RecordWords.{word, narrow, narrowed}
 use Rattle.words.specs.declared.request.GivenRequest.{GivenRequest}
 
@@ -19,10 +20,12 @@ use Rattle.words.specs.declared.request.GivenRequest.{GivenRequest}
 
 -- an identity has no length, a number neither network nor SSI; the digits are the request's own rule
 unfoldable pub areDestination : List ℕ → Bool
-areDestination w = eqb (word w 3) 1 && eqb (word w 6) 0 || eqb (word w 3) 2 && (eqb (word w 4) 0 && eqb (word w 5) 0)
+areDestination w =
+    eqb (word w kindAt) 1 && eqb (word w lengthAt) 0
+    || eqb (word w kindAt) 2 && (eqb (word w identityAt) 0 && eqb (word w (identityAt + 1)) 0)
 
 unfoldable pub areGroup : List ℕ → Bool
-areGroup w = eqb (word w 31) 1 || eqb (word w 31) 0 && (eqb (word w 32) 0 && eqb (word w 33) 0)
+areGroup w = eqb (word w givenAt) 1 || eqb (word w givenAt) 0 && (eqb (word w groupAt) 0 && eqb (word w (groupAt + 1)) 0)
 
 unfoldable pub areRequest : List ℕ → Bool
 areRequest w = areDestination w && areGroup w
@@ -31,23 +34,23 @@ abbrev pub userFrom : List ℕ → ℕ → User
 userFrom w at = record { network = word w at; ssi = word w (at + 1) }
 
 unfoldable pub destinationFrom : List ℕ → Destination
-destinationFrom w = pick (eqb (word w 3) 1) (Identity (userFrom w 4)) (Number (record { 0 = narrow (word w 6) }))
+destinationFrom w = pick (eqb (word w kindAt) 1) (Identity (userFrom w identityAt)) (Number (record { 0 = narrow (word w lengthAt) }))
 
 unfoldable pub groupFrom : List ℕ → Group
-groupFrom w = pick (eqb (word w 31) 1) (Of (userFrom w 32)) NoGroup
+groupFrom w = pick (eqb (word w givenAt) 1) (Of (userFrom w groupAt)) NoGroup
 
 unfoldable pub requestFrom : List ℕ → Request
 requestFrom w = record {
   user = userFrom w 0;
-  service = word w 2;
+  service = word w serviceAt;
   destination = destinationFrom w;
-  digits = narrowed (take 24 (drop 7 w));
+  digits = narrowed (take digitPlaces (drop digitsAt w));
   group = groupFrom w;
 }
 
--- 34 words that are a request's
+-- as many words as a request has, and they are a request's
 abbrev pub isRequest : List ℕ → Bool
-isRequest words = eqb (length words) 34 && areRequest words
+isRequest words = eqb (length words) requestWidth && areRequest words
 
 abbrev pub noRequest : GivenRequest
 noRequest = record {
@@ -56,7 +59,7 @@ noRequest = record {
     user = record { network = 0; ssi = 0 };
     service = 0;
     destination = Identity (record { network = 0; ssi = 0 });
-    digits = replicate 24 0;
+    digits = replicate digitPlaces 0;
     group = NoGroup;
   };
 }

@@ -1,4 +1,4 @@
-// A record as 514 words: PDU type; affected users; interrogation type, result, delivery status; services; the five lists.
+// A record as words: PDU type; affected users; interrogation type, result, delivery status; services; the five lists.
 use bits::DigitCount;
 use grammar::record::Identities;
 use grammar::record::Identity;
@@ -12,10 +12,56 @@ ghost use mathlib.Core.Path.{_≡_};
 ghost use mathlib.Core.List.{_∷_, []};
 ghost use Prim.Native.Nat.{_+_, _≤_, _<_};
 ghost use lib.ListN.{length, take, drop};
+ghost use Rattle.words.specs.Places.{digitPlaces, identityWidth, identitiesWidth, numberWidth, numbersWidth, servicesWidth, listsWidth, recordWidth};
 ghost use Rattle.words.specs.Inner.{Put};
 ghost use Rattle.words.specs.RecordWords.{identityWords, identitiesWords, numberWords, numbersWords, servicesWords, listsWords, recordWords, narrow, narrowed, identityFrom, identitiesFrom, numberFrom, numbersFrom, servicesFrom, listsFrom, recordFrom, givenRecord, putRecord};
 
-pub const RECORD_WORDS: usize = 514;
+// ---- how many words each part has, and where it begins: after those before it
+
+// Entries of a list, digits of a number, services.
+const LIST_PLACES: usize = 8;
+
+pub(crate) const DIGIT_PLACES: usize = 24;
+
+const SERVICE_PLACES: usize = 7;
+
+const IDENTITY_WORDS: usize = 3;
+
+const IDENTITIES_WORDS: usize = 1 + LIST_PLACES * IDENTITY_WORDS;
+
+const NUMBER_WORDS: usize = 1 + DIGIT_PLACES;
+
+const NUMBERS_WORDS: usize = 1 + LIST_PLACES * NUMBER_WORDS;
+
+const SERVICES_WORDS: usize = 1 + SERVICE_PLACES;
+
+// The five lists, groups first.
+const RESTRICTED: usize = IDENTITIES_WORDS;
+
+const EXCEPTIONS: usize = RESTRICTED + IDENTITIES_WORDS;
+
+const RESTRICTED_NUMBERS: usize = EXCEPTIONS + IDENTITIES_WORDS;
+
+const EXCEPTED_NUMBERS: usize = RESTRICTED_NUMBERS + NUMBERS_WORDS;
+
+const LISTS_WORDS: usize = EXCEPTED_NUMBERS + NUMBERS_WORDS;
+
+// The record.
+const PDU_TYPE: usize = 0;
+
+const AFFECTED: usize = PDU_TYPE + 1;
+
+const INTERROGATION_TYPE: usize = AFFECTED + IDENTITIES_WORDS;
+
+const INTERROGATION_RESULT: usize = INTERROGATION_TYPE + 1;
+
+const DELIVERY_STATUS: usize = INTERROGATION_RESULT + 1;
+
+const SERVICE_COUNT: usize = DELIVERY_STATUS + 1;
+
+const GROUPS: usize = SERVICE_COUNT + SERVICES_WORDS;
+
+pub const RECORD_WORDS: usize = GROUPS + LISTS_WORDS;
 
 // Whether words are a record's, and that record. Beside other words all of it is zero.
 pub struct GivenRecord {
@@ -34,8 +80,8 @@ fn put_word(words: &mut [u32], at: usize, word: u32) -> usize
 }
 
 fn put_identity(words: &mut [u32], at: usize, e: Identity) -> usize
-    requires { ⌜ at + 3 ≤ length (now words) ⌝ }
-    ensures { λ r. ⌜ Put (now (words .entry)) at (identityWords e) 3 (now (words .exit)) r ⌝ }
+    requires { ⌜ at + identityWidth ≤ length (now words) ⌝ }
+    ensures { λ r. ⌜ Put (now (words .entry)) at (identityWords e) identityWidth (now (words .exit)) r ⌝ }
 {
     let present_at = put_word(words, at, e.ssi);
     let extension_at = put_word(words, present_at, e.present);
@@ -43,13 +89,13 @@ fn put_identity(words: &mut [u32], at: usize, e: Identity) -> usize
 }
 
 fn put_identities(words: &mut [u32], at: usize, list: Identities) -> usize
-    requires { ⌜ at + 25 ≤ length (now words) ⌝ }
-    ensures { λ r. ⌜ Put (now (words .entry)) at (identitiesWords list) 25 (now (words .exit)) r ⌝ }
+    requires { ⌜ at + identitiesWidth ≤ length (now words) ⌝ }
+    ensures { λ r. ⌜ Put (now (words .entry)) at (identitiesWords list) identitiesWidth (now (words .exit)) r ⌝ }
 {
     let entries = list.entries;
     let mut next = put_word(words, at, list.code);
     let mut i: usize = 0;
-    while i < 8 {
+    while i < LIST_PLACES {
         next = put_identity(words, next, entries[i]);
         i += 1;
     }
@@ -57,13 +103,13 @@ fn put_identities(words: &mut [u32], at: usize, list: Identities) -> usize
 }
 
 fn put_number(words: &mut [u32], at: usize, e: Number) -> usize
-    requires { ⌜ at + 25 ≤ length (now words) ⌝ }
-    ensures { λ r. ⌜ Put (now (words .entry)) at (numberWords e) 25 (now (words .exit)) r ⌝ }
+    requires { ⌜ at + numberWidth ≤ length (now words) ⌝ }
+    ensures { λ r. ⌜ Put (now (words .entry)) at (numberWords e) numberWidth (now (words .exit)) r ⌝ }
 {
     let digits = e.digits;
     let mut next = put_word(words, at, e.length.0 as u32);
     let mut i: usize = 0;
-    while i < 24 {
+    while i < DIGIT_PLACES {
         next = put_word(words, next, digits[i] as u32);
         i += 1;
     }
@@ -71,13 +117,13 @@ fn put_number(words: &mut [u32], at: usize, e: Number) -> usize
 }
 
 fn put_numbers(words: &mut [u32], at: usize, list: Numbers) -> usize
-    requires { ⌜ at + 201 ≤ length (now words) ⌝ }
-    ensures { λ r. ⌜ Put (now (words .entry)) at (numbersWords list) 201 (now (words .exit)) r ⌝ }
+    requires { ⌜ at + numbersWidth ≤ length (now words) ⌝ }
+    ensures { λ r. ⌜ Put (now (words .entry)) at (numbersWords list) numbersWidth (now (words .exit)) r ⌝ }
 {
     let entries = list.entries;
     let mut next = put_word(words, at, list.code);
     let mut i: usize = 0;
-    while i < 8 {
+    while i < LIST_PLACES {
         next = put_number(words, next, entries[i]);
         i += 1;
     }
@@ -85,13 +131,13 @@ fn put_numbers(words: &mut [u32], at: usize, list: Numbers) -> usize
 }
 
 fn put_services(words: &mut [u32], at: usize, services: Services) -> usize
-    requires { ⌜ at + 8 ≤ length (now words) ⌝ }
-    ensures { λ r. ⌜ Put (now (words .entry)) at (servicesWords services) 8 (now (words .exit)) r ⌝ }
+    requires { ⌜ at + servicesWidth ≤ length (now words) ⌝ }
+    ensures { λ r. ⌜ Put (now (words .entry)) at (servicesWords services) servicesWidth (now (words .exit)) r ⌝ }
 {
     let list = services.list;
     let mut next = put_word(words, at, services.count);
     let mut i: usize = 0;
-    while i < 7 {
+    while i < SERVICE_PLACES {
         next = put_word(words, next, list[i]);
         i += 1;
     }
@@ -99,8 +145,8 @@ fn put_services(words: &mut [u32], at: usize, services: Services) -> usize
 }
 
 fn put_lists(words: &mut [u32], at: usize, lists: Lists) -> usize
-    requires { ⌜ at + 477 ≤ length (now words) ⌝ }
-    ensures { λ r. ⌜ Put (now (words .entry)) at (listsWords lists) 477 (now (words .exit)) r ⌝ }
+    requires { ⌜ at + listsWidth ≤ length (now words) ⌝ }
+    ensures { λ r. ⌜ Put (now (words .entry)) at (listsWords lists) listsWidth (now (words .exit)) r ⌝ }
 {
     let groups = lists.groups;
     let restricted = lists.restricted;
@@ -115,13 +161,13 @@ fn put_lists(words: &mut [u32], at: usize, lists: Lists) -> usize
 }
 
 fn put_fields(words: &mut [u32], found: Record)
-    requires { ⌜ length (now words) ≡ 514 ⌝ }
+    requires { ⌜ length (now words) ≡ recordWidth ⌝ }
     ensures { λ _. ⌜ now (words .exit) ≡ recordWords found ⌝ }
 {
     let affected = found.affected;
     let services = found.services;
     let lists = found.lists;
-    let affected_at = put_word(words, 0, found.kind);
+    let affected_at = put_word(words, PDU_TYPE, found.kind);
     let asked_at = put_identities(words, affected_at, affected);
     let result_at = put_word(words, asked_at, found.asked);
     let delivery_at = put_word(words, result_at, found.result);
@@ -152,7 +198,7 @@ pub(crate) fn narrow_word(word: u32) -> u8
 }
 
 fn identity_from(words: &[u32], at: usize) -> Identity
-    requires { ⌜ at + 3 ≤ length (now words) ⌝ }
+    requires { ⌜ at + identityWidth ≤ length (now words) ⌝ }
     ensures { λ r. ⌜ r ≡ identityFrom (drop at (now (words .entry))) ⌝ }
 {
     Identity {
@@ -163,7 +209,7 @@ fn identity_from(words: &[u32], at: usize) -> Identity
 }
 
 fn identities_from(words: &[u32], at: usize) -> Identities
-    requires { ⌜ at + 25 ≤ length (now words) ⌝ }
+    requires { ⌜ at + identitiesWidth ≤ length (now words) ⌝ }
     ensures { λ r. ⌜ r ≡ identitiesFrom (drop at (now (words .entry))) ⌝ }
 {
     let none = Identity {
@@ -174,9 +220,9 @@ fn identities_from(words: &[u32], at: usize) -> Identities
     let mut held = [none; 8];
     let mut from = at + 1;
     let mut i: usize = 0;
-    while i < 8 {
+    while i < LIST_PLACES {
         held[i] = identity_from(words, from);
-        from += 3;
+        from += IDENTITY_WORDS;
         i += 1;
     }
     Identities {
@@ -187,12 +233,12 @@ fn identities_from(words: &[u32], at: usize) -> Identities
 
 // The 24 digits from a place on.
 pub(crate) fn digits_from(words: &[u32], at: usize) -> [u8; 24]
-    requires { ⌜ at + 24 ≤ length (now words) ⌝ }
-    ensures { λ r. ⌜ r ≡ narrowed (take 24 (drop at (now (words .entry)))) ⌝ }
+    requires { ⌜ at + digitPlaces ≤ length (now words) ⌝ }
+    ensures { λ r. ⌜ r ≡ narrowed (take digitPlaces (drop at (now (words .entry)))) ⌝ }
 {
     let mut held = [0u8; 24];
     let mut i: usize = 0;
-    while i < 24 {
+    while i < DIGIT_PLACES {
         held[i] = narrow_word(words[at + i]);
         i += 1;
     }
@@ -200,7 +246,7 @@ pub(crate) fn digits_from(words: &[u32], at: usize) -> [u8; 24]
 }
 
 fn number_from(words: &[u32], at: usize) -> Number
-    requires { ⌜ at + 25 ≤ length (now words) ⌝ }
+    requires { ⌜ at + numberWidth ≤ length (now words) ⌝ }
     ensures { λ r. ⌜ r ≡ numberFrom (drop at (now (words .entry))) ⌝ }
 {
     Number {
@@ -210,7 +256,7 @@ fn number_from(words: &[u32], at: usize) -> Number
 }
 
 fn numbers_from(words: &[u32], at: usize) -> Numbers
-    requires { ⌜ at + 201 ≤ length (now words) ⌝ }
+    requires { ⌜ at + numbersWidth ≤ length (now words) ⌝ }
     ensures { λ r. ⌜ r ≡ numbersFrom (drop at (now (words .entry))) ⌝ }
 {
     let none = Number {
@@ -220,9 +266,9 @@ fn numbers_from(words: &[u32], at: usize) -> Numbers
     let mut held = [none; 8];
     let mut from = at + 1;
     let mut i: usize = 0;
-    while i < 8 {
+    while i < LIST_PLACES {
         held[i] = number_from(words, from);
-        from += 25;
+        from += NUMBER_WORDS;
         i += 1;
     }
     Numbers {
@@ -232,13 +278,13 @@ fn numbers_from(words: &[u32], at: usize) -> Numbers
 }
 
 fn services_from(words: &[u32], at: usize) -> Services
-    requires { ⌜ at + 8 ≤ length (now words) ⌝ }
+    requires { ⌜ at + servicesWidth ≤ length (now words) ⌝ }
     ensures { λ r. ⌜ r ≡ servicesFrom (drop at (now (words .entry))) ⌝ }
 {
     let mut held = [0u32; 7];
     let first = at + 1;
     let mut i: usize = 0;
-    while i < 7 {
+    while i < SERVICE_PLACES {
         held[i] = words[first + i];
         i += 1;
     }
@@ -249,34 +295,34 @@ fn services_from(words: &[u32], at: usize) -> Services
 }
 
 fn lists_from(words: &[u32], at: usize) -> Lists
-    requires { ⌜ at + 477 ≤ length (now words) ⌝ }
+    requires { ⌜ at + listsWidth ≤ length (now words) ⌝ }
     ensures { λ r. ⌜ r ≡ listsFrom (drop at (now (words .entry))) ⌝ }
 {
     Lists {
         groups: identities_from(words, at),
-        restricted: identities_from(words, at + 25),
-        exceptions: identities_from(words, at + 50),
-        numbers: numbers_from(words, at + 75),
-        excepted: numbers_from(words, at + 276),
+        restricted: identities_from(words, at + RESTRICTED),
+        exceptions: identities_from(words, at + EXCEPTIONS),
+        numbers: numbers_from(words, at + RESTRICTED_NUMBERS),
+        excepted: numbers_from(words, at + EXCEPTED_NUMBERS),
     }
 }
 
 fn fields_from(words: &[u32]) -> Record
-    requires { ⌜ length (now words) ≡ 514 ⌝ }
+    requires { ⌜ length (now words) ≡ recordWidth ⌝ }
     ensures { λ r. ⌜ r ≡ recordFrom (now (words .entry)) ⌝ }
 {
     Record {
-        kind: words[0],
-        affected: identities_from(words, 1),
-        asked: words[26],
-        result: words[27],
-        delivery: words[28],
-        services: services_from(words, 29),
-        lists: lists_from(words, 37),
+        kind: words[PDU_TYPE],
+        affected: identities_from(words, AFFECTED),
+        asked: words[INTERROGATION_TYPE],
+        result: words[INTERROGATION_RESULT],
+        delivery: words[DELIVERY_STATUS],
+        services: services_from(words, SERVICE_COUNT),
+        lists: lists_from(words, GROUPS),
     }
 }
 
-// The record of 514 words.
+// The record of as many words as one has.
 pub fn record_from(words: &[u32]) -> GivenRecord
     ensures { λ r. ⌜ r ≡ givenRecord (now (words .entry)) ⌝ }
 {

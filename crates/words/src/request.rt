@@ -1,4 +1,5 @@
-// A request as 34 words: user network, SSI; service; kind of destination, network, SSI, length, 24 digits; group given, network, SSI.
+// A request as words: user network, SSI; service; kind of destination, network, SSI, length, 24 digits; group given, network, SSI.
+use crate::record::DIGIT_PLACES;
 use crate::record::digits_from;
 use crate::record::narrow_word;
 use bits::DigitCount;
@@ -8,9 +9,33 @@ use rules::request::Request;
 use rules::request::User;
 ghost use mathlib.Core.Path.{_≡_};
 ghost use lib.ListN.{length};
+ghost use Rattle.words.specs.Places.{requestWidth};
 ghost use Rattle.words.specs.RequestWords.{areDestination, areGroup, areRequest, destinationFrom, groupFrom, requestFrom, noRequest, givenRequest};
 
-const REQUEST_WORDS: usize = 34;
+// Where each word stands, and how many they are.
+const USER_NETWORK: usize = 0;
+
+const USER_SSI: usize = USER_NETWORK + 1;
+
+const SERVICE: usize = USER_SSI + 1;
+
+const DESTINATION_KIND: usize = SERVICE + 1;
+
+const NETWORK: usize = DESTINATION_KIND + 1;
+
+const SSI: usize = NETWORK + 1;
+
+const LENGTH: usize = SSI + 1;
+
+const DIGITS: usize = LENGTH + 1;
+
+const GROUP_GIVEN: usize = DIGITS + DIGIT_PLACES;
+
+const GROUP_NETWORK: usize = GROUP_GIVEN + 1;
+
+const GROUP_SSI: usize = GROUP_NETWORK + 1;
+
+const REQUEST_WORDS: usize = GROUP_SSI + 1;
 
 // Whether words are a request's, and that request. Beside other words all of it is zero.
 pub struct GivenRequest {
@@ -20,16 +45,16 @@ pub struct GivenRequest {
 
 // The destination is an identity (1) without a length, or a number (2) without network and SSI.
 fn are_destination(words: &[u32]) -> bool
-    requires { ⌜ length (now words) ≡ 34 ⌝ }
+    requires { ⌜ length (now words) ≡ requestWidth ⌝ }
     ensures { λ r. ⌜ r ≡ areDestination (now (words .entry)) ⌝ }
 {
-    match words[3] {
-        1 => words[6] == 0,
+    match words[DESTINATION_KIND] {
+        1 => words[LENGTH] == 0,
         2 => {
-            if words[4] != 0 {
+            if words[NETWORK] != 0 {
                 return false;
             }
-            words[5] == 0
+            words[SSI] == 0
         },
         _ => false,
     }
@@ -37,15 +62,15 @@ fn are_destination(words: &[u32]) -> bool
 
 // The group is given (1), or not (0) and its words are zero.
 fn are_group(words: &[u32]) -> bool
-    requires { ⌜ length (now words) ≡ 34 ⌝ }
+    requires { ⌜ length (now words) ≡ requestWidth ⌝ }
     ensures { λ r. ⌜ r ≡ areGroup (now (words .entry)) ⌝ }
 {
-    match words[31] {
+    match words[GROUP_GIVEN] {
         0 => {
-            if words[32] != 0 {
+            if words[GROUP_NETWORK] != 0 {
                 return false;
             }
-            words[33] == 0
+            words[GROUP_SSI] == 0
         },
         1 => true,
         _ => false,
@@ -54,7 +79,7 @@ fn are_group(words: &[u32]) -> bool
 
 // Whether words are those of a request: its kinds are named, and words that it does not use are zero.
 fn are_request(words: &[u32]) -> bool
-    requires { ⌜ length (now words) ≡ 34 ⌝ }
+    requires { ⌜ length (now words) ≡ requestWidth ⌝ }
     ensures { λ r. ⌜ r ≡ areRequest (now (words .entry)) ⌝ }
 {
     if !are_destination(words) {
@@ -64,44 +89,44 @@ fn are_request(words: &[u32]) -> bool
 }
 
 fn destination_from(words: &[u32]) -> Destination
-    requires { ⌜ length (now words) ≡ 34 ⌝ }
+    requires { ⌜ length (now words) ≡ requestWidth ⌝ }
     ensures { λ r. ⌜ r ≡ destinationFrom (now (words .entry)) ⌝ }
 {
-    if words[3] == 1 {
+    if words[DESTINATION_KIND] == 1 {
         return Destination::Identity(User {
-            network: words[4],
-            ssi: words[5],
+            network: words[NETWORK],
+            ssi: words[SSI],
         });
     }
-    Destination::Number(DigitCount(narrow_word(words[6])))
+    Destination::Number(DigitCount(narrow_word(words[LENGTH])))
 }
 
 fn group_from(words: &[u32]) -> Group
-    requires { ⌜ length (now words) ≡ 34 ⌝ }
+    requires { ⌜ length (now words) ≡ requestWidth ⌝ }
     ensures { λ r. ⌜ r ≡ groupFrom (now (words .entry)) ⌝ }
 {
-    if words[31] == 1 {
+    if words[GROUP_GIVEN] == 1 {
         return Group::Of(User {
-            network: words[32],
-            ssi: words[33],
+            network: words[GROUP_NETWORK],
+            ssi: words[GROUP_SSI],
         });
     }
     Group::NoGroup
 }
 
 fn fields_from(words: &[u32]) -> Request
-    requires { ⌜ length (now words) ≡ 34 ⌝ }
+    requires { ⌜ length (now words) ≡ requestWidth ⌝ }
     ensures { λ r. ⌜ r ≡ requestFrom (now (words .entry)) ⌝ }
 {
     let user = User {
-        network: words[0],
-        ssi: words[1],
+        network: words[USER_NETWORK],
+        ssi: words[USER_SSI],
     };
     Request {
         user,
-        service: words[2],
+        service: words[SERVICE],
         destination: destination_from(words),
-        digits: digits_from(words, 7),
+        digits: digits_from(words, DIGITS),
         group: group_from(words),
     }
 }
@@ -122,7 +147,7 @@ fn no_request() -> GivenRequest
     }
 }
 
-// The request of 34 words that are one's.
+// The request of words that are one's.
 pub fn request_from(words: &[u32]) -> GivenRequest
     ensures { λ r. ⌜ r ≡ givenRequest (now (words .entry)) ⌝ }
 {

@@ -1,4 +1,4 @@
--- 514 words or 9; then the reader's answer. Assumes nothing.
+-- As many words as a record has or 9; then the reader's answer. Assumes nothing.
 use mathlib.Core.Path.{_≡_, sym, ap, _∙_}
 use mathlib.Core.Bool.{true, false}
 use borrow.Author.Needs.{needs}
@@ -15,14 +15,14 @@ use Rattle.boc.proofs.boc_read.Tie as tie
 returns : tie.Need-returns
 unfolding readNumber readWords
 returns c =
-    let e : areRecord (length (now (c .before .before .before .args .words))) ≡ false = ne-eqb _ _ (c .if1 .taken) in
+    let e : areRecord (length (now (c .before .before .before .args .«record»))) ≡ false = ne-eqb _ _ (c .if1 .taken) in
     (rw e, rw e)
 
--- there are 514 words
-whole : (c : tie.Else1) → areRecord (length (now (c .before .before .before .args .words))) ≡ true
+-- there are as many words as a record has
+whole : (c : tie.Else1) → areRecord (length (now (c .before .before .before .args .«record»))) ≡ true
 whole c = eq-eqb _ _ (c .if1 .left)
 
-filled : (c : tie.Else1) (r : Record) → putRecord r (now (c .before .before .before .args .words)) ≡ recordWords r
+filled : (c : tie.Else1) (r : Record) → putRecord r (now (c .before .before .before .args .«record»)) ≡ recordWords r
 unfolding putRecord
 filled c r = rw (whole c)
 

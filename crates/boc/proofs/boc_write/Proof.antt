@@ -1,4 +1,4 @@
--- The record of 514 words or 9; then the writer's answer passed on. Assumes nothing.
+-- The record of its words or 9; then the writer's answer passed on. Assumes nothing.
 use mathlib.Core.Path.{_≡_, ap, _∙_}
 use mathlib.Core.Bool.{true}
 use mathlib.Core.List.{List}
@@ -18,7 +18,7 @@ use Rattle.boc.proofs.boc_write.Statement.{statement}
 use Rattle.boc.proofs.boc_write.Tie as tie
 
 abbrev words-of : tie.After-record-from → List ℕ
-words-of c = now (c .before .before .before .args .words)
+words-of c = now (c .before .before .before .args .«record»)
 
 given : (c : tie.After-record-from) → c .record-from .result .given ≡ areRecord (length (words-of c))
 given c = ap (λ (g : GivenRecord). g .given) (c .record-from .ensures) ∙ record-given (words-of c)
@@ -27,7 +27,7 @@ returns : tie.Need-returns
 unfolding writeNumber writeOut writeBits
 returns c = let e = said-no (given (c .before .before)) (c .if1 .taken) in (rw e, (rw e, rw e))
 
--- there are 514 words
+-- there are as many words as a record has
 abbrev from-of : tie.After-write → tie.After-record-from
 from-of c = c .before .before .before .before
 
@@ -37,7 +37,7 @@ whole c = said-yes (given (from-of c)) (c .before .before .if1 .left)
 -- what the writer answers and leaves, for their record
 answer : (c : tie.After-write) →
     let a = from-of c .before .before .before .args in
-    let r = recordFrom (now (a .words)) in
+    let r = recordFrom (now (a .«record»)) in
     (c .write .result ≡ writeIs r (now (a .out))) × (c .write .last .1 .0 ≡ outIs r (now (a .out)))
 answer c =
     let from = from-of c in
@@ -49,7 +49,7 @@ returns-2 : tie.Need-returns-2
 unfolding writeNumber writeOut writeBits
 returns-2 c =
     let write = c .before .before .before .before .before in
-    rw (whole write) (passed writtenNumber writtenLength _ (answer write .0) (c .before .length .given .1) (answer write .1))
+    rw (whole write) (passed writtenNumber writtenLength _ (answer write .0) (c .before .n .given .1) (answer write .1))
 
 returns-3 : tie.Need-returns-3
 unfolding writeNumber writeOut writeBits

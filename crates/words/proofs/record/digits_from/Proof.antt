@@ -6,16 +6,17 @@ use native.Mathlib.Omega.{arith}
 use borrow.Author.Needs.{needs}
 use denote.Ref.{now}
 use lib.ListN.{drop, length-drop}
+use Rattle.words.specs.Places.{digitPlaces}
 use Rattle.words.specs.RecordWords.{word, narrow}
 use Rattle.words.proofs.Filling.{first-word, Filled, filled-none, filled-more, filled-all, words-narrowed}
 use Rattle.words.proofs.record.digits_from.Statement.{statement}
 use Rattle.words.proofs.record.digits_from.Tie as tie
 
 abbrev Inv-loop : tie.InvT-loop
-Inv-loop words at held₀ i₀ held i = Filled (λ (v : List ℕ). narrow (word v 0)) 1 24 words at i held
+Inv-loop words at held₀ i₀ held i = Filled (λ (v : List ℕ). narrow (word v 0)) 1 digitPlaces words at i held
 
 abbrev μ-loop : tie.MeasureT-loop
-μ-loop words at held₀ i₀ held i = 24 - i
+μ-loop words at held₀ i₀ held i = digitPlaces - i
 
 loop-again : tie.Need-loop-again Inv-loop μ-loop
 loop-again c =
@@ -31,7 +32,8 @@ returns c =
     let start = c .before .before .before in
     let a = start .args in
     let w = now (a .words) in
-    filled-all (c .loop-test .left) (c .before .loop .inv) ∙ words-narrowed 24 (drop (a .at) w) (omega (arith, length-drop (a .at) w, start .pre))
+    filled-all (c .loop-test .left) (c .before .loop .inv)
+    ∙ words-narrowed digitPlaces (drop (a .at) w) (omega (arith, length-drop (a .at) w, start .pre))
 
 pub digits-from-spec : {M : Type 1} → statement M
 digits-from-spec =

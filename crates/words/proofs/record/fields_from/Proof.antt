@@ -1,6 +1,7 @@
 -- Each part from its place on. Assumes nothing.
 use borrow.Author.Needs.{needs}
 use denote.Ref.{now}
+use Rattle.words.specs.Places.{askedAt, resultAt, deliveryAt}
 use Rattle.words.specs.RecordWords.{word, recordFrom}
 use Rattle.words.proofs.record.fields_from.Statement.{statement}
 use Rattle.words.proofs.record.fields_from.Tie as tie
@@ -14,9 +15,9 @@ returns c =
     λ i. record {
       kind = word w 0;
       affected = affected .identities-from .ensures i;
-      asked = word w 26;
-      result = word w 27;
-      delivery = word w 28;
+      asked = word w askedAt;
+      result = word w resultAt;
+      delivery = word w deliveryAt;
       services = services .services-from .ensures i;
       lists = c .lists-from .ensures i;
     }

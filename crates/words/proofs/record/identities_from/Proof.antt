@@ -4,16 +4,18 @@ use Prim.Native.Nat.{_+_, _-_, _*_}
 use native.Mathlib.Omega.{arith}
 use denote.Ref.{now}
 use lib.Seq.{drop-drop}
+use Rattle.words.specs.Places.{identityWidth, listPlaces}
 use Rattle.words.specs.RecordWords.{entriesFrom, identityFrom, identitiesFrom}
 use Rattle.words.proofs.Filling.{first-word, Filled, filled-none, filled-more, filled-all}
 use Rattle.words.proofs.record.identities_from.Statement.{statement}
 use Rattle.words.proofs.record.identities_from.Tie as tie
 
 abbrev Inv-loop : tie.InvT-loop
-Inv-loop words at held₀ from₀ i₀ held from i = Filled identityFrom 3 8 words (at + 1) i held × (from ≡ at + 1 + 3 * i)
+Inv-loop words at held₀ from₀ i₀ held from i =
+    Filled identityFrom identityWidth listPlaces words (at + 1) i held × (from ≡ at + 1 + identityWidth * i)
 
 abbrev μ-loop : tie.MeasureT-loop
-μ-loop words at held₀ from₀ i₀ held from i = 8 - i
+μ-loop words at held₀ from₀ i₀ held from i = listPlaces - i
 
 loop-again : tie.Need-loop-again Inv-loop μ-loop
 loop-again c =
@@ -26,7 +28,10 @@ returns c =
     let loop = c .before .before in
     let a = loop .before .before .args in
     let w = now (a .words) in
-    let e = filled-all (c .before .loop-test .left) (loop .loop .inv .0) ∙ ap (entriesFrom identityFrom 3 8) (sym (drop-drop 1 (a .at) w)) in
+    let e =
+    filled-all (c .before .loop-test .left) (loop .loop .inv .0)
+    ∙ ap (entriesFrom identityFrom identityWidth listPlaces) (sym (drop-drop 1 (a .at) w))
+    in
     λ i. record { code = first-word w (a .at) i; entries = e i }
 
 pub identities-from-spec : {M : Type 1} → statement M

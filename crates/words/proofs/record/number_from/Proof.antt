@@ -6,6 +6,7 @@ use borrow.Author.Needs.{needs}
 use denote.Ref.{now}
 use lib.ListN.{take}
 use lib.Seq.{drop-drop}
+use Rattle.words.specs.Places.{digitPlaces}
 use Rattle.words.specs.RecordWords.{narrow, narrowed, numberFrom}
 use Rattle.words.proofs.Filling.{first-word}
 use Rattle.words.proofs.record.number_from.Statement.{statement}
@@ -17,7 +18,7 @@ returns c =
     let a = c .before .before .before .before .args in
     let w = now (a .words) in
     let l = c .before .narrow-word .ensures ∙ ap narrow (first-word w (a .at)) in
-    let d = c .digits-from .ensures ∙ ap (λ (s : List ℕ). narrowed (take 24 s)) (sym (drop-drop 1 (a .at) w)) in
+    let d = c .digits-from .ensures ∙ ap (λ (s : List ℕ). narrowed (take digitPlaces s)) (sym (drop-drop 1 (a .at) w)) in
     λ i. record { length = record { 0 = l i }; digits = d i }
 
 pub number-from-spec : {M : Type 1} → statement M

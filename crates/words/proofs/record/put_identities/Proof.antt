@@ -5,18 +5,19 @@ use native.Mathlib.Omega.{arith}
 use borrow.Author.Needs.{needs}
 use lib.ListN.{length}
 use Rattle.grammar.proofs.Arrays.{identities-length}
+use Rattle.words.specs.Places.{identityWidth, listPlaces}
 use Rattle.words.specs.RecordWords.{identityWords, identitiesWords}
 use Rattle.words.proofs.Putting.{then, Turned, turned-none, turned-more, turned-all}
 use Rattle.words.proofs.record.put_identities.Statement.{statement}
 use Rattle.words.proofs.record.put_identities.Tie as tie
 
 abbrev Inv-loop : tie.InvT-loop
-Inv-loop words₀ at entries next₀ i₀ words next i = Turned identityWords entries 3 8 words₀ next₀ i words next
+Inv-loop words₀ at entries next₀ i₀ words next i = Turned identityWords entries identityWidth listPlaces words₀ next₀ i words next
 
 abbrev μ-loop : tie.MeasureT-loop
-μ-loop words₀ at entries next₀ i₀ words next i = 8 - i
+μ-loop words₀ at entries next₀ i₀ words next i = listPlaces - i
 
-long : (c : tie.Start Inv-loop μ-loop) → length (c .args .list .entries) ≡ 8
+long : (c : tie.Start Inv-loop μ-loop) → length (c .args .list .entries) ≡ listPlaces
 long c = identities-length (c .args .list) _ (c .good .1 .1 .0)
 
 loop-again : tie.Need-loop-again Inv-loop μ-loop

@@ -6,18 +6,19 @@ use native.Mathlib.Omega.{arith}
 use borrow.Author.Needs.{needs}
 use lib.ListN.{length}
 use Rattle.grammar.proofs.Arrays.{digits-length}
+use Rattle.words.specs.Places.{digitPlaces}
 use Rattle.words.specs.RecordWords.{numberWords}
 use Rattle.words.proofs.Putting.{then, inTurn-words, Turned, turned-none, turned-more, turned-all}
 use Rattle.words.proofs.record.put_number.Statement.{statement}
 use Rattle.words.proofs.record.put_number.Tie as tie
 
 abbrev Inv-loop : tie.InvT-loop
-Inv-loop words₀ at digits next₀ i₀ words next i = Turned (λ (x : ℕ). x ∷ []) digits 1 24 words₀ next₀ i words next
+Inv-loop words₀ at digits next₀ i₀ words next i = Turned (λ (x : ℕ). x ∷ []) digits 1 digitPlaces words₀ next₀ i words next
 
 abbrev μ-loop : tie.MeasureT-loop
-μ-loop words₀ at digits next₀ i₀ words next i = 24 - i
+μ-loop words₀ at digits next₀ i₀ words next i = digitPlaces - i
 
-long : (c : tie.Start Inv-loop μ-loop) → length (c .args .e .digits) ≡ 24
+long : (c : tie.Start Inv-loop μ-loop) → length (c .args .e .digits) ≡ digitPlaces
 long c = digits-length (c .args .e) _ (c .good .1 .1 .0)
 
 loop-again : tie.Need-loop-again Inv-loop μ-loop

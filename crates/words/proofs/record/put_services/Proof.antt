@@ -6,18 +6,19 @@ use native.Mathlib.Omega.{arith}
 use borrow.Author.Needs.{needs}
 use lib.ListN.{length}
 use Rattle.grammar.proofs.Arrays.{services-length}
+use Rattle.words.specs.Places.{servicePlaces}
 use Rattle.words.specs.RecordWords.{servicesWords}
 use Rattle.words.proofs.Putting.{then, inTurn-words, Turned, turned-none, turned-more, turned-all}
 use Rattle.words.proofs.record.put_services.Statement.{statement}
 use Rattle.words.proofs.record.put_services.Tie as tie
 
 abbrev Inv-loop : tie.InvT-loop
-Inv-loop words₀ at list next₀ i₀ words next i = Turned (λ (x : ℕ). x ∷ []) list 1 7 words₀ next₀ i words next
+Inv-loop words₀ at list next₀ i₀ words next i = Turned (λ (x : ℕ). x ∷ []) list 1 servicePlaces words₀ next₀ i words next
 
 abbrev μ-loop : tie.MeasureT-loop
-μ-loop words₀ at list next₀ i₀ words next i = 7 - i
+μ-loop words₀ at list next₀ i₀ words next i = servicePlaces - i
 
-long : (c : tie.Start Inv-loop μ-loop) → length (c .args .services .list) ≡ 7
+long : (c : tie.Start Inv-loop μ-loop) → length (c .args .services .list) ≡ servicePlaces
 long c = services-length (c .args .services) _ (c .good .1 .1 .0)
 
 loop-again : tie.Need-loop-again Inv-loop μ-loop

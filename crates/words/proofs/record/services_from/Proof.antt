@@ -7,16 +7,17 @@ use borrow.Author.Needs.{needs}
 use denote.Ref.{now}
 use lib.ListN.{take, drop, length-drop}
 use lib.Seq.{drop-drop}
+use Rattle.words.specs.Places.{servicePlaces}
 use Rattle.words.specs.RecordWords.{word, servicesFrom}
 use Rattle.words.proofs.Filling.{first-word, Filled, filled-none, filled-more, filled-all, words-taken}
 use Rattle.words.proofs.record.services_from.Statement.{statement}
 use Rattle.words.proofs.record.services_from.Tie as tie
 
 abbrev Inv-loop : tie.InvT-loop
-Inv-loop words at held₀ first i₀ held i = Filled (λ (v : List ℕ). word v 0) 1 7 words first i held
+Inv-loop words at held₀ first i₀ held i = Filled (λ (v : List ℕ). word v 0) 1 servicePlaces words first i held
 
 abbrev μ-loop : tie.MeasureT-loop
-μ-loop words at held₀ first i₀ held i = 7 - i
+μ-loop words at held₀ first i₀ held i = servicePlaces - i
 
 loop-again : tie.Need-loop-again Inv-loop μ-loop
 loop-again c =
@@ -35,8 +36,8 @@ returns c =
     let w = now (a .words) in
     let l =
     filled-all (c .before .loop-test .left) (loop .loop .inv)
-    ∙ words-taken 7 (drop (a .at + 1) w) (omega (arith, length-drop (a .at + 1) w, start .pre))
-    ∙ ap (take 7) (sym (drop-drop 1 (a .at) w))
+    ∙ words-taken servicePlaces (drop (a .at + 1) w) (omega (arith, length-drop (a .at + 1) w, start .pre))
+    ∙ ap (take servicePlaces) (sym (drop-drop 1 (a .at) w))
     in
     λ i. record { count = first-word w (a .at) i; list = l i }
 

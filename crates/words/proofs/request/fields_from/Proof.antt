@@ -1,6 +1,7 @@
 -- Each part from its words. Assumes nothing.
 use borrow.Author.Needs.{needs}
 use denote.Ref.{now}
+use Rattle.words.specs.Places.{serviceAt}
 use Rattle.words.specs.RecordWords.{word}
 use Rattle.words.specs.RequestWords.{userFrom, requestFrom}
 use Rattle.words.proofs.request.fields_from.Statement.{statement}
@@ -14,7 +15,7 @@ returns c =
     let w = now (destination .before .before .before .before .before .args .words) in
     λ i. record {
       user = userFrom w 0;
-      service = word w 2;
+      service = word w serviceAt;
       destination = destination .destination-from .ensures i;
       digits = digits .digits-from .ensures i;
       group = c .group-from .ensures i;

@@ -1,0 +1,190 @@
+-- Calls one after another keep demand 3: what C goes on with is what the history goes on with. Assumes nothing.
+use mathlib.Core.Path.{_≡_, refl, sym, ap, ap₂, _∙_, subst}
+use mathlib.Core.Bool.{Bool, true, false, _&&_}
+use mathlib.Core.List.{List, [], _∷_}
+use mathlib.Core.Option.{Option, none, some}
+use Prim.Native.Nat.{ℕ, zero, suc, _≤_, _<_}
+use native.Mathlib.Omega.{arith}
+use borrow.Author.Tests.{eqb-true, lt-ltb, le-leb}
+use lib.ListN.{length, take}
+use lib.Dec.{eqb}
+use Rattle.bits.specs.Bits.{pick}
+use Rattle.bits.specs.Frame.{bytesFor}
+use Rattle.bits.proofs.Tests.{never, false-unless, both⁻¹, picked}
+use Rattle.reader.specs.Read.{readIs}
+use Rattle.rules.specs.Request.{requestRefusal}
+use Rattle.rules.specs.Rule.{ruling}
+use Rattle.rules.specs.declared.Decision.{Decision}
+use Rattle.rules.specs.declared.Decision.the-variants as decided
+use Rattle.rules.specs.declared.request.Request.{Request}
+use Rattle.archive.specs.Model.{bytesOf}
+use Rattle.archive.specs.Reading.{reading, isArchive}
+use Rattle.archive.specs.Filing.{names}
+use Rattle.archive.specs.Keeping.{archivedNumber, over, emptyOf, emptyIs, emptyOut, captureOut}
+use Rattle.archive.specs.Restoring.{inRange, restoredNumber, restoreOut}
+use Rattle.archive.specs.History.{Offer, keptOf, answerTo, after, afterAll, entryOf, latest, lastAccepted}
+use Rattle.archive.specs.declared.Archived.{Archived}
+use Rattle.archive.specs.declared.Archived.the-variants.{Bytes, Refused}
+use Rattle.archive.specs.declared.Restored.{Restored}
+use Rattle.words.specs.RequestWords.{isRequest, requestFrom}
+use Rattle.barring.specs.Decide.{partFor, partIn, judgedBy, decideIs}
+use Rattle.barring.specs.Decision.{decidedNumber, verdictOf}
+use Rattle.boc.specs.Calls.{archivedLength, emptyNumber, restoredLength, restoreNumber, restoreBits, decideNumber, decideDecision}
+use Rattle.promises.specs.Sequences.{Call, returned, goneOn, goneOnAll, lastZero, begun, Promise}
+use Rattle.promises.specs.Demand1.Decision.{Verdict, outside-group, restricted-service, restricted-address, allowed, not-held}
+use Rattle.promises.specs.Demand3 as demand3
+use Rattle.promises.proofs.Calls.{decide-kept}
+use Rattle.promises.proofs.Demand1.Empty as empty
+use Rattle.promises.proofs.Demand1.Capture as capture
+
+-- ---- what C goes on with
+
+-- no capture is refused with 0
+zero-taken : (b : List ℕ) (o : Offer) → answerTo b o ≡ Refused 0 → ⊥
+zero-taken b o e =
+    let w = capture.promise .success b (o .pdu) (o .bits) (o .lent) (ap archivedNumber e) .0 in
+    never cc
+
+not-zero : (k : ℕ) → eqb (suc k) 0 ≡ false
+not-zero k = false-unless (eqb (suc k) 0) (λ t. absurd (omega (arith, eqb-true (suc k) 0 t)))
+
+goes : (a : Archived) (b out : List ℕ) (old : ℕ) → (a ≡ Refused 0 → ⊥)
+    → pick (eqb (archivedNumber a) 0) (take (archivedLength a old) out) b ≡ keptOf a b out
+goes (Bytes n) b out old h = refl
+goes (Refused zero) b out old h = absurd (h refl)
+goes (Refused (suc k)) b out old h = rw (not-zero k)
+
+counts : (a : Archived) (same : Bool) (o : Offer) (last : Option Offer) → (a ≡ Refused 0 → ⊥)
+    → pick (eqb (archivedNumber a) 0 && same) (some o) last ≡ latest a same o last
+counts (Bytes n) true o last h = refl
+counts (Bytes n) false o last h = refl
+counts (Refused zero) same o last h = absurd (h refl)
+counts (Refused (suc k)) same o last h = rw (not-zero k)
+
+unfoldable offers : List Call → List Offer
+offers [] = []
+offers (c ∷ cs) = c .offer ∷ offers cs
+
+gone-on : (b : List ℕ) (c : Call) → goneOn b c ≡ after b (c .offer)
+unfolding goneOn after
+gone-on b c = let o = c .offer in goes (answerTo b o) b (captureOut b (o .pdu) (o .bits) (o .lent)) (c .old) (zero-taken b o)
+
+gone-on-all : (b : List ℕ) (cs : List Call) → goneOnAll b cs ≡ afterAll b (offers cs)
+unfolding goneOnAll afterAll offers
+gone-on-all b [] = refl
+gone-on-all b (c ∷ cs) = gone-on-all (goneOn b c) cs ∙ ap (λ (x : List ℕ). afterAll x (offers cs)) (gone-on b c)
+
+module _ (network ssi part : ℕ) where
+  last-zero : (b : List ℕ) (last : Option Offer) (cs : List Call)
+      → lastZero network ssi part b last cs ≡ lastAccepted network ssi part b last (offers cs)
+  unfolding lastZero lastAccepted offers
+  last-zero b last [] = refl
+  last-zero b last (c ∷ cs) =
+      let o = c .offer in
+      last-zero (goneOn b c) (pick (eqb (returned b c) 0 && names (entryOf b o) network ssi part) (some o) last) cs
+      ∙ ap₂ (λ (x : List ℕ) (l : Option Offer). lastAccepted network ssi part x l (offers cs)) (gone-on b c)
+      (counts (answerTo b o) (names (entryOf b o) network ssi part) o last (zero-taken b o))
+
+-- ---- restore and decide
+
+in-range : (network ssi part : ℕ) → network < 16777216 → ssi < 16777216 → 1 ≤ part → part ≤ 2 → inRange network ssi part ≡ true
+unfolding inRange
+in-range network ssi part n s l h = both⁻¹ (lt-ltb _ _ n) (both⁻¹ (lt-ltb _ _ s) (both⁻¹ (le-leb _ _ l) (le-leb _ _ h)))
+
+-- a request that is decided is in its range
+request-zero : (b : List ℕ) (q : Request) → decidedNumber (decideIs b q) ≡ 0 → requestRefusal q ≡ 0
+unfolding decideIs
+request-zero b q = go (eqb (requestRefusal q) 0) refl (pick (isArchive b) (judgedBy (reading b .home) q (partIn b q)) (decided.Refused 7))
+  where
+    go : (p : Bool) → eqb (requestRefusal q) 0 ≡ p → (d : Decision) → decidedNumber (pick p d (decided.Refused (requestRefusal q))) ≡ 0
+        → requestRefusal q ≡ 0
+    go true f d e = eqb-true (requestRefusal q) 0 f
+    go false f d e = e
+
+verdict-is : {n : ℕ} {d : Decision} → Verdict n d → n ≡ verdictOf d
+verdict-is outside-group = refl
+verdict-is restricted-service = refl
+verdict-is restricted-address = refl
+verdict-is allowed = refl
+verdict-is not-held = refl
+
+-- what boc_decide tells is the number of the decision
+decision-is : (b w : List ℕ) (old : ℕ) → decideNumber b w ≡ 0 → decideDecision b w old ≡ verdictOf (decideIs b (requestFrom w))
+decision-is b w old e = verdict-is (decide-kept b w old .success e)
+
+-- it is a request in its range
+in-its-range : (b w : List ℕ) → decideNumber b w ≡ 0 → requestRefusal (requestFrom w) ≡ 0
+unfolding decideNumber
+in-its-range b w e = request-zero b (requestFrom w) (picked (isRequest w) e (λ x. omega arith) .1)
+
+module _ (home : ℕ) (lent : List ℕ) (old : ℕ) (calls : List Call) (e : emptyNumber home lent ≡ 0) where
+  abbrev m : ℕ
+  m = length (bytesOf (emptyOf home))
+
+  written : emptyIs home (length lent) ≡ Bytes m
+  written = empty.promise .success home lent e .0
+
+  abbrev start : List ℕ
+  start = take m (emptyOut home lent)
+
+  abbrev b : List ℕ
+  b = goneOnAll (begun home lent old) calls
+
+  abbrev last : ℕ → ℕ → ℕ → Option Offer
+  last network ssi part = lastZero network ssi part (begun home lent old) none calls
+
+  begun-is : begun home lent old ≡ start
+  begun-is = ap (λ (a : Archived). take (archivedLength a old) (emptyOut home lent)) written
+
+  archive-is : afterAll start (offers calls) ≡ b
+  archive-is = sym (gone-on-all (begun home lent old) calls ∙ ap (λ (x : List ℕ). afterAll x (offers calls)) begun-is)
+
+  last-is : (network ssi part : ℕ) → lastAccepted network ssi part start none (offers calls) ≡ last network ssi part
+  last-is network ssi part =
+      sym
+      (last-zero network ssi part (begun home lent old) none calls
+      ∙ ap (λ (x : List ℕ). lastAccepted network ssi part x none (offers calls)) begun-is)
+
+  module _ (network ssi part : ℕ) (r : inRange network ssi part ≡ true) (out : List ℕ) (bits : ℕ) where
+    abbrev Gives : ℕ → ℕ → List ℕ → List ℕ → Type 0
+    Gives k n left b =
+        (restoreNumber b network ssi part out ≡ k) × (restoreBits b network ssi part out bits ≡ n) × (restoreOut b network ssi part out ≡ left)
+
+    restored : (o : Offer) → last network ssi part ≡ some o → bytesFor (o .bits) ≤ length out → Gives 0 (o .bits) (over (o .pdu) out) b
+    restored o l h =
+        let p = demand3.restores-the-last home lent m written (offers calls) network ssi part r out o (last-is network ssi part ∙ l) h in
+        subst (Gives 0 (o .bits) (over (o .pdu) out)) archive-is
+        (ap restoredNumber (p .0), ap (λ (x : Restored). restoredLength x bits) (p .0), p .1)
+
+    none-held : last network ssi part ≡ none → Gives 11 bits out b
+    none-held l =
+        let p = demand3.restores-nothing-else home lent m written (offers calls) network ssi part r out (last-is network ssi part ∙ l) in
+        subst (Gives 11 bits out) archive-is (ap restoredNumber (p .0), ap (λ (x : Restored). restoredLength x bits) (p .0), p .1)
+
+  module _ (w : List ℕ) (before : ℕ) (d : decideNumber b w ≡ 0) where
+    abbrev q : Request
+    q = requestFrom w
+
+    abbrev lastFor : Option Offer
+    lastFor = last (q .user .network) (q .user .ssi) (partFor (q .destination))
+
+    lastFor-is : lastAccepted (q .user .network) (q .user .ssi) (partFor (q .destination)) start none (offers calls) ≡ lastFor
+    lastFor-is = last-is (q .user .network) (q .user .ssi) (partFor (q .destination))
+
+    -- what is told, once the decision is known
+    told : {x : Decision} → decideIs (afterAll start (offers calls)) q ≡ x → decideDecision b w before ≡ verdictOf x
+    told {x} k = decision-is b w before d ∙ ap verdictOf (subst (λ (s : List ℕ). decideIs s q ≡ x) archive-is k)
+
+    by-the-last : (o : Offer) → lastFor ≡ some o → decideDecision b w before ≡ verdictOf (ruling home (readIs (o .pdu) (o .bits) .found) q)
+    by-the-last o l = told (demand3.decides-by-the-last home lent m written (offers calls) q (in-its-range b w d) o (lastFor-is ∙ l))
+
+    by-nothing : lastFor ≡ none → decideDecision b w before ≡ 4
+    by-nothing l = told (demand3.decides-by-nothing-else home lent m written (offers calls) q (in-its-range b w d) (lastFor-is ∙ l))
+
+pub promise : (home : ℕ) (lent : List ℕ) (old : ℕ) (calls : List Call) → Promise home lent old calls
+promise home lent old calls = record {
+  restores-the-last = λ e network ssi part n s l h. restored home lent old calls e network ssi part (in-range network ssi part n s l h);
+  restores-nothing-else = λ e network ssi part n s l h. none-held home lent old calls e network ssi part (in-range network ssi part n s l h);
+  decides-by-the-last = by-the-last home lent old calls;
+  decides-by-nothing-else = by-nothing home lent old calls;
+}

@@ -1,0 +1,113 @@
+-- Demand 1 as C meets it, about the seven calls of include/boc.h: each returns 0 or a number of its list, exactly then. If it is not 0, the
+-- lent memory and the number behind the pointer are what they were; if it is 0, the pointer holds exactly the length or the decision.
+use mathlib.Core.Path.{_≡_}
+use mathlib.Core.List.{List, [], _∷_, _++_}
+use mathlib.Core.Option.{none}
+use Prim.Native.Nat.{ℕ}
+use lib.ListN.{length, drop}
+use Rattle.bits.specs.Frame.{bytesFor, bitsIn, pack}
+use Rattle.codec.specs.Codec.{Legal}
+use Rattle.grammar.specs.Grammar.{pdu}
+use Rattle.grammar.specs.declared.record.Record.{Record}
+use Rattle.reader.specs.Read.{readIs}
+use Rattle.writer.specs.Write.{lengthOf}
+use Rattle.archive.specs.Model.{Held, bytesOf}
+use Rattle.archive.specs.Keeping.{over, emptyOf, captured, emptyOut, captureOut}
+use Rattle.archive.specs.Restoring.{restoreOut}
+use Rattle.archive.specs.Listing.{listOut}
+use Rattle.words.specs.RecordWords.{word, recordWords, recordFrom}
+use Rattle.words.specs.RequestWords.{requestFrom}
+use Rattle.barring.specs.Decide.{partIn, decideIs}
+use Rattle.boc.specs.Calls.{readNumber, readWords, writeNumber, writeOut, writeBits, emptyNumber, emptyLength, captureNumber, captureLength}
+use Rattle.boc.specs.Calls.{restoreNumber, restoreBits, decideNumber, decideDecision, contentsNumber, contentsLength}
+use Rattle.promises.specs.Answers.{Exactly}
+use Rattle.promises.specs.Demand1.Reading as reading
+use Rattle.promises.specs.Demand1.Writing as writing
+use Rattle.promises.specs.Demand1.Empty as empty
+use Rattle.promises.specs.Demand1.Capture as capture
+use Rattle.promises.specs.Demand1.Restore as restore
+use Rattle.promises.specs.Demand1.Decision as decision
+use Rattle.promises.specs.Demand1.Listing as listing
+
+-- ---- words
+
+-- 9 for words that are not what they should be, before everything; then the rows of a table
+pub data Checked {ℓ} (Right : Type 0) (Given : ℕ → Type ℓ) : ℕ → Type ℓ where
+  wrong : (Right → ⊥) → Checked Right Given 9
+  right : (k : ℕ) → Right → Given k → Checked Right Given k
+
+-- 514 words are a record
+abbrev pub OfRecord : List ℕ → Type 0
+OfRecord w = length w ≡ 514
+
+-- 34 words are a request if the kind of destination (3) is 1, and the length (6) is 0, or it is 2, and network (4) and SSI (5) are 0;
+pub data OfDestination (w : List ℕ) : Type 0 where
+  identity : word w 3 ≡ 1 → word w 6 ≡ 0 → OfDestination w
+  number : word w 3 ≡ 2 → word w 4 ≡ 0 → word w 5 ≡ 0 → OfDestination w
+
+-- and if the group is given (31) by 1, or by 0, and its network (32) and SSI (33) are 0
+pub data OfGroup (w : List ℕ) : Type 0 where
+  given : word w 31 ≡ 1 → OfGroup w
+  not-given : word w 31 ≡ 0 → word w 32 ≡ 0 → word w 33 ≡ 0 → OfGroup w
+
+pub record OfRequest (w : List ℕ) : Type 0 where
+  pub count : length w ≡ 34
+  pub destination : OfDestination w
+  pub group : OfGroup w
+
+-- ---- the calls; proved in proofs/Calls.antt
+
+-- boc_read: 0, 9 for another count of words than 514, and the numbers of reading
+pub record Read (pdu′ : List ℕ) (bits : ℕ) (words : List ℕ) : Type 1 where
+  pub table : Exactly (readNumber pdu′ bits (length words)) (reading.numbers ++ (9 ∷ [])) (Checked (OfRecord words) (reading.Given pdu′ bits))
+  -- the words are those of the legal record whose writing the PDU is
+  pub success : readNumber pdu′ bits (length words) ≡ 0 → let r = readIs pdu′ bits .found in
+      Legal pdu r × (bitsIn bits pdu′ ≡ pdu .print r) × (readWords pdu′ bits words ≡ recordWords r)
+  pub refusal : (readNumber pdu′ bits (length words) ≡ 0 → ⊥) → readWords pdu′ bits words ≡ words
+
+-- boc_write: 0, 9 for another count of words than 514, and the numbers of writing
+pub record Write (words out : List ℕ) (bits : ℕ) : Type 1 where
+  pub table : Exactly (writeNumber words out) (0 ∷ 3 ∷ 4 ∷ 8 ∷ 9 ∷ []) (Checked (OfRecord words) (writing.Given (recordFrom words) out))
+  pub success : writeNumber words out ≡ 0 → let r = recordFrom words in
+      (writeOut words out ≡ pack (pdu .print r) ++ drop (bytesFor (lengthOf r)) out) × (writeBits words out bits ≡ lengthOf r)
+  pub refusal : (writeNumber words out ≡ 0 → ⊥) → (writeOut words out ≡ out) × (writeBits words out bits ≡ bits)
+
+-- boc_empty
+pub record Empty (home : ℕ) (out : List ℕ) (old : ℕ) : Type 0 where
+  pub table : Exactly (emptyNumber home out) (0 ∷ 9 ∷ 8 ∷ []) (empty.Given home (length out))
+  pub success : emptyNumber home out ≡ 0 → (emptyOut home out ≡ over (bytesOf (emptyOf home)) out) × (emptyLength home out old ≡ 5)
+  pub refusal : (emptyNumber home out ≡ 0 → ⊥) → (emptyOut home out ≡ out) × (emptyLength home out old ≡ old)
+
+-- boc_capture
+pub record Capture (archive pdu′ : List ℕ) (bits : ℕ) (out : List ℕ) (old : ℕ) : Type 0 where
+  pub table : Exactly (captureNumber archive pdu′ bits out) (reading.numbers ++ (7 ∷ 6 ∷ 8 ∷ [])) (capture.Given archive pdu′ bits (length out))
+  pub success : captureNumber archive pdu′ bits out ≡ 0 → let b = bytesOf (captured archive pdu′ bits) in
+      (captureOut archive pdu′ bits out ≡ over b out) × (captureLength archive pdu′ bits out old ≡ length b)
+  pub refusal : (captureNumber archive pdu′ bits out ≡ 0 → ⊥)
+      → (captureOut archive pdu′ bits out ≡ out) × (captureLength archive pdu′ bits out old ≡ old)
+
+-- boc_restore
+pub record Restore (archive : List ℕ) (network ssi part : ℕ) (out : List ℕ) (old : ℕ) : Type 0 where
+  pub table : Exactly (restoreNumber archive network ssi part out) (0 ∷ 9 ∷ 7 ∷ 11 ∷ 8 ∷ []) (restore.Given archive network ssi part (length out))
+  -- the PDU that is held and its bits
+  pub success : restoreNumber archive network ssi part out ≡ 0
+      → (h : Held) × (restoreOut archive network ssi part out ≡ over (h .body) out)
+      × (restoreBits archive network ssi part out old ≡ h .entry .bits .0)
+  pub refusal : (restoreNumber archive network ssi part out ≡ 0 → ⊥)
+      → (restoreOut archive network ssi part out ≡ out) × (restoreBits archive network ssi part out old ≡ old)
+
+-- boc_decide: 0, 9 for words that are no request's or a request out of its range, 7
+pub record Decide (archive words : List ℕ) (old : ℕ) : Type 0 where
+  pub table : Exactly (decideNumber archive words) (0 ∷ 9 ∷ 7 ∷ []) (Checked (OfRequest words) (decision.Given archive (requestFrom words)))
+  -- 0 to 2 barred with that cause, 3 allowed, 4 not held
+  pub success : decideNumber archive words ≡ 0 → decision.Verdict (decideDecision archive words old) (decideIs archive (requestFrom words))
+  -- a part that is not held gives 4 and nothing else
+  pub not-held : decideNumber archive words ≡ 0 → partIn archive (requestFrom words) ≡ none → decideDecision archive words old ≡ 4
+  pub refusal : (decideNumber archive words ≡ 0 → ⊥) → decideDecision archive words old ≡ old
+
+-- boc_contents
+pub record Contents (archive out : List ℕ) (old : ℕ) : Type 0 where
+  pub table : Exactly (contentsNumber archive out) (0 ∷ 7 ∷ 8 ∷ []) (listing.Given archive (length out))
+  pub success : contentsNumber archive out ≡ 0
+      → (listOut archive out ≡ over (listing.text archive) out) × (contentsLength archive out old ≡ length (listing.text archive))
+  pub refusal : (contentsNumber archive out ≡ 0 → ⊥) → (listOut archive out ≡ out) × (contentsLength archive out old ≡ old)

@@ -1,0 +1,76 @@
+-- Demand 3 as C meets it: boc_empty, then boc_capture any number of times; boc_restore gives the last PDU for which boc_capture gave 0, for
+-- that user and part, and boc_decide decides by it, or says 4, not held.
+use mathlib.Core.Path.{_≡_}
+use mathlib.Core.Bool.{_&&_}
+use mathlib.Core.List.{List, [], _∷_}
+use mathlib.Core.Option.{Option, none, some}
+use Prim.Native.Nat.{ℕ, _≤_, _<_}
+use lib.ListN.{length, take}
+use lib.Dec.{eqb}
+use Rattle.bits.specs.Bits.{pick}
+use Rattle.bits.specs.Frame.{bytesFor}
+use Rattle.reader.specs.Read.{readIs}
+use Rattle.rules.specs.Rule.{ruling}
+use Rattle.archive.specs.Filing.{names}
+use Rattle.archive.specs.Keeping.{over, emptyOut, captureOut}
+use Rattle.archive.specs.Restoring.{restoreOut}
+use Rattle.archive.specs.History.{Offer, entryOf}
+use Rattle.words.specs.RequestWords.{requestFrom}
+use Rattle.barring.specs.Decide.{partFor}
+use Rattle.barring.specs.Decision.{verdictOf}
+use Rattle.boc.specs.Calls.{emptyNumber, emptyLength, captureNumber, captureLength, restoreNumber, restoreBits, decideNumber, decideDecision}
+
+-- a call of boc_capture: the PDU, its bits and the buffer; and the number behind the pointer before it
+pub record Call : Type 0 where
+  pub offer : Offer
+  pub old : ℕ
+
+-- what it returns
+abbrev pub returned : List ℕ → Call → ℕ
+returned b c = captureNumber b (c .offer .pdu) (c .offer .bits) (c .offer .lent)
+
+-- after 0 one goes on with the first bytes of the buffer, as many as the pointer says; after any other number with the old archive
+unfoldable pub goneOn : List ℕ → Call → List ℕ
+goneOn b c =
+    let o = c .offer in
+    pick (eqb (returned b c) 0) (take (captureLength b (o .pdu) (o .bits) (o .lent) (c .old)) (captureOut b (o .pdu) (o .bits) (o .lent))) b
+
+unfoldable pub goneOnAll : List ℕ → List Call → List ℕ
+goneOnAll b [] = b
+goneOnAll b (c ∷ cs) = goneOnAll (goneOn b c) cs
+
+-- the last PDU for which 0 was returned, of those that name the user and part
+unfoldable pub lastZero : ℕ → ℕ → ℕ → List ℕ → Option Offer → List Call → Option Offer
+lastZero network ssi part b last [] = last
+lastZero network ssi part b last (c ∷ cs) =
+    lastZero network ssi part (goneOn b c)
+    (pick (eqb (returned b c) 0 && names (entryOf b (c .offer)) network ssi part) (some (c .offer)) last)
+    cs
+
+-- what boc_empty left: as many bytes of the buffer as the pointer says
+abbrev pub begun : ℕ → List ℕ → ℕ → List ℕ
+begun home lent old = take (emptyLength home lent old) (emptyOut home lent)
+
+-- From a boc_empty that returned 0, and for any calls; proved in proofs/Sequences.antt.
+pub record Promise (home : ℕ) (lent : List ℕ) (old : ℕ) (calls : List Call) : Type 0 where
+  -- boc_restore gives 0, the bits and the bytes of the last PDU, if the buffer has room for them,
+  pub restores-the-last : emptyNumber home lent ≡ 0 → let b = goneOnAll (begun home lent old) calls in
+      (network ssi part : ℕ) → network < 16777216 → ssi < 16777216 → 1 ≤ part → part ≤ 2 → (out : List ℕ) (bits : ℕ)
+      → (o : Offer) → lastZero network ssi part (begun home lent old) none calls ≡ some o → bytesFor (o .bits) ≤ length out
+      → (restoreNumber b network ssi part out ≡ 0) × (restoreBits b network ssi part out bits ≡ o .bits)
+      × (restoreOut b network ssi part out ≡ over (o .pdu) out)
+  -- or 11, and changes nothing.
+  pub restores-nothing-else : emptyNumber home lent ≡ 0 → let b = goneOnAll (begun home lent old) calls in
+      (network ssi part : ℕ) → network < 16777216 → ssi < 16777216 → 1 ≤ part → part ≤ 2 → (out : List ℕ) (bits : ℕ)
+      → lastZero network ssi part (begun home lent old) none calls ≡ none
+      → (restoreNumber b network ssi part out ≡ 11) × (restoreBits b network ssi part out bits ≡ bits) × (restoreOut b network ssi part out ≡ out)
+  -- Where boc_decide returns 0, the decision is the number of what the barring rule says by the record of that same PDU,
+  pub decides-by-the-last : emptyNumber home lent ≡ 0 → let b = goneOnAll (begun home lent old) calls in
+      (words : List ℕ) (before : ℕ) → decideNumber b words ≡ 0 → let q = requestFrom words in
+      (o : Offer) → lastZero (q .user .network) (q .user .ssi) (partFor (q .destination)) (begun home lent old) none calls ≡ some o
+      → decideDecision b words before ≡ verdictOf (ruling home (readIs (o .pdu) (o .bits) .found) q)
+  -- or 4, and nothing else.
+  pub decides-by-nothing-else : emptyNumber home lent ≡ 0 → let b = goneOnAll (begun home lent old) calls in
+      (words : List ℕ) (before : ℕ) → decideNumber b words ≡ 0 → let q = requestFrom words in
+      lastZero (q .user .network) (q .user .ssi) (partFor (q .destination)) (begun home lent old) none calls ≡ none
+      → decideDecision b words before ≡ 4
