@@ -27,7 +27,7 @@ pub record Holdable (r : Record) : Type 0 where
   pub result : (r .result ≡ 1) ⊎ (r .result ≡ 2)
   pub affected : r .affected .code ≡ 1
 
-one-or-two : (v : ℕ) → 1 ≤ v → v ≤ 2 → (v ≡ 1) ⊎ (v ≡ 2)
+pub one-or-two : (v : ℕ) → 1 ≤ v → v ≤ 2 → (v ≡ 1) ⊎ (v ≡ 2)
 one-or-two v l h = go (leb v 1) refl
   where
     go : (t : Bool) → leb v 1 ≡ t → (v ≡ 1) ⊎ (v ≡ 2)
