@@ -352,8 +352,8 @@ promise = record {
   not-found = λ b ok network ssi part r. not-found network ssi part b ok r;
   no-entry = λ s n a. (
     λ m home e l. false-unless _ (λ x.
-    differ (sym (subst (λ (k : ℕ). mayHold (readIs s k .found) ≡ true) l (bodies.agrees-says home (record { entry = e; body = s }) x .may)) ∙ m)),
+        differ (sym (subst (λ (k : ℕ). mayHold (readIs s k .found) ≡ true) l (bodies.agrees-says home (record { entry = e; body = s }) x .may)) ∙ m)),
     λ none. false-unless _ (λ m. let e = entryFor 0 (readIs s n .found) n in
-    differ (sym (bodies.agrees-is 0 (record { entry = e; body = s }) (offered-agrees 0 s n a m)) ∙ none 0 e refl)),
+        differ (sym (bodies.agrees-is 0 (record { entry = e; body = s }) (offered-agrees 0 s n a m)) ∙ none 0 e refl)),
   );
 }
