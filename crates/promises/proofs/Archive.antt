@@ -1,19 +1,18 @@
 -- The tests by which the calls know an archive, a body, a user and part say what document 01 says. Assumes nothing.
 use mathlib.Core.Path.{_≡_, refl, sym, ap, _∙_, subst}
-use mathlib.Core.Logic.{_↔_, _⊎_, inl, inr, ⊎-elim}
-use mathlib.Core.Bool.{Bool, true, false, _&&_}
+use mathlib.Core.Logic.{_↔_, _⊎_, ⊎-elim}
+use mathlib.Core.Bool.{Bool, true, false}
 use mathlib.Core.List.{List, [], _∷_, List·Memᴰ, List·Memᴰ·head, List·Memᴰ·tail, List·Memᴰ·cases-cons, List·Memᴰ·not-nil}
 use mathlib.Core.Option.{Option, none, some}
 use Prim.Native.Nat.{ℕ, zero, suc, _+_, _*_, _/_, _≤_, _<_}
 use native.Mathlib.Omega.{arith}
 use lib.ListN.{length, take, drop, length-append}
-use lib.Dec.{ltb, leb, eqb}
-use borrow.Author.Tests.{ltb-true, ltb-false, leb-true, leb-false, eqb-true, eqb-false, eq-eqb, ne-eqb}
+use lib.Dec.{ltb, eqb}
+use borrow.Author.Tests.{ltb-true, ltb-false, eqb-true, eqb-false, eq-eqb, ne-eqb}
 use Rattle.bits.specs.Bits.{pick, Bytes}
-use Rattle.bits.specs.Frame.{bitsIn}
 use Rattle.bits.specs.Lists.{Each}
 use Rattle.bits.proofs.Frames.{framed-is}
-use Rattle.bits.proofs.Tests.{never, differ, false-unless, both, both⁻¹, picked}
+use Rattle.bits.proofs.Tests.{never, differ, false-unless, both}
 use Rattle.codec.proofs.Whole.{whole-reads}
 use Rattle.grammar.specs.Grammar.{pdu, networkOf}
 use Rattle.grammar.specs.declared.record.Identity.{Identity}
@@ -23,15 +22,16 @@ use Rattle.reader.specs.declared.Answer.the-variants.{Accepted}
 use Rattle.reader.specs.declared.Reading.{Reading}
 use Rattle.pdu.specs.Accepted.{acceptedAs}
 use Rattle.pdu.proofs.Accepted.{accepted-framed, accepted-legal}
-use Rattle.judging.specs.Judge.{mayHold, userOf}
+use Rattle.judging.specs.Judge.{mayHold}
 use Rattle.archive.specs.Model.{Held, Archive, keyFor, keyOf, sizes, lengthOf, bytesOf}
 use Rattle.archive.specs.Filing.{entryFor, bodyAgrees, keepsRules, wellFormed}
 use Rattle.archive.specs.Reading.{countOf, sizeAt, heldAt, heldFrom, bodiesAt, heldIn, reading, isArchive}
+use Rattle.archive.specs.Keeping.{heldFor}
 use Rattle.archive.specs.Restoring.{inRange, lookup}
 use Rattle.archive.specs.Inner.{EntryFits}
 use Rattle.archive.specs.declared.contents.Entry.{Entry}
 use Rattle.archive.proofs.Bodies as bodies
-use Rattle.archive.proofs.Rules.{AllFit, no-more, and-fit, Kept, kept, is-kept, all-fit, formed, archive-formed, is-formed}
+use Rattle.archive.proofs.Rules.{AllFit, no-more, and-fit, kept, is-kept, all-fit, formed, archive-formed, is-formed}
 use Rattle.archive.proofs.Users.{by-network, by-ssi, by-part, key-names}
 use Rattle.archive.proofs.Tests.{named}
 use Rattle.archive.proofs.Lookup as lookups
@@ -41,9 +41,9 @@ use Rattle.archive.proofs.Checks.{sound}
 use Rattle.archive.proofs.Writing as writing
 use Rattle.archive.proofs.Counts.{counted}
 use Rattle.archive.proofs.Capturing.{offered-agrees}
-use Rattle.promises.specs.Held.{one-or-two, may-be-held}
+use Rattle.promises.specs.Held.{Holdable, one-or-two, may-be-held}
 use Rattle.promises.specs.Archive as archive
-use Rattle.promises.specs.Archive.{Before, Rising, LegalPdu, NetworkOf, affectedUser, Agrees, WellFormed, EntryAt, Laid, IsArchive, Ranged, HeldFor, Promise}
+use Rattle.promises.specs.Archive.{Before, Rising, LegalPdu, NetworkOf, affectedUser, Agrees, WellFormed, Laid, IsArchive, Ranged, HeldFor, Promise}
 use Rattle.promises.proofs.Demand1.Reading as reading-kept
 
 -- ---- a legal PDU
@@ -96,17 +96,32 @@ agrees-says home h e =
       },
     )
 
+-- the entry with which a body agrees is the one that it is filed under
+pub agreed-entry : (home : ℕ) (h : Held) (r : Record) → Agrees home h r → h .entry ≡ entryFor home r (h .entry .bits .0)
+agreed-entry home h r g =
+    let w = network-is home (affectedUser r) (h .entry .network) (g .network) in
+    λ i. record { network = w i; ssi = g .ssi i; part = g .part i; bits = h .entry .bits }
+
+-- and a legal PDU that may be held agrees with that
+pub filed-agrees : (home : ℕ) (s : List ℕ) (n : ℕ) → readIs s n .answer ≡ Accepted → Holdable (readIs s n .found)
+    → Agrees home (heldFor home s n) (readIs s n .found)
+filed-agrees home s n a m = record {
+  body = read-legal s n a;
+  accepting = m;
+  part = refl;
+  ssi = refl;
+  network = network-says home (affectedUser (readIs s n .found)) refl;
+}
+
 agrees-is : (home : ℕ) (h : Held) → (r : Record) × Agrees home h r → bodyAgrees home h ≡ true
 agrees-is home h (r, g) =
     let n = h .entry .bits .0 in
     let e = legal-read (h .body) n r (g .body) in
     let f : r ≡ readIs (h .body) n .found = sym (ap (λ (x : Reading). x .found) e) in
-    let w = network-is home (affectedUser r) (h .entry .network) (g .network) in
-    let entry : h .entry ≡ entryFor home r n = λ i. record { network = w i; ssi = g .ssi i; part = g .part i; bits = h .entry .bits } in
     bodies.agrees-is home h (record {
       accepted = ap (λ (x : Reading). x .answer) e;
       may = subst (λ (x : Record). mayHold x ≡ true) f (may-be-held r .1 (g .accepting));
-      entry = subst (λ (x : Record). h .entry ≡ entryFor home x n) f entry;
+      entry = subst (λ (x : Record). h .entry ≡ entryFor home x n) f (agreed-entry home h r g);
     })
 
 -- ---- entries that rise
@@ -183,7 +198,7 @@ module _ (home : ℕ) (small : home < 16777216) where
 
 -- ---- the whole
 
-length-bytes : (a : Archive) → AllFit (a .held) → length (bytesOf a) ≡ lengthOf a
+pub length-bytes : (a : Archive) → AllFit (a .held) → length (bytesOf a) ≡ lengthOf a
 length-bytes a f =
     simp length-append
     (omega (arith, writing.length-header (a .home) (length (a .held)), writing.length-contents (a .held), writing.length-bodies (a .held) f))
