@@ -1,10 +1,10 @@
 -- Examples that antt computes. The bytes 49 82 begin profile A: SS type 18 in 6 bits, PDU type 12 in 5, range type 1 in 4.
 use mathlib.Core.Path.{_≡_, refl}
-use mathlib.Core.List.{List, [], _∷_}
+use mathlib.Core.List.{[], _∷_}
 use mathlib.Core.Bool.{true, false}
-use Prim.Native.Nat.{ℕ, _*_, _^_, _<_}
+use Prim.Native.Nat.{_*_, _^_}
 use native.Mathlib.Omega.{arith}
-use lib.ListN.{getD, take, drop, replicate}
+use lib.ListN.{take, drop, replicate}
 use lib.Dec.{ltb}
 use Rattle.bits.specs.Lists.{some, every}
 use Rattle.bits.specs.Bits.{bits, bitsOf, value, splice, Bytes}

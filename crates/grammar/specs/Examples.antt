@@ -1,7 +1,7 @@
 -- Worked cases that antt computes: the PDUs of document 01's P13 and P14, the longest of each, the order of elements, range ends, and what must be
 -- zero.
 use mathlib.Core.Path.{_≡_, refl}
-use mathlib.Core.Bool.{Bool, true, false}
+use mathlib.Core.Bool.{true, false}
 use mathlib.Core.List.{List, [], _∷_, _++_}
 use Prim.Native.Nat.{ℕ, _-_}
 use lib.ListN.{length, replicate}
@@ -205,7 +205,9 @@ unfolding grammar
 range-ends = (refl, refl, refl, refl, refl, refl)
 
 -- restricted 200 to 199: 4, where the second end begins
-reversed : wholeParse pdu (bitsIn 113 (0x49 ∷ 0x82 ∷ 0x00 ∷ 0x00 ∷ 0x0a ∷ 0x21 ∷ 0x21 ∷ 0x20 ∷ 0x00 ∷ 0x19 ∷ 0x00 ∷ 0x00 ∷ 0x0c ∷ 0x70 ∷ 0x00 ∷ [])) ≡ no 4 84
+reversed :
+    wholeParse pdu (bitsIn 113 (0x49 ∷ 0x82 ∷ 0x00 ∷ 0x00 ∷ 0x0a ∷ 0x21 ∷ 0x21 ∷ 0x20 ∷ 0x00 ∷ 0x19 ∷ 0x00 ∷ 0x00 ∷ 0x0c ∷ 0x70 ∷ 0x00 ∷ []))
+    ≡ no 4 84
 unfolding grammar bits
 reversed = refl
 
@@ -248,6 +250,10 @@ unused-places : (pdu .clean (grouped 0 1) ≡ false)
 unfolding grammar
 unused-places = (refl, refl, refl, refl, refl)
 
+-- a number of one digit, with another behind it
+abbrev overlong : Number
+overlong = record { length = record { 0 = 1 }; digits = 1 ∷ 1 ∷ replicate 22 0 }
+
 -- an ACK with this interrogation type, these services, restricted identities and numbers
 abbrev carrying : ℕ → ℕ → List ℕ → Identities → Numbers → Record
 carrying asked result services restricted numbers = record {
@@ -269,7 +275,7 @@ not-carried : (pdu .clean (carrying 0 1 (1 ∷ replicate 6 0) zeroIdentities zer
     × (pdu .clean (carrying 0 2 (1 ∷ replicate 6 0) (list 1 (near 1 ∷ [])) zeroNumbers) ≡ false)
     × (pdu .clean (carrying 0 3 (1 ∷ replicate 6 0) (list 1 (near 1 ∷ [])) zeroNumbers) ≡ false)
     × (pdu .clean (carrying 0 1 (1 ∷ replicate 6 0) (list 1 (record { ssi = 1; present = 0; extension = 1 } ∷ [])) zeroNumbers) ≡ false)
-    × (pdu .clean (carrying 0 2 (1 ∷ replicate 6 0) zeroIdentities (numbers 1 (record { length = record { 0 = 1 }; digits = 1 ∷ 1 ∷ replicate 22 0 } ∷ []))) ≡ false)
+    × (pdu .clean (carrying 0 2 (1 ∷ replicate 6 0) zeroIdentities (numbers 1 (overlong ∷ []))) ≡ false)
 unfolding grammar
 not-carried = (refl, refl, refl, refl, refl, refl, refl, refl)
 

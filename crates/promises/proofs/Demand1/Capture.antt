@@ -34,7 +34,8 @@ use Rattle.promises.specs.Demand1.Reading as read
 use Rattle.promises.specs.Demand1.Capture.{number, Offered, Full, result, Given, success, damaged, unread, not-kept, full, too-long, no-room, Promise}
 use Rattle.promises.proofs.Tables.{exactly, wider}
 use Rattle.promises.proofs.Archive as archive-kept
-use Rattle.promises.proofs.Archive.{agreed-entry, filed-agrees, length-bytes}
+use Rattle.promises.proofs.Archive.Agreeing.{agreed-entry, filed-agrees}
+use Rattle.promises.proofs.Archive.Forming.{length-bytes}
 use Rattle.promises.proofs.Demand1.Reading as reading-kept
 
 abbrev archives : said.Promise

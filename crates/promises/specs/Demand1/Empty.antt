@@ -22,15 +22,16 @@ pub data Given (home room : ℕ) : ℕ → Type 0 where
   -- 8: the result exceeds the lent buffer
   no-room : home < 16777216 → room < 5 → Given home room 8
 
--- each number is met
-met : (number 1 5 ≡ 0) × (number 16777216 5 ≡ 9) × (number 1 4 ≡ 8)
+-- each number is met, and of two the first in order is given
+met : (number 1 5 ≡ 0) × (number 16777216 5 ≡ 9) × (number 1 4 ≡ 8) × (number 16777216 4 ≡ 9)
 unfolding emptyIs
-met = (refl, refl, refl)
+met = (refl, refl, refl, refl)
 
 -- Proved in proofs/Demand1/Empty.antt.
 pub record Promise : Type 0 where
   pub table : (home room : ℕ) → Exactly (number home room) (0 ∷ 9 ∷ 8 ∷ []) (Given home room)
   -- "Success returns the length written; output bytes after those that hold that length stay."
-  pub success : (home : ℕ) (out : List ℕ) → number home (length out) ≡ 0 → (emptyIs home (length out) ≡ Bytes 5) × (emptyOut home out ≡ over (header home) out)
+  pub success : (home : ℕ) (out : List ℕ) → number home (length out) ≡ 0
+      → (emptyIs home (length out) ≡ Bytes 5) × (emptyOut home out ≡ over (header home) out)
   -- "A refusal returns its number only and changes no byte."
   pub refusal : (home : ℕ) (out : List ℕ) (k : ℕ) → emptyIs home (length out) ≡ Refused k → emptyOut home out ≡ out

@@ -21,10 +21,10 @@ pub data Given (b : List ℕ) (room : ℕ) : ℕ → Type 0 where
   -- 8: the result exceeds the lent buffer
   no-room : (k : IsArchive b) → room < length (listing (k .archive)) → Given b room 8
 
--- each number is met
-met : (number (replicate 5 0) 17 ≡ 0) × (number [] 17 ≡ 7) × (number (replicate 5 0) 16 ≡ 8)
+-- each number is met, and of two the first in order is given
+met : (number (replicate 5 0) 17 ≡ 0) × (number [] 17 ≡ 7) × (number (replicate 5 0) 16 ≡ 8) × (number [] 16 ≡ 7)
 unfolding calls listIs listing firstLine lines item decimal digits
-met = (refl, refl, refl)
+met = (refl, refl, refl, refl)
 
 -- Proved in proofs/Demand1/Listing.antt.
 pub record Promise : Type 0 where

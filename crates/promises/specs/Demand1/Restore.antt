@@ -32,14 +32,16 @@ module _ (b : List ℕ) (network ssi part : ℕ) where
     -- 8: the result exceeds the lent buffer
     no-room : Ranged network ssi part → (k : IsArchive b) (h : Held) → Holds k h → room < (h .entry .bits .0 + 7) / 8 → Given room 8
 
--- each number is met
+-- each number is met, and of two the first in order is given
 met : (number bytesA 1 5 1 18 ≡ 0)
     × (number bytesA 1 5 3 18 ≡ 9)
     × (number [] 1 5 1 18 ≡ 7)
     × (number bytesA 1 5 2 18 ≡ 11)
     × (number bytesA 1 5 1 17 ≡ 8)
+    × (number [] 1 16777216 1 18 ≡ 9)
+    × (number bytesA 1 5 2 17 ≡ 11)
 unfolding calls bodyAgrees filingOf restoreIs inRange
-met = (refl, refl, refl, refl, refl)
+met = (refl, refl, refl, refl, refl, refl, refl)
 
 -- Proved in proofs/Demand1/Restore.antt.
 pub record Promise : Type 0 where
