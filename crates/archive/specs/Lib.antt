@@ -7,3 +7,4 @@ pub mod History
 pub mod Listing
 pub mod Inner
 pub mod Examples
+pub mod Cases

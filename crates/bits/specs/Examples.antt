@@ -3,9 +3,12 @@ use mathlib.Core.Path.{_≡_, refl}
 use mathlib.Core.List.{[], _∷_}
 use mathlib.Core.Bool.{true, false}
 use Prim.Native.Nat.{_*_, _^_}
-use lib.ListN.{take, drop}
-use Rattle.bits.specs.Bits.{bits, bitsOf, value, splice}
-use Rattle.bits.specs.Frame.{framed}
+use native.Mathlib.Omega.{arith}
+use lib.ListN.{take, drop, replicate}
+use lib.Dec.{ltb}
+use Rattle.bits.specs.Lists.{some, every}
+use Rattle.bits.specs.Bits.{bits, bitsOf, value, splice, Bytes}
+use Rattle.bits.specs.Frame.{bytesFor, bitsIn, framed, bytesOf, pack}
 use Rattle.bits.specs.Element.{elementAt, takeAt, windowAt, putAt}
 use Rattle.bits.specs.declared.Taken.the-variants.{Element, Short}
 
@@ -52,3 +55,60 @@ is-framed = refl
 unused-bit : framed (0x49 ∷ 0x81 ∷ []) 11 ≡ false
 unfolding framed bits bitsOf value
 unused-bit = refl
+
+-- ---- limits from both sides
+
+-- 256 is no byte
+no-byte : Bytes (0xff ∷ 256 ∷ []) → ⊥
+no-byte y = omega (arith, y 1)
+
+-- bits divided by 8, rounded up
+rounded-up : (bytesFor 0 ≡ 0) × (bytesFor 1 ≡ 1) × (bytesFor 8 ≡ 1) × (bytesFor 9 ≡ 2) × (bytesFor 4096 ≡ 512) × (bytesFor 4097 ≡ 513)
+rounded-up = (refl, refl, refl, refl, refl, refl)
+
+-- at most 4,096 bits
+longest : (framed (replicate 512 0) 4096 ≡ true) × (framed (replicate 513 0) 4097 ≡ false)
+unfolding framed bits bitsOf value
+longest = (refl, refl)
+
+-- exactly the bytes that hold them: not one more, not one less; no bits are in no bytes
+byte-count : (framed (0x49 ∷ 0x80 ∷ 0x00 ∷ []) 11 ≡ false) × (framed (0x49 ∷ []) 11 ≡ false) × (framed [] 0 ≡ true) × (framed (0x00 ∷ []) 0 ≡ false)
+unfolding framed bits bitsOf value
+byte-count = (refl, refl, refl, refl)
+
+-- each unused bit must be zero, the first of them and the last
+each-unused : (framed (0x49 ∷ 0x90 ∷ []) 11 ≡ false) × (framed (0x49 ∷ 0x81 ∷ []) 11 ≡ false) × (framed (0x49 ∷ 0xa0 ∷ []) 11 ≡ true)
+unfolding framed bits bitsOf value
+each-unused = (refl, refl, refl)
+
+-- a PDU's own 11 bits, and the two bytes that hold them again
+own-bits : bitsIn 11 (0x49 ∷ 0x80 ∷ []) ≡ false ∷ true ∷ false ∷ false ∷ true ∷ false ∷ false ∷ true ∷ true ∷ false ∷ false ∷ []
+unfolding bits bitsOf
+own-bits = refl
+
+packed : pack (false ∷ true ∷ false ∷ false ∷ true ∷ false ∷ false ∷ true ∷ true ∷ false ∷ true ∷ []) ≡ 0x49 ∷ 0xa0 ∷ []
+unfolding pack bytesOf bitsOf value
+packed = refl
+
+-- an element has 1 to 32 bits
+widths : (takeAt (replicate 5 0xff) 40 0 0 ≡ Short) × (takeAt (replicate 5 0xff) 40 0 33 ≡ Short)
+    × (takeAt (replicate 5 0xff) 40 8 32 ≡ Element 4294967295 (record { at = 40 })) × (takeAt (replicate 5 0xff) 40 9 32 ≡ Short)
+unfolding takeAt elementAt bits bitsOf value
+widths = (refl, refl, refl, refl)
+
+-- 57 bits are put where there is room for all of them; otherwise, and for more, nothing is
+room : (putAt (replicate 8 0xff) 7 57 0 ≡ bits (0xfe ∷ replicate 7 0))
+    × (putAt (replicate 8 0xff) 8 57 0 ≡ bits (replicate 8 0xff))
+    × (putAt (replicate 8 0xff) 0 58 0 ≡ bits (replicate 8 0xff))
+unfolding bits bitsOf
+room = (refl, refl, refl)
+
+-- ---- lists of three, of which one is 13
+
+-- some are below 13, and not every one is; without it every one is
+tests : (every (λ d. ltb d 13) (1 ∷ 13 ∷ 2 ∷ []) ≡ false)
+    × (every (λ d. ltb d 13) (1 ∷ 2 ∷ []) ≡ true)
+    × (some (λ d. ltb d 13) (13 ∷ 2 ∷ []) ≡ true)
+    × (some (λ d. ltb d 13) (13 ∷ []) ≡ false)
+unfolding some every
+tests = (refl, refl, refl, refl)

@@ -17,8 +17,8 @@ use Rattle.writer.specs.Write.{writeIs, outIs, writtenNumber}
 use Rattle.writer.specs.declared.Written.{Written}
 use Rattle.writer.specs.declared.Written.the-variants as written
 use Rattle.rules.specs.Request.{requestRefusal}
-use Rattle.rules.specs.declared.Decision.{Decision}
-use Rattle.rules.specs.declared.Decision.the-variants as decided
+use Rattle.barring.specs.declared.Decision.{Decision}
+use Rattle.barring.specs.declared.Decision.the-variants as decided
 use Rattle.archive.specs.Model.{headerWidth, bytesOf}
 use Rattle.archive.specs.Reading.{isArchive}
 use Rattle.archive.specs.Keeping.{archivedNumber, emptyIs, captureIs, captured}

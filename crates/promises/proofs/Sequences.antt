@@ -14,8 +14,8 @@ use Rattle.bits.proofs.Tests.{never, false-unless, both⁻¹, picked}
 use Rattle.reader.specs.Read.{readIs}
 use Rattle.rules.specs.Request.{requestRefusal}
 use Rattle.rules.specs.Rule.{ruling}
-use Rattle.rules.specs.declared.Decision.{Decision}
-use Rattle.rules.specs.declared.Decision.the-variants as decided
+use Rattle.barring.specs.declared.Decision.{Decision}
+use Rattle.barring.specs.declared.Decision.the-variants as decided
 use Rattle.rules.specs.declared.request.Request.{Request}
 use Rattle.archive.specs.Model.{bytesOf}
 use Rattle.archive.specs.Reading.{reading, isArchive}

@@ -1,43 +1,142 @@
--- Which bytes are an archive (otherwise 7), that they have one reading and a true count, and which PDUs no archive entry may hold (6).
-use mathlib.Core.Path.{_≡_, refl, sym, _∙_, subst}
-use mathlib.Core.Logic.{_↔_}
+-- An archive in document 01's words, with plain numbers: which archives keep the rules, which bytes are one (otherwise 7), that they have one
+-- reading and a true count, and what is held for a user and part.
+use mathlib.Core.Path.{_≡_}
+use mathlib.Core.Logic.{_↔_, _⊎_}
 use mathlib.Core.Bool.{true, false}
-use mathlib.Core.List.{List}
-use Prim.Native.Nat.{ℕ}
+use mathlib.Core.List.{List, [], _∷_, List·Memᴰ}
+use mathlib.Core.Option.{none, some}
+use Prim.Native.Nat.{ℕ, _+_, _*_, _/_, _≤_, _<_}
+use lib.ListN.{length, getD, take, drop}
 use Rattle.bits.specs.Bits.{Bytes}
-use Rattle.bits.proofs.Tests.{differ, false-unless}
+use Rattle.bits.specs.Frame.{Framed, bitsIn}
+use Rattle.bits.specs.Lists.{Each}
+use Rattle.codec.specs.Codec.{Legal}
+use Rattle.grammar.specs.Grammar.{pdu, zeroIdentity}
+use Rattle.grammar.specs.declared.record.Identity.{Identity}
+use Rattle.grammar.specs.declared.record.Record.{Record}
 use Rattle.reader.specs.Read.{readIs}
+use Rattle.pdu.specs.Accepted.{acceptedAs}
 use Rattle.reader.specs.declared.Answer.the-variants.{Accepted}
 use Rattle.judging.specs.Judge.{mayHold}
-use Rattle.archive.specs.Model.{Archive, bytesOf}
-use Rattle.archive.specs.Filing.{entryFor, bodyAgrees, wellFormed}
+use Rattle.archive.specs.Model.{Held, Archive, keyFor, bytesOf}
+use Rattle.archive.specs.Filing.{bodyAgrees, wellFormed}
 use Rattle.archive.specs.Reading.{reading, isArchive, Counted}
+use Rattle.archive.specs.Restoring.{inRange, lookup}
 use Rattle.archive.specs.declared.contents.Entry.{Entry}
-use Rattle.archive.proofs.Bodies.{agrees-says, agrees-is}
-use Rattle.archive.proofs.Capturing.{offered-agrees}
-use Rattle.archive.proofs.Writing as writing
-use Rattle.archive.proofs.Counts.{counted}
+use Rattle.promises.specs.Held.{Holdable}
 
--- Exactly the bytes of a well-formed archive pass: header, contents and bodies, nothing between or after.
-pub is-archive : (b : List ℕ) → Bytes b → (isArchive b ≡ true) ↔ ((a : Archive) × (wellFormed a ≡ true) × (bytesOf a ≡ b))
-is-archive b y = (
-  λ e. let k = writing.passed b y e in (reading b, k .0, k .1),
-  λ k. subst (λ (x : List ℕ). isArchive x ≡ true) (k .2) (writing.passes (k .0) (k .1)),
-)
+-- ---- "entries rise strictly by network, then SSI, then part"
 
--- "An archive has one reading."
-pub one-reading : (a a′ : Archive) → wellFormed a ≡ true → wellFormed a′ ≡ true → bytesOf a ≡ bytesOf a′ → a ≡ a′
-one-reading = writing.one-reading
+pub data Before (e f : Entry) : Type 0 where
+  by-network : e .network < f .network → Before e f
+  by-ssi : e .network ≡ f .network → e .ssi < f .ssi → Before e f
+  by-part : e .network ≡ f .network → e .ssi ≡ f .ssi → e .part < f .part → Before e f
 
--- The entry count is the number of keys held, and the length is that of header, contents and bodies.
-pub counts : (b : List ℕ) → isArchive b ≡ true → Counted b
-counts = counted
+-- each before the next
+abbrev pub Rising : List Held → Type 0
+Rising [] = Unit
+Rising (h ∷ []) = Unit
+Rising (h ∷ g ∷ hs) = Before (h .entry) (g .entry) × Rising (g ∷ hs)
 
--- A legal PDU may not be held exactly if it agrees with no entry of its bit length, whatever the home network.
-pub no-entry : (s : List ℕ) (n : ℕ) → readIs s n .answer ≡ Accepted
-    → (mayHold (readIs s n .found) ≡ false) ↔ ((home : ℕ) (e : Entry) → e .bits .0 ≡ n → bodyAgrees home (record { entry = e; body = s }) ≡ false)
-no-entry s n a = (
-  λ m home e l. false-unless _ (λ x. differ (sym (subst (λ (k : ℕ). mayHold (readIs s k .found) ≡ true) l (agrees-says home (record { entry = e; body = s }) x .may)) ∙ m)),
-  λ none. false-unless _ (λ m. let e = entryFor 0 (readIs s n .found) n in
-      differ (sym (agrees-is 0 (record { entry = e; body = s }) (offered-agrees 0 s n a m)) ∙ none 0 e refl)),
-)
+-- ---- "each body is a legal accepted INTERROGATE ACK with affected range type 1; its part agrees, its SSI agrees, and its network .."
+
+-- a legal PDU of n bits in the bytes s: the framed writing of a legal record
+pub record LegalPdu (s : List ℕ) (n : ℕ) (r : Record) : Type 0 where
+  pub framed : Framed s n
+  pub legal : Legal pdu r
+  pub bits : bitsIn n s ≡ pdu .print r
+
+-- "is the extension if present, otherwise the home network"
+pub record NetworkOf (home : ℕ) (u : Identity) (network : ℕ) : Type 0 where
+  pub extended : u .present ≡ 1 → network ≡ u .extension
+  pub otherwise : (u .present ≡ 1 → ⊥) → network ≡ home
+
+-- its affected user
+abbrev pub affectedUser : Record → Identity
+affectedUser r = getD (r .affected .entries) 0 zeroIdentity
+
+pub record Agrees (home : ℕ) (h : Held) (r : Record) : Type 0 where
+  pub body : LegalPdu (h .body) (h .entry .bits .0) r
+  pub accepting : Holdable r
+  pub part : h .entry .part ≡ r .result
+  pub ssi : h .entry .ssi ≡ affectedUser r .ssi
+  pub network : NetworkOf home (affectedUser r) (h .entry .network)
+
+-- ---- an archive that keeps the rules
+
+pub record WellFormed (a : Archive) : Type 0 where
+  pub home : a .home < 16777216
+  pub few : length (a .held) ≤ 512
+  pub rising : Rising (a .held)
+  pub bodies : Each (λ h. (r : Record) × Agrees (a .home) h r) (a .held)
+  pub small : length (bytesOf a) ≤ 65536
+
+-- ---- bytes that are an archive: "all numbers are most significant byte first"
+
+abbrev pub twoBytes : List ℕ → ℕ → ℕ
+twoBytes b at = getD b at 0 * 256 + getD b (at + 1) 0
+
+abbrev pub threeBytes : List ℕ → ℕ → ℕ
+threeBytes b at = getD b at 0 * 65536 + getD b (at + 1) 0 * 256 + getD b (at + 2) 0
+
+-- "Contents, 9 bytes an entry: network (3), SSI (3), part (1), bit length (2)"
+pub record EntryAt (b : List ℕ) (at : ℕ) (e : Entry) : Type 0 where
+  pub network : e .network ≡ threeBytes b at
+  pub ssi : e .ssi ≡ threeBytes b (at + 3)
+  pub part : e .part ≡ getD b (at + 6) 0
+  pub bits : e .bits .0 ≡ twoBytes b (at + 7)
+
+-- "Bodies, in contents order, each in its rounded-up bytes, nothing between or after": entries from one place on, bodies from another
+abbrev pub Laid : List ℕ → ℕ → ℕ → List Held → Type 0
+Laid b at off [] = off ≡ length b
+Laid b at off (h ∷ hs) =
+    EntryAt b at (h .entry)
+    × (h .body ≡ take ((h .entry .bits .0 + 7) / 8) (drop off b))
+    × Laid b (at + 9) (off + (h .entry .bits .0 + 7) / 8) hs
+
+-- "Header, 5 bytes: home network (3), entry count (2)", then contents and bodies
+pub record IsArchive (b : List ℕ) : Type 0 where
+  pub archive : Archive
+  pub formed : WellFormed archive
+  pub home : archive .home ≡ threeBytes b 0
+  pub count : length (archive .held) ≡ twoBytes b 3
+  pub laid : Laid b 5 (5 + 9 * length (archive .held)) (archive .held)
+
+-- ---- a user and part
+
+-- network and SSI below 16,777,216, part 1 or 2
+pub record Ranged (x y p : ℕ) : Type 0 where
+  pub network : x < 16777216
+  pub ssi : y < 16777216
+  pub part : (p ≡ 1) ⊎ (p ≡ 2)
+
+-- an entry among these has that network, SSI and part
+pub record HeldFor (hs : List Held) (network ssi part : ℕ) (h : Held) : Type 0 where
+  pub among : List·Memᴰ h hs
+  pub its-network : h .entry .network ≡ network
+  pub its-ssi : h .entry .ssi ≡ ssi
+  pub its-part : h .entry .part ≡ part
+
+-- ---- the tests of the calls say the same. Proved in proofs/Archive.antt.
+
+pub record Promise : Type 0 where
+  pub legal : (s : List ℕ) (n : ℕ) (r : Record) → (readIs s n ≡ acceptedAs r) ↔ LegalPdu s n r
+  pub agrees : (home : ℕ) (h : Held) → (bodyAgrees home h ≡ true) ↔ ((r : Record) × Agrees home h r)
+  pub well-formed : (a : Archive) → (wellFormed a ≡ true) ↔ WellFormed a
+  pub is-archive : (b : List ℕ) → (isArchive b ≡ true) ↔ IsArchive b
+  -- "An archive has one reading."
+  pub one-reading : (b : List ℕ) (k : IsArchive b) → k .archive ≡ reading b
+  -- The bytes of well-formed archives are archives, and there are no others.
+  pub archive-bytes : (b : List ℕ) → Bytes b → IsArchive b ↔ ((a : Archive) × WellFormed a × (bytesOf a ≡ b))
+  pub one-archive : (a a′ : Archive) → WellFormed a → WellFormed a′ → bytesOf a ≡ bytesOf a′ → a ≡ a′
+  -- The entry count is the number of keys held, and the length is that of header, contents and bodies.
+  pub counts : (b : List ℕ) → isArchive b ≡ true → Counted b
+  pub in-range : (network ssi part : ℕ) → (inRange network ssi part ≡ true) ↔ Ranged network ssi part
+  -- A lookup finds the entry of that network, SSI and part, or there is none.
+  pub found : (b : List ℕ) → isArchive b ≡ true → (network ssi part : ℕ) → Ranged network ssi part → (h : Held)
+      → (lookup (keyFor network ssi part) (reading b .held) ≡ some h) ↔ HeldFor (reading b .held) network ssi part h
+  pub not-found : (b : List ℕ) → isArchive b ≡ true → (network ssi part : ℕ) → Ranged network ssi part
+      → (lookup (keyFor network ssi part) (reading b .held) ≡ none) ↔ ((h : Held) → HeldFor (reading b .held) network ssi part h → ⊥)
+  -- A legal PDU may not be held exactly if it agrees with no entry of its bit length, whatever the home network.
+  pub no-entry : (s : List ℕ) (n : ℕ) → readIs s n .answer ≡ Accepted → (mayHold (readIs s n .found) ≡ false)
+      ↔ ((home : ℕ) (e : Entry) → e .bits .0 ≡ n → bodyAgrees home (record { entry = e; body = s }) ≡ false)

@@ -2,6 +2,7 @@ pub mod Answers
 pub mod Demand1
 pub mod Demand2
 pub mod Demand3
+pub mod Held
 pub mod Archive
 pub mod Profiles
 pub mod Cases

@@ -1,14 +1,17 @@
 -- Writing worked out by antt: profile A and the INTERROGATE of document 01's P13 and P14, and the order of refusals.
 use mathlib.Core.Path.{_≡_, refl}
 use mathlib.Core.List.{[], _∷_}
+use Prim.Native.Nat.{ℕ}
 use lib.ListN.{replicate}
 use Rattle.bits.specs.Frame.{bytesOf, pack}
 use Rattle.grammar.specs.Grammar.{grammar, zeroIdentity}
-use Rattle.grammar.specs.Zero.{zeroIdentities, zeroNumbers}
+use Rattle.grammar.specs.Zero.{zeroIdentities, zeroNumbers, zeroServices, zeroLists}
 use Rattle.grammar.specs.ProfileRecords.{user, A, asking}
+use Rattle.grammar.specs.declared.record.Identities.{Identities}
 use Rattle.grammar.specs.declared.record.Numbers.{Numbers}
 use Rattle.grammar.specs.declared.record.Record.{Record}
 use Rattle.writer.specs.Write.{recordRefusal, writeRefusal, writeIs, outIs}
+use Rattle.writer.specs.declared.Written.{Written}
 use Rattle.writer.specs.declared.Written.the-variants.{Bits, Refused}
 
 -- `unfolding writing` opens all of it
@@ -56,3 +59,65 @@ ends = refl
 stray : writeIs (reversed (record { code = 1; entries = zeroNumbers .entries })) [] ≡ Refused 3
 unfolding writing
 stray = refl
+
+-- ---- the order of refusals, in 100 bytes
+
+abbrev answer : Record → Written
+answer r = writeIs r (replicate 100 0)
+
+-- PDU types that are not read, named or reserved, and one wider than its element: 3
+abbrev typed : ℕ → Record
+typed kind = record {
+  kind = kind;
+  affected = record { code = 1; entries = user 5 ∷ replicate 7 zeroIdentity };
+  asked = 1;
+  result = 0;
+  delivery = 0;
+  services = zeroServices;
+  lists = zeroLists;
+}
+
+types : (answer (typed 11) ≡ Bits (record { 0 = 42 }))
+    × (answer (typed 0) ≡ Refused 3)
+    × (answer (typed 10) ≡ Refused 3)
+    × (answer (typed 13) ≡ Refused 3)
+    × (answer (typed 31) ≡ Refused 3)
+    × (answer (typed 43) ≡ Refused 3)
+unfolding writing
+types = (refl, refl, refl, refl, refl, refl)
+
+-- a failed ACK for affected users, with this result, delivery status and service
+abbrev told : Identities → ℕ → ℕ → ℕ → Record
+told affected result delivery service = record {
+  kind = 12;
+  affected = affected;
+  asked = 0;
+  result = result;
+  delivery = delivery;
+  services = record { count = 1; list = service ∷ replicate 6 0 };
+  lists = zeroLists;
+}
+
+abbrev pair : ℕ → ℕ → ℕ → Identities
+pair code first last = record { code = code; entries = user first ∷ user last ∷ replicate 6 zeroIdentity }
+
+-- users 200 to 199 before the reserved result 5, or service 4: 4; a range type that is refused, before: 3
+first-refusal : (answer (told (pair 9 199 200) 0 0 3) ≡ Bits (record { 0 = 76 }))
+    × (answer (told (pair 9 200 199) 5 0 0) ≡ Refused 4)
+    × (answer (told (pair 9 200 199) 0 0 4) ≡ Refused 4)
+    × (answer (told (pair 9 199 200) 5 0 0) ≡ Refused 3)
+    × (answer (told (pair 9 199 200) 0 0 4) ≡ Refused 3)
+unfolding writing
+first-refusal = (refl, refl, refl, refl, refl)
+
+-- a value wider than its element: an SSI, a delivery status
+too-wide : (answer (told (pair 2 16777215 0) 0 3 0) ≡ Bits (record { 0 = 76 }))
+    × (answer (told (pair 2 16777216 0) 0 0 0) ≡ Refused 3)
+    × (answer (told (pair 2 0 0) 0 4 0) ≡ Refused 3)
+unfolding writing
+too-wide = (refl, refl, refl)
+
+-- a refusal changes no byte
+nothing-written : outIs (told (pair 9 200 199) 0 0 0) (replicate 12 0xff) ≡ replicate 12 0xff
+unfolding writing
+nothing-written = refl

@@ -3,7 +3,7 @@ use mathlib.Core.Path.{_≡_, refl, sym, ap, _∙_, subst}
 use mathlib.Core.Bool.{Bool, true, false, _||_}
 use mathlib.Core.List.{List, [], _∷_, _++_}
 use mathlib.Core.Option.{Option, none, some}
-use Prim.Native.Nat.{ℕ, zero, suc}
+use Prim.Native.Nat.{ℕ, zero, suc, _≤_}
 use native.Mathlib.Omega.{arith}
 use lib.ListN.{length}
 use lib.Dec.{ltb, eqb}
@@ -14,21 +14,32 @@ use Rattle.reader.specs.Read.{refusalOf, readIs}
 use Rattle.reader.specs.declared.Answer.{Answer}
 use Rattle.reader.specs.declared.Answer.the-variants as reader
 use Rattle.judging.specs.Judge.{mayHold}
-use Rattle.archive.specs.Model.{Held, keyOf, lengthOf}
+use Rattle.archive.specs.Model.{Held, Archive, keyOf, lengthOf}
+use Rattle.archive.specs.Filing.{entryFor, bodyAgrees, keepsRules}
 use Rattle.archive.specs.Reading.{reading, isArchive}
 use Rattle.archive.specs.Keeping.{archivedNumber, heldFor, captured, captureIs}
 use Rattle.archive.specs.Restoring.{lookup}
+use Rattle.archive.specs.declared.contents.Entry.{Entry}
 use Rattle.archive.specs.declared.Archived.the-variants.{Bytes, Refused}
-use Rattle.archive.proofs.Putting.{isNone}
-use Rattle.archive.proofs.Capturing.{no-archive, capture-leaves}
-use Rattle.archive.proofs.Captured.{taken, captured-formed}
-use Rattle.archive.proofs.Writing.{length-written}
+use Rattle.archive.proofs.Bodies as bodies
+use Rattle.archive.proofs.Rules.{all-fit, archive-formed}
+use Rattle.archive.proofs.Putting.{isNone, rules-put}
+use Rattle.archive.proofs.Capturing.{offered-agrees, no-archive, capture-leaves}
 use Rattle.archive.proofs.Counts.{fullFor, eight}
 use Rattle.promises.specs.Answers.{OneOf}
+use Rattle.promises.specs.Held.{may-be-held}
+use Rattle.promises.specs.Archive as said
+use Rattle.promises.specs.Archive.{Agrees, IsArchive, Ranged, HeldFor}
 use Rattle.promises.specs.Demand1.Reading as read
-use Rattle.promises.specs.Demand1.Capture.{number, Offered, Full, Given, success, damaged, unread, not-kept, full, too-long, no-room, Promise}
+use Rattle.promises.specs.Demand1.Capture.{number, Offered, Full, result, Given, success, damaged, unread, not-kept, full, too-long, no-room, Promise}
 use Rattle.promises.proofs.Tables.{exactly, wider}
+use Rattle.promises.proofs.Archive as archive-kept
+use Rattle.promises.proofs.Archive.Agreeing.{agreed-entry, filed-agrees}
+use Rattle.promises.proofs.Archive.Forming.{length-bytes}
 use Rattle.promises.proofs.Demand1.Reading as reading-kept
+
+abbrev archives : said.Promise
+archives = archive-kept.promise
 
 -- ---- a PDU that is not filed
 
@@ -49,32 +60,99 @@ module _ (b s : List ℕ) (n room : ℕ) where
   abbrev size : ℕ
   size = lengthOf (captured b s n)
 
+  -- what the PDU is held as
+  abbrev filed : Held
+  filed = heldFor (reading b .home) s n
+
   abbrev isFull : Bool
-  isFull = fullFor b (heldFor (reading b .home) s n)
+  isFull = fullFor b filed
 
   abbrev Both : ℕ → Type 0
   Both k = Given b s n room k × OneOf (read.numbers ++ (7 ∷ 6 ∷ 8 ∷ [])) k
 
-  is-full : isFull ≡ true → Full b s n
-  is-full e =
-      let k = both (isNone (lookup (keyOf (heldFor (reading b .home) s n)) (reading b .held))) (eqb (length (reading b .held)) 512) e in
-      record { new = is-none _ (k .0); count = eqb-true _ _ (k .1) }
+  archive : IsArchive b → isArchive b ≡ true
+  archive k = archives.is-archive b .1 k
 
-  full-is : Full b s n → isFull ≡ true
-  full-is f = both⁻¹ (ap isNone (f .new)) (eq-eqb _ _ (f .count))
+  -- ---- a PDU that is offered is filed under one entry, in its range
 
-  placed : Offered b s n → captureIs b s n room ≡ pick (isFull || (ltb 65536 size || ltb room size)) (Refused 8) (Bytes size)
-  placed o = eight b s n room (o .archive) (o .accepted) (o .may)
+  module _ (o : Offered b s n) where
+    may : mayHold (readIs s n .found) ≡ true
+    may = may-be-held (readIs s n .found) .1 (o .may)
 
-  offered : Offered b s n → Both (number b s n room)
-  offered o = subst Both (sym (ap archivedNumber (placed o))) (go isFull refl (ltb 65536 size) refl (ltb room size) refl)
-    where
-      go : (p : Bool) → isFull ≡ p → (q : Bool) → ltb 65536 size ≡ q → (t : Bool) → ltb room size ≡ t
-          → Both (archivedNumber (pick (p || (q || t)) (Refused 8) (Bytes size)))
-      go true e q f t g = (full o (is-full e), refl)
-      go false e true f t g = (too-long o (ltb-true _ _ f), refl)
-      go false e false f true g = (no-room o (ltb-true _ _ g), refl)
-      go false e false f false g = (success o (λ x. differ (sym (full-is x) ∙ e)) (ltb-false _ _ f) (ltb-false _ _ g), refl)
+    agrees : bodyAgrees (reading b .home) filed ≡ true
+    agrees = bodies.agrees-is (reading b .home) filed (offered-agrees (reading b .home) s n (o .accepted) may)
+
+    rules : keepsRules (reading b .home) 0 (captured b s n .held) ≡ true
+    unfolding captured
+    rules =
+        let f = archive-formed b (archive (o .archive)) in
+        let p = bodies.part-is (readIs s n .found) may in
+        rules-put (reading b .home) 0 filed (reading b .held) agrees (omega (arith, p .0)) (f .rules)
+
+    -- the result's length is header, contents and bodies
+    long : length (result b s n) ≡ size
+    unfolding captured
+    long =
+        let f = archive-formed b (archive (o .archive)) in
+        length-bytes (captured b s n) (all-fit (reading b .home) 0 (captured b s n .held) (f .home) rules)
+
+    ranged : Ranged (filed .entry .network) (filed .entry .ssi) (filed .entry .part)
+    ranged =
+        let f = archive-formed b (archive (o .archive)) in
+        let e = bodies.fits (reading b .home) filed (f .home) (offered-agrees (reading b .home) s n (o .accepted) may) .entry in
+        record { network = e .network; ssi = e .ssi; part = o .may .result }
+
+    is-full : isFull ≡ true → Full b s n (o .archive)
+    is-full e =
+        let x = both (isNone (lookup (keyOf filed) (reading b .held))) (eqb (length (reading b .held)) 512) e in
+        let y = filed .entry in
+        let no-one = archives.not-found b (archive (o .archive)) (y .network) (y .ssi) (y .part) ranged .0 (is-none _ (x .0)) in
+        let same = sym (archives.one-reading b (o .archive)) in
+        record {
+          entry = y;
+          bits = refl;
+          agrees = subst (λ (a : Archive). Agrees (a .home) filed (readIs s n .found)) same (filed-agrees (reading b .home) s n (o .accepted) (o .may));
+          new = subst (λ (a : Archive). (h : Held) → HeldFor (a .held) (y .network) (y .ssi) (y .part) h → ⊥) same no-one;
+          count = subst (λ (a : Archive). length (a .held) ≡ 512) same (eqb-true _ _ (x .1));
+        }
+
+    full-is : Full b s n (o .archive) → isFull ≡ true
+    full-is f =
+        let same = archives.one-reading b (o .archive) in
+        let at = agreed-entry (o .archive .archive .home) (record { entry = f .entry; body = s }) (readIs s n .found) (f .agrees) in
+        let e : f .entry ≡ filed .entry =
+        at ∙ (λ i. entryFor (same i .home) (readIs s n .found) (f .bits i)) in
+        let no-one = subst (λ (a : Archive). (h : Held) → HeldFor (a .held) (f .entry .network) (f .entry .ssi) (f .entry .part) h → ⊥) same (f .new) in
+        let new = subst (λ (x : Entry). (h : Held) → HeldFor (reading b .held) (x .network) (x .ssi) (x .part) h → ⊥) e no-one in
+        let y = filed .entry in
+        both⁻¹ (ap isNone (archives.not-found b (archive (o .archive)) (y .network) (y .ssi) (y .part) ranged .1 new))
+        (eq-eqb _ _ (subst (λ (a : Archive). length (a .held) ≡ 512) same (f .count)))
+
+    placed : captureIs b s n room ≡ pick (isFull || (ltb 65536 size || ltb room size)) (Refused 8) (Bytes size)
+    placed = eight b s n room (archive (o .archive)) (o .accepted) may
+
+    offered : Both (number b s n room)
+    offered = subst Both (sym (ap archivedNumber placed)) (go isFull refl (ltb 65536 size) refl (ltb room size) refl)
+      where
+        go : (p : Bool) → isFull ≡ p → (q : Bool) → ltb 65536 size ≡ q → (t : Bool) → ltb room size ≡ t
+            → Both (archivedNumber (pick (p || (q || t)) (Refused 8) (Bytes size)))
+        go true e q f t g = (full o (is-full e), refl)
+        go false e true f t g = (too-long o (omega (arith, long, ltb-true 65536 size f)), refl)
+        go false e false f true g = (no-room o (omega (arith, long, ltb-true room size g)), refl)
+        go false e false f false g =
+            (success o (λ x. differ (sym (full-is x) ∙ e)) (omega (arith, long, ltb-false 65536 size f)) (omega (arith, long, ltb-false room size g)), refl)
+
+    over : isFull || (ltb 65536 size || ltb room size) ≡ true → number b s n room ≡ 8
+    over e = ap archivedNumber (placed ∙ ap (λ (t : Bool). pick t (Refused 8) (Bytes size)) e)
+
+    fits : (Full b s n (o .archive) → ⊥) → length (result b s n) ≤ 65536 → length (result b s n) ≤ room → captureIs b s n room ≡ Bytes size
+    fits f l h =
+        let none = false-unless isFull (λ t. f (is-full t)) in
+        let short = le-ltb 65536 size (omega (arith, long, l)) in
+        let room-for = le-ltb room size (omega (arith, long, h)) in
+        placed ∙ (λ i. pick (none i || (short i || room-for i)) (Refused 8) (Bytes size))
+
+  -- ---- the table
 
   -- no PDU is refused with 0
   accepted-not : readIs s n .answer ≡ reader.Refused 0 → ⊥
@@ -88,33 +166,35 @@ module _ (b s : List ℕ) (n room : ℕ) where
       to : {k : ℕ} → captureIs b s n room ≡ Refused k → Both k → Both (number b s n room)
       to e h = subst Both (sym (ap archivedNumber e)) h
 
-      go : (p : Bool) → isArchive b ≡ p → (a : Answer) → readIs s n .answer ≡ a → (q : Bool) → mayHold (readIs s n .found) ≡ q → Both (number b s n room)
-      go false e a f q g = to (no-archive b s n room e) (damaged e, refl)
+      go : (p : Bool) → isArchive b ≡ p → (a : Answer) → readIs s n .answer ≡ a → (q : Bool) → mayHold (readIs s n .found) ≡ q
+          → Both (number b s n room)
+      go false e a f q g = to (no-archive b s n room e) (damaged (λ k. differ (sym (archive k) ∙ e)), refl)
       go true e (reader.Refused zero) f q g = absurd (accepted-not f)
       go true e (reader.Refused (suc k)) f q g =
-          let listed = reading-kept.promise .table s n .listed in
-          to (pdu-refused b s n room e f) (unread k e f, wider read.numbers (7 ∷ 6 ∷ 8 ∷ []) (suc k) (subst (λ (a : Answer). OneOf read.numbers (refusalOf a)) f listed))
-      go true e reader.Accepted f false g = to (may-not b s n room e f g) (not-kept e f g, refl)
-      go true e reader.Accepted f true g = offered (record { archive = e; accepted = f; may = g })
-
-  over : Offered b s n → isFull || (ltb 65536 size || ltb room size) ≡ true → number b s n room ≡ 8
-  over o e = ap archivedNumber (placed o ∙ ap (λ (t : Bool). pick t (Refused 8) (Bytes size)) e)
+          let listed = subst (λ (a : Answer). OneOf read.numbers (refusalOf a)) f (reading-kept.promise .table s n .listed) in
+          to (pdu-refused b s n room e f) (unread k (archives.is-archive b .0 e) f, wider read.numbers (7 ∷ 6 ∷ 8 ∷ []) (suc k) listed)
+      go true e reader.Accepted f false g =
+          to (may-not b s n room e f g)
+          (not-kept (archives.is-archive b .0 e) f (λ m. differ (sym (may-be-held (readIs s n .found) .1 m) ∙ g)), refl)
+      go true e reader.Accepted f true g =
+          offered (record { archive = archives.is-archive b .0 e; accepted = f; may = may-be-held (readIs s n .found) .0 g })
 
   or-true : (p : Bool) {q : Bool} → q ≡ true → p || q ≡ true
   or-true true e = refl
   or-true false e = e
 
   back : (k : ℕ) → Given b s n room k → number b s n room ≡ k
-  back k (success o f l h) = ap archivedNumber (placed o) ∙ rw (false-unless isFull (λ t. f (is-full t)), le-ltb _ _ l, le-ltb _ _ h)
-  back k (damaged e) = ap archivedNumber (no-archive b s n room e)
-  back k (unread m e f) = ap archivedNumber (pdu-refused b s n room e f)
-  back k (not-kept e f g) = ap archivedNumber (may-not b s n room e f g)
-  back k (full o f) = over o (ap (λ (p : Bool). p || (ltb 65536 size || ltb room size)) (full-is f))
-  back k (too-long o h) = over o (or-true isFull (ap (λ (q : Bool). q || ltb room size) (lt-ltb _ _ h)))
-  back k (no-room o h) = over o (or-true isFull (or-true (ltb 65536 size) (lt-ltb _ _ h)))
+  back k (success o f l h) = ap archivedNumber (fits o f l h)
+  back k (damaged e) = ap archivedNumber (no-archive b s n room (false-unless _ (λ t. e (archives.is-archive b .0 t))))
+  back k (unread m e f) = ap archivedNumber (pdu-refused b s n room (archive e) f)
+  back k (not-kept e f g) =
+      ap archivedNumber (may-not b s n room (archive e) f (false-unless _ (λ t. g (may-be-held (readIs s n .found) .0 t))))
+  back k (full o f) = over o (ap (λ (p : Bool). p || (ltb 65536 size || ltb room size)) (full-is o f))
+  back k (too-long o h) = over o (or-true isFull (ap (λ (q : Bool). q || ltb room size) (lt-ltb 65536 size (omega (arith, long o, h)))))
+  back k (no-room o h) = over o (or-true isFull (or-true (ltb 65536 size) (lt-ltb room size (omega (arith, long o, h)))))
 
-  written : (k : ℕ) → Given b s n room k → k ≡ 0 → captureIs b s n room ≡ Bytes size
-  written k (success o f l h) z = placed o ∙ rw (false-unless isFull (λ t. f (is-full t)), le-ltb _ _ l, le-ltb _ _ h)
+  written : (k : ℕ) → Given b s n room k → k ≡ 0 → (captureIs b s n room ≡ Bytes size) × (length (result b s n) ≡ size)
+  written k (success o f l h) z = (fits o f l h, long o)
   written k (damaged e) z = absurd (omega arith)
   written k (unread m e f) z = absurd (omega arith)
   written k (not-kept e f g) z = absurd (omega arith)
@@ -126,8 +206,7 @@ pub promise : Promise
 promise = record {
   table = λ b s n room. exactly (Given b s n room) (row b s n room .0) (row b s n room .1) (back b s n room);
   success = λ b s n out e.
-      let x = written b s n (length out) (number b s n (length out)) (row b s n (length out) .0) e in
-      let w = length-written (captured b s n) (captured-formed b s n (length out) (size b s n (length out)) (taken b s n (length out) (size b s n (length out)) x)) in
-      (x ∙ ap Bytes (sym w), capture-leaves b s n out x);
+      let w = written b s n (length out) (number b s n (length out)) (row b s n (length out) .0) e in
+      (w .0 ∙ ap Bytes (sym (w .1)), capture-leaves b s n out (w .0));
   refusal = λ b s n out k e. capture-leaves b s n out e;
 }

@@ -26,6 +26,11 @@ use Rattle.promises.specs.Demand1.Decision.{number, Ranged, Given, succe
 use Rattle.promises.specs.Demand1.Decision.{Verdict, outside-group, restricted-service, restricted-address, allowed, not-held}
 use Rattle.promises.proofs.Tables.{exactly}
 use Rattle.promises.proofs.Requests.{test, in-range, passes, ranged}
+use Rattle.promises.specs.Archive as said
+use Rattle.promises.proofs.Archive as archive-kept
+
+abbrev archives : said.Promise
+archives = archive-kept.promise
 
 -- a decision, with its number
 abbrev Decided : Decision → Type 0
@@ -86,17 +91,19 @@ module _ (q : Request) where
 
         go : (t : Bool) → test q ≡ t → (a : Bool) → isArchive b ≡ a → Both (number b q)
         go false e a f = to (ap decidedNumber (answer false a e f)) (unranged (λ r. differ (sym (passes q r) ∙ e)), refl)
-        go true e false f = to (ap decidedNumber (answer true false e f)) (damaged (in-range q e) f, refl)
-        go true e true f = to (ap decidedNumber (answer true true e f) ∙ verdict-number decided) (success (in-range q e) f, refl)
+        go true e false f =
+            to (ap decidedNumber (answer true false e f)) (damaged (in-range q e) (λ k. differ (sym (archives.is-archive b .1 k) ∙ f)), refl)
+        go true e true f =
+            to (ap decidedNumber (answer true true e f) ∙ verdict-number decided) (success (in-range q e) (archives.is-archive b .0 f), refl)
 
     back : (k : ℕ) → Given b q k → number b q ≡ k
-    back k (success r a) = ap decidedNumber (answer true true (passes q r) a) ∙ verdict-number decided
+    back k (success r a) = ap decidedNumber (answer true true (passes q r) (archives.is-archive b .1 a)) ∙ verdict-number decided
     back k (unranged r) = ap decidedNumber (answer false (isArchive b) (false-unless (test q) (λ e. r (in-range q e))) refl)
-    back k (damaged r a) = ap decidedNumber (answer true false (passes q r) a)
+    back k (damaged r a) = ap decidedNumber (answer true false (passes q r) (false-unless _ (λ e. a (archives.is-archive b .0 e))))
 
     -- what is decided is in its range, and from an archive
     pub accepted : (k : ℕ) → Given b q k → k ≡ 0 → Ranged q × (isArchive b ≡ true)
-    accepted k (success r a) z = (r, a)
+    accepted k (success r a) z = (r, archives.is-archive b .1 a)
     accepted k (unranged r) z = absurd (omega arith)
     accepted k (damaged r a) z = absurd (omega arith)
 

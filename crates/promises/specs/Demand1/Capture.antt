@@ -1,49 +1,55 @@
 -- Demand 1, capture: "7, the PDU's 1 to 5 and 10, 6, 8. Each is given exactly then."
 use mathlib.Core.Path.{_≡_, refl}
-use mathlib.Core.Bool.{true, false}
 use mathlib.Core.List.{List, [], _∷_, _++_}
-use mathlib.Core.Option.{none}
 use Prim.Native.Nat.{ℕ, suc, _≤_, _<_}
 use lib.ListN.{length, replicate}
 use Rattle.reader.specs.Read.{readIs}
 use Rattle.reader.specs.declared.Answer.the-variants as reader
-use Rattle.judging.specs.Judge.{mayHold}
-use Rattle.archive.specs.Model.{keyOf, bytesOf, lengthOf}
-use Rattle.archive.specs.Reading.{reading, isArchive}
-use Rattle.archive.specs.Keeping.{archivedNumber, over, heldFor, captured, captureIs, captureOut}
-use Rattle.archive.specs.Restoring.{lookup}
+use Rattle.archive.specs.Model.{Held, bytesOf}
+use Rattle.archive.specs.Keeping.{archivedNumber, over, captured, captureIs, captureOut}
 use Rattle.archive.specs.Examples.{calls, profileA}
+use Rattle.archive.specs.declared.contents.Entry.{Entry}
 use Rattle.archive.specs.declared.Archived.the-variants.{Bytes, Refused}
 use Rattle.promises.specs.Answers.{Exactly}
+use Rattle.promises.specs.Held.{Holdable}
+use Rattle.promises.specs.Archive.{Agrees, IsArchive, HeldFor}
 use Rattle.promises.specs.Demand1.Reading as read
 
 abbrev pub number : List ℕ → List ℕ → ℕ → ℕ → ℕ
 number b s n room = archivedNumber (captureIs b s n room)
 
--- an archive, and a PDU that it may hold
+-- an archive, and a legal PDU that it may hold
 pub record Offered (b s : List ℕ) (n : ℕ) : Type 0 where
-  pub archive : isArchive b ≡ true
+  pub archive : IsArchive b
   pub accepted : readIs s n .answer ≡ reader.Accepted
-  pub may : mayHold (readIs s n .found) ≡ true
+  pub may : Holdable (readIs s n .found)
 
--- a new key with 512 held
-pub record Full (b s : List ℕ) (n : ℕ) : Type 0 where
-  pub new : lookup (keyOf (heldFor (reading b .home) s n)) (reading b .held) ≡ none
-  pub count : length (reading b .held) ≡ 512
+-- a new key with 512 held: the PDU agrees with an entry of its bit length, and none of the 512 is of that network, SSI and part
+pub record Full (b s : List ℕ) (n : ℕ) (k : IsArchive b) : Type 0 where
+  pub entry : Entry
+  pub bits : entry .bits .0 ≡ n
+  pub agrees : Agrees (k .archive .home) (record { entry = entry; body = s }) (readIs s n .found)
+  pub new : (h : Held) → HeldFor (k .archive .held) (entry .network) (entry .ssi) (entry .part) h → ⊥
+  pub count : length (k .archive .held) ≡ 512
+
+-- the bytes of the result: the archive with the PDU in its place, instead of the one that it held for that user and part
+abbrev pub result : List ℕ → List ℕ → ℕ → List ℕ
+result b s n = bytesOf (captured b s n)
 
 -- the table of refusals, as far as capture goes
 pub data Given (b s : List ℕ) (n room : ℕ) : ℕ → Type 0 where
-  success : Offered b s n → (Full b s n → ⊥) → lengthOf (captured b s n) ≤ 65536 → lengthOf (captured b s n) ≤ room → Given b s n room 0
+  success : (o : Offered b s n) → (Full b s n (o .archive) → ⊥) → length (result b s n) ≤ 65536 → length (result b s n) ≤ room
+      → Given b s n room 0
   -- 7: the archive breaks a rule
-  damaged : isArchive b ≡ false → Given b s n room 7
+  damaged : (IsArchive b → ⊥) → Given b s n room 7
   -- 1 to 5 and 10: those of reading
-  unread : (k : ℕ) → isArchive b ≡ true → readIs s n .answer ≡ reader.Refused (suc k) → Given b s n room (suc k)
+  unread : (k : ℕ) → IsArchive b → readIs s n .answer ≡ reader.Refused (suc k) → Given b s n room (suc k)
   -- 6: a legal PDU that no archive entry may hold
-  not-kept : isArchive b ≡ true → readIs s n .answer ≡ reader.Accepted → mayHold (readIs s n .found) ≡ false → Given b s n room 6
+  not-kept : IsArchive b → readIs s n .answer ≡ reader.Accepted → (Holdable (readIs s n .found) → ⊥) → Given b s n room 6
   -- 8: a new key with 512 held, or the result exceeds 65,536 bytes or the lent buffer
-  full : Offered b s n → Full b s n → Given b s n room 8
-  too-long : Offered b s n → 65536 < lengthOf (captured b s n) → Given b s n room 8
-  no-room : Offered b s n → room < lengthOf (captured b s n) → Given b s n room 8
+  full : (o : Offered b s n) → Full b s n (o .archive) → Given b s n room 8
+  too-long : Offered b s n → 65536 < length (result b s n) → Given b s n room 8
+  no-room : Offered b s n → room < length (result b s n) → Given b s n room 8
 
 -- an archive that holds nothing, and an INTERROGATE
 abbrev nothing : List ℕ
@@ -71,6 +77,6 @@ pub record Promise : Type 0 where
   pub table : (b s : List ℕ) (n room : ℕ) → Exactly (number b s n room) (read.numbers ++ (7 ∷ 6 ∷ 8 ∷ [])) (Given b s n room)
   -- "Success returns the length written; output bytes after those that hold that length stay."
   pub success : (b s : List ℕ) (n : ℕ) (out : List ℕ) → number b s n (length out) ≡ 0
-      → (captureIs b s n (length out) ≡ Bytes (length (bytesOf (captured b s n)))) × (captureOut b s n out ≡ over (bytesOf (captured b s n)) out)
+      → (captureIs b s n (length out) ≡ Bytes (length (result b s n))) × (captureOut b s n out ≡ over (result b s n) out)
   -- "A refusal returns its number only and changes no byte."
   pub refusal : (b s : List ℕ) (n : ℕ) (out : List ℕ) (k : ℕ) → captureIs b s n (length out) ≡ Refused k → captureOut b s n out ≡ out

@@ -1,7 +1,7 @@
 -- Demand 1, the decision: "9, 7. Each is given exactly then." It is lent nothing to change.
 use mathlib.Core.Path.{_≡_, refl}
 use mathlib.Core.Logic.{_↔_}
-use mathlib.Core.Bool.{true, false}
+use mathlib.Core.Bool.{true}
 use mathlib.Core.List.{List, [], _∷_}
 use Prim.Native.Nat.{ℕ, _≤_, _<_}
 use lib.ListN.{take, drop, replicate}
@@ -14,13 +14,13 @@ use Rattle.rules.specs.declared.request.Destination.the-variants.{Identity, Num
 use Rattle.rules.specs.declared.request.Group.{Group}
 use Rattle.rules.specs.declared.request.Group.the-variants.{Of, NoGroup}
 use Rattle.rules.specs.declared.request.Request.{Request}
-use Rattle.archive.specs.Reading.{isArchive}
 use Rattle.archive.specs.Examples.{calls}
 use Rattle.barring.specs.Decide.{decideIs}
 use Rattle.barring.specs.Decision.{decidedNumber, verdictOf}
 use Rattle.barring.specs.declared.Decision.{Decision}
 use Rattle.barring.specs.declared.Decision.the-variants.{Allowed, Barred, NotHeld}
 use Rattle.promises.specs.Answers.{Exactly}
+use Rattle.promises.specs.Archive.{IsArchive}
 
 abbrev pub number : List ℕ → Request → ℕ
 number b q = decidedNumber (decideIs b q)
@@ -59,11 +59,11 @@ pub record Ranged (q : Request) : Type 0 where
 -- ---- the table of refusals, as far as the decision goes
 
 pub data Given (b : List ℕ) (q : Request) : ℕ → Type 0 where
-  success : Ranged q → isArchive b ≡ true → Given b q 0
+  success : Ranged q → IsArchive b → Given b q 0
   -- 9: a request out of its range
   unranged : (Ranged q → ⊥) → Given b q 9
   -- 7: the archive breaks a rule
-  damaged : Ranged q → isArchive b ≡ false → Given b q 7
+  damaged : Ranged q → (IsArchive b → ⊥) → Given b q 7
 
 -- each number is met
 met : (number (replicate 5 0) (speech 1 100 NoGroup) ≡ 0) × (number [] (speech 16777216 100 NoGroup) ≡ 9) × (number [] (speech 1 100 NoGroup) ≡ 7)

@@ -8,6 +8,7 @@ use Rattle.bits.specs.Frame.{bitsIn, framed, Framed}
 use Rattle.codec.specs.Codec.{Legal}
 use Rattle.codec.specs.Stops.{Stops}
 use Rattle.grammar.specs.Grammar.{pdu, grammar}
+use Rattle.grammar.specs.Zero.{zeroRecord}
 use Rattle.grammar.specs.declared.record.Record.{Record}
 use Rattle.reader.specs.Read.{refusalOf, refusing, readIs}
 use Rattle.reader.specs.declared.Answer.the-variants.{Accepted, Refused}
@@ -38,6 +39,12 @@ met : (number (0x49 ∷ 0x62 ∷ 0x00 ∷ 0x00 ∷ 0x0a ∷ 0x40 ∷ []) 42 ≡ 
     × (number (0x48 ∷ 0x00 ∷ []) 11 ≡ 10)
 unfolding grammar readIs framed bits
 met = (refl, refl, refl, refl, refl, refl, refl)
+
+-- what is not framed gives 1, whatever its bits say; beside a refusal stands the record of zeros
+unframed-first : (readIs (0x00 ∷ 0x01 ∷ []) 9 ≡ record { answer = Refused 1; found = zeroRecord })
+    × (readIs (0x48 ∷ 0x01 ∷ []) 11 ≡ record { answer = Refused 1; found = zeroRecord })
+unfolding grammar readIs framed bits
+unframed-first = (refl, refl)
 
 abbrev pub numbers : List ℕ
 numbers = 0 ∷ 1 ∷ 2 ∷ 3 ∷ 4 ∷ 5 ∷ 10 ∷ []

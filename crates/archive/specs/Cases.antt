@@ -1,0 +1,178 @@
+-- Worked cases with several entries: the bytes of numbers, limits, a PDU put in its place, a history of offers, what breaks a
+-- rule, and the listing.
+use mathlib.Core.Path.{_≡_, refl}
+use mathlib.Core.Bool.{true, false}
+use mathlib.Core.List.{List, [], _∷_, _++_}
+use mathlib.Core.Option.{none, some}
+use Prim.Native.Nat.{ℕ}
+use lib.ListN.{take, replicate}
+use Rattle.archive.specs.Model.{Held, headerBytes, entryBytes, lengthOf, withinLimits}
+use Rattle.archive.specs.Filing.{filingOf, bodyAgrees}
+use Rattle.archive.specs.Reading.{homeOf, countOf, entryAt, isArchive}
+use Rattle.archive.specs.Keeping.{emptyIs, put}
+use Rattle.archive.specs.Restoring.{inRange, fetchIs, restoreIs, restoreOut}
+use Rattle.archive.specs.History.{Offer, after, afterAll, lastAccepted}
+use Rattle.archive.specs.Listing.{digits, decimal, item, firstLine, line, lines, listing}
+use Rattle.archive.specs.Examples.{calls}
+use Rattle.archive.specs.declared.contents.Entry.{Entry}
+use Rattle.archive.specs.declared.Archived.the-variants as archived
+use Rattle.archive.specs.declared.Fetched.the-variants.{Body, NotHeld, NoArchive}
+use Rattle.archive.specs.declared.Restored.the-variants as restored
+
+-- an entry
+abbrev entry : ℕ → ℕ → ℕ → ℕ → Entry
+entry network ssi part bits = record { network = network; ssi = ssi; part = part; bits = record { 0 = bits } }
+
+-- ---- bytes and limits
+
+-- each number in its place, the most significant byte first, and back
+header : (headerBytes 0x010203 0x0102 ≡ 1 ∷ 2 ∷ 3 ∷ 1 ∷ 2 ∷ [])
+    × (homeOf (1 ∷ 2 ∷ 3 ∷ 4 ∷ 5 ∷ []) ≡ 0x010203) × (countOf (1 ∷ 2 ∷ 3 ∷ 4 ∷ 5 ∷ []) ≡ 0x0405)
+unfolding headerBytes homeOf
+header = (refl, refl, refl)
+
+contents : (entryBytes (entry 0x010203 0x040506 7 0x0809) ≡ 1 ∷ 2 ∷ 3 ∷ 4 ∷ 5 ∷ 6 ∷ 7 ∷ 8 ∷ 9 ∷ [])
+    × (entryAt (0 ∷ 1 ∷ 2 ∷ 3 ∷ 4 ∷ 5 ∷ 6 ∷ 7 ∷ 8 ∷ 9 ∷ []) 1 ≡ entry 0x010203 0x040506 7 0x0809)
+unfolding entryBytes
+contents = (refl, refl)
+
+limits : (withinLimits 512 65536 ≡ true) × (withinLimits 513 65536 ≡ false) × (withinLimits 512 65537 ≡ false)
+limits = (refl, refl, refl)
+
+-- home networks and lent buffers from both sides
+empties : (emptyIs 16777215 5 ≡ archived.Bytes 5) × (emptyIs 16777216 5 ≡ archived.Refused 9) × (emptyIs 0 4 ≡ archived.Refused 8)
+unfolding emptyIs
+empties = (refl, refl, refl)
+
+-- users and parts from both sides
+ranges : (inRange 16777215 16777215 1 ≡ true)
+    × (inRange 0 0 2 ≡ true)
+    × (inRange 16777216 0 1 ≡ false)
+    × (inRange 0 16777216 1 ≡ false)
+    × (inRange 0 0 0 ≡ false)
+    × (inRange 0 0 3 ≡ false)
+unfolding inRange
+ranges = (refl, refl, refl, refl, refl, refl)
+
+-- ---- a PDU put in its place
+
+-- a PDU of n bits in n bytes of 0 for a user and part
+abbrev holding : ℕ → ℕ → ℕ → ℕ → Held
+holding network ssi part bits = record { entry = entry network ssi part bits; body = replicate bits 0 }
+
+abbrev three : List Held
+three = holding 1 5 1 8 ∷ holding 1 5 2 8 ∷ holding 2 0 1 8 ∷ []
+
+-- before, between and after the others: by network, then SSI, then part
+in-place : (put (holding 0 9 2 8) three ≡ holding 0 9 2 8 ∷ holding 1 5 1 8 ∷ holding 1 5 2 8 ∷ holding 2 0 1 8 ∷ [])
+    × (put (holding 1 4 2 8) three ≡ holding 1 4 2 8 ∷ holding 1 5 1 8 ∷ holding 1 5 2 8 ∷ holding 2 0 1 8 ∷ [])
+    × (put (holding 1 6 1 8) three ≡ holding 1 5 1 8 ∷ holding 1 5 2 8 ∷ holding 1 6 1 8 ∷ holding 2 0 1 8 ∷ [])
+    × (put (holding 2 0 2 8) three ≡ holding 1 5 1 8 ∷ holding 1 5 2 8 ∷ holding 2 0 1 8 ∷ holding 2 0 2 8 ∷ [])
+in-place = (refl, refl, refl, refl)
+
+-- instead of the one for the same user and part; the others stay
+replaced : put (holding 1 5 2 16) three ≡ holding 1 5 1 8 ∷ holding 1 5 2 16 ∷ holding 2 0 1 8 ∷ []
+replaced = refl
+
+-- header, 9 bytes an entry, and bodies of 1, 2 and 1 bytes
+length-3 : lengthOf (record { home = 0; held = holding 1 5 1 8 ∷ holding 1 5 2 9 ∷ holding 2 0 1 1 ∷ [] }) ≡ 36
+length-3 = refl
+
+-- ---- a history: each PDU lists no groups and restricts nothing
+
+abbrev offer : List ℕ → ℕ → Offer
+offer s n = record { pdu = s; bits = n; lent = replicate 60 0 }
+
+-- user 5: service 1; then services 2 and 3; and a failed interrogation
+abbrev first : Offer
+first = offer (0x49 ∷ 0x82 ∷ 0x00 ∷ 0x00 ∷ 0x0a ∷ 0x21 ∷ 0x20 ∷ 0x00 ∷ []) 63
+
+abbrev second : Offer
+second = offer (0x49 ∷ 0x82 ∷ 0x00 ∷ 0x00 ∷ 0x0a ∷ 0x22 ∷ 0x4c ∷ 0x00 ∷ 0x00 ∷ []) 66
+
+abbrev failed : Offer
+failed = offer (0x49 ∷ 0x82 ∷ 0x00 ∷ 0x00 ∷ 0x0a ∷ 0x61 ∷ 0x20 ∷ []) 51
+
+-- user 7/4, numbers
+abbrev visitor : Offer
+visitor = offer (0x49 ∷ 0x82 ∷ 0x00 ∷ 0x00 ∷ 0x09 ∷ 0x00 ∷ 0x00 ∷ 0x07 ∷ 0x41 ∷ 0x60 ∷ 0x00 ∷ []) 87
+
+abbrev nothing : List ℕ
+nothing = 0x00 ∷ 0x00 ∷ 0x01 ∷ 0x00 ∷ 0x00 ∷ []
+
+abbrev offers : List Offer
+offers = first ∷ visitor ∷ second ∷ failed ∷ []
+
+-- 43 bytes: the second PDU of user 1/5, part 1, of 66 bits, and the visitor's
+abbrev kept : List ℕ
+kept =
+    0x00 ∷ 0x00 ∷ 0x01 ∷ 0x00 ∷ 0x02 ∷
+    0x00 ∷ 0x00 ∷ 0x01 ∷ 0x00 ∷ 0x00 ∷ 0x05 ∷ 0x01 ∷ 0x00 ∷ 0x42 ∷
+    0x00 ∷ 0x00 ∷ 0x07 ∷ 0x00 ∷ 0x00 ∷ 0x04 ∷ 0x02 ∷ 0x00 ∷ 0x57 ∷
+    0x49 ∷ 0x82 ∷ 0x00 ∷ 0x00 ∷ 0x0a ∷ 0x22 ∷ 0x4c ∷ 0x00 ∷ 0x00 ∷
+    0x49 ∷ 0x82 ∷ 0x00 ∷ 0x00 ∷ 0x09 ∷ 0x00 ∷ 0x00 ∷ 0x07 ∷ 0x41 ∷ 0x60 ∷ 0x00 ∷ []
+
+history : afterAll nothing offers ≡ kept
+unfolding calls bodyAgrees filingOf after afterAll
+history = refl
+
+-- the last accepted of user 1/5 is the second, not the first, nor the failed one; the visitor's stays; no other user or part has one
+last-accepted : (lastAccepted 1 5 1 nothing none offers ≡ some second)
+    × (lastAccepted 7 4 2 nothing none offers ≡ some visitor)
+    × (lastAccepted 1 5 2 nothing none offers ≡ none)
+    × (lastAccepted 1 4 2 nothing none offers ≡ none)
+unfolding calls bodyAgrees filingOf after afterAll lastAccepted
+last-accepted = (refl, refl, refl, refl)
+
+-- where their bodies begin; nothing is held for another part, or in an empty archive; one byte more or less, and no header, is no archive
+fetched : (fetchIs kept 1 5 1 ≡ Body 23 (record { 0 = 66 }))
+    × (fetchIs kept 7 4 2 ≡ Body 32 (record { 0 = 87 }))
+    × (fetchIs kept 7 4 1 ≡ NotHeld)
+    × (fetchIs nothing 1 5 1 ≡ NotHeld)
+    × (fetchIs (kept ++ (0x00 ∷ [])) 1 5 1 ≡ NoArchive)
+    × (fetchIs (take 42 kept) 1 5 1 ≡ NoArchive)
+    × (fetchIs [] 1 5 1 ≡ NoArchive)
+unfolding calls bodyAgrees filingOf fetchIs inRange
+fetched = (refl, refl, refl, refl, refl, refl, refl)
+
+-- what is restored, and the byte after it stays
+
+restored-visitor : (restoreIs kept 7 4 2 11 ≡ restored.Bits (record { 0 = 87 }))
+    × (restoreOut kept 7 4 2 (replicate 12 0xff)
+    ≡ 0x49 ∷ 0x82 ∷ 0x00 ∷ 0x00 ∷ 0x09 ∷ 0x00 ∷ 0x00 ∷ 0x07 ∷ 0x41 ∷ 0x60 ∷ 0x00 ∷ 0xff ∷ [])
+unfolding calls bodyAgrees filingOf restoreIs restoreOut inRange
+restored-visitor = (refl, refl)
+
+-- ---- what breaks a rule, each in an archive of one or two PDUs of home network 1
+
+abbrev ofTwo : List ℕ → List ℕ → List ℕ
+ofTwo first second =
+    (0x00 ∷ 0x00 ∷ 0x01 ∷ 0x00 ∷ 0x02 ∷ []) ++ (first ++ (second
+    ++ (0x49 ∷ 0x82 ∷ 0x00 ∷ 0x00 ∷ 0x0a ∷ 0x21 ∷ 0x20 ∷ 0x00 ∷ 0x49 ∷ 0x82 ∷ 0x00 ∷ 0x00 ∷ 0x0a ∷ 0x41 ∷ 0x20 ∷ 0x00 ∷ [])))
+
+abbrev ofOne : List ℕ → List ℕ → List ℕ
+ofOne contents body = (0x00 ∷ 0x00 ∷ 0x01 ∷ 0x00 ∷ 0x01 ∷ []) ++ (contents ++ body)
+
+-- both parts of user 5 in their order; a key that stands twice; a body of another part, SSI or network than its entry; a failed interrogation
+rules : (isArchive (ofTwo (entryBytes (entry 1 5 1 63)) (entryBytes (entry 1 5 2 63))) ≡ true)
+    × (isArchive (ofTwo (entryBytes (entry 1 5 1 63)) (entryBytes (entry 1 5 1 63))) ≡ false)
+    × (isArchive (ofTwo (entryBytes (entry 1 5 2 63)) (entryBytes (entry 1 5 1 63))) ≡ false)
+    × (isArchive (ofOne (entryBytes (entry 1 5 1 63)) (first .pdu)) ≡ true)
+    × (isArchive (ofOne (entryBytes (entry 1 5 2 63)) (first .pdu)) ≡ false)
+    × (isArchive (ofOne (entryBytes (entry 1 6 1 63)) (first .pdu)) ≡ false)
+    × (isArchive (ofOne (entryBytes (entry 2 5 1 63)) (first .pdu)) ≡ false)
+    × (isArchive (ofOne (entryBytes (entry 1 5 1 62)) (first .pdu)) ≡ false)
+    × (isArchive (ofOne (entryBytes (entry 1 5 3 51)) (failed .pdu)) ≡ false)
+unfolding calls bodyAgrees filingOf
+rules = (refl, refl, refl, refl, refl, refl, refl, refl, refl)
+
+-- ---- the listing of the least and the greatest numbers
+
+-- `home 0 entries 2`, `0 0 part 1 bits 63`, `16777215 16777215 part 2 bits 2456`
+listing-2 : listing (record { home = 0; held = holding 0 0 1 63 ∷ holding 16777215 16777215 2 2456 ∷ [] }) ≡
+    104 ∷ 111 ∷ 109 ∷ 101 ∷ 32 ∷ 48 ∷ 32 ∷ 101 ∷ 110 ∷ 116 ∷ 114 ∷ 105 ∷ 101 ∷ 115 ∷ 32 ∷ 50 ∷ 10 ∷
+    48 ∷ 32 ∷ 48 ∷ 32 ∷ 112 ∷ 97 ∷ 114 ∷ 116 ∷ 32 ∷ 49 ∷ 32 ∷ 98 ∷ 105 ∷ 116 ∷ 115 ∷ 32 ∷ 54 ∷ 51 ∷ 10 ∷
+    49 ∷ 54 ∷ 55 ∷ 55 ∷ 55 ∷ 50 ∷ 49 ∷ 53 ∷ 32 ∷ 49 ∷ 54 ∷ 55 ∷ 55 ∷ 55 ∷ 50 ∷ 49 ∷ 53 ∷
+    32 ∷ 112 ∷ 97 ∷ 114 ∷ 116 ∷ 32 ∷ 50 ∷ 32 ∷ 98 ∷ 105 ∷ 116 ∷ 115 ∷ 32 ∷ 50 ∷ 52 ∷ 53 ∷ 54 ∷ 10 ∷ []
+unfolding listing firstLine lines line item decimal digits
+listing-2 = refl
