@@ -21,6 +21,7 @@ use Rattle.judging.specs.declared.Judged.the-variants.{Part, Other}
 use Rattle.archive.specs.Model.{Held, bodySize}
 use Rattle.archive.specs.Filing.{entryFor, filingOf, agrees, bodyAgrees}
 use Rattle.archive.specs.Inner.{EntryFits, filingFor}
+use Rattle.archive.specs.declared.contents.Key.{Key}
 use Rattle.archive.specs.declared.contents.Entry.{Entry}
 use Rattle.archive.specs.declared.filing.Filing.{Filing}
 use Rattle.archive.specs.declared.filing.Filing.the-variants.{Under, Nowhere}
@@ -44,7 +45,7 @@ module _ (home : ℕ) (s : List ℕ) (n : ℕ) where
       go false b e = refl
 
   pub filing-part : {user : Identity} {part network : ℕ} → judgedIs s n ≡ Part user part → network ≡ networkOf home user
-      → filingFor home s n ≡ Under (record { network = network; ssi = user .ssi; part = part; bits = record { 0 = n } })
+      → filingFor home s n ≡ Under (record { key = record { network = network; ssi = user .ssi; part = part }; bits = record { 0 = n } })
   unfolding filingFor filingOf judgedIs
   filing-part {user} {part} e f =
       let k = picked (isAccepted (readIs s n .answer) && mayHold found) e (λ x. never cc) in
@@ -54,11 +55,11 @@ module _ (home : ℕ) (s : List ℕ) (n : ℕ) where
       rw (q .0, q .1, u, p, f)
 
 -- a body agrees with its entry if that is the one it is filed under
-pub body-filed : (home : ℕ) (h : Held) → bodyAgrees home h ≡ agrees (filingFor home (h .body) (h .entry .bits .0)) (h .entry)
+pub body-filed : (home : ℕ) (h : Held) → bodyAgrees home h ≡ agrees (filingFor home (h .body) (h .entry .bits .0)) (h .entry .key)
 unfolding bodyAgrees filingFor
 body-filed home h = go (isAccepted (readIs (h .body) (h .entry .bits .0) .answer)) (filingOf home (readIs (h .body) (h .entry .bits .0) .found) (h .entry .bits .0))
   where
-    go : (a : Bool) (f : Filing) → a && agrees f (h .entry) ≡ agrees (pick a f Nowhere) (h .entry)
+    go : (a : Bool) (f : Filing) → a && agrees f (h .entry .key) ≡ agrees (pick a f Nowhere) (h .entry .key)
     go true f = refl
     go false f = refl
 
@@ -72,35 +73,29 @@ pub was-accepted : (a : Answer) → isAccepted a ≡ true → a ≡ Accepted
 was-accepted Accepted e = refl
 was-accepted (Refused k) e = differ (sym e)
 
-agreed : (home : ℕ) (r : Record) (n : ℕ) (e : Entry) (p : Bool) → mayHold r ≡ p
-    → agrees (pick p (Under (entryFor home r n)) Nowhere) e ≡ true → (mayHold r ≡ true) × (e .network ≡ entryFor home r n .network) × (e .ssi ≡ entryFor home r n .ssi) × (e .part ≡ r .result)
-agreed home r n e false m a = differ (sym a)
-agreed home r n e true m a =
-    let s = named (entryFor home r n) (e .network) (e .ssi) (e .part) a in
-    (m, sym (s .0), sym (s .1), sym (s .2))
+agreed : (home : ℕ) (r : Record) (n : ℕ) (k : Key) (p : Bool) → mayHold r ≡ p
+    → agrees (pick p (Under (entryFor home r n)) Nowhere) k ≡ true → (mayHold r ≡ true) × (k ≡ entryFor home r n .key)
+agreed home r n k false m a = differ (sym a)
+agreed home r n k true m a = (m, sym (named (entryFor home r n) k a))
 
 pub agrees-says : (home : ℕ) (h : Held) → bodyAgrees home h ≡ true → Agrees home h
 unfolding bodyAgrees filingOf
 agrees-says home h e =
     let n = h .entry .bits .0 in
     let r = readIs (h .body) n .found in
-    let p = both (isAccepted (readIs (h .body) n .answer)) (agrees (filingOf home r n) (h .entry)) e in
-    let q = agreed home r n (h .entry) (mayHold r) refl (p .1) in
+    let p = both (isAccepted (readIs (h .body) n .answer)) (agrees (filingOf home r n) (h .entry .key)) e in
+    let q = agreed home r n (h .entry .key) (mayHold r) refl (p .1) in
     record {
       accepted = was-accepted (readIs (h .body) n .answer) (p .0);
       may = q .0;
-      entry = λ i. record { network = q .1 i; ssi = q .2 i; part = q .3 i; bits = h .entry .bits };
+      entry = λ i. record { key = q .1 i; bits = h .entry .bits };
     }
 
 pub agrees-is : (home : ℕ) (h : Held) → Agrees home h → bodyAgrees home h ≡ true
 unfolding bodyAgrees filingOf
 agrees-is home h a =
     let n = h .entry .bits .0 in
-    let x = h .entry in
-    let same = sym (a .entry) in
-    rw (a .accepted, a .may)
-    (is-named (entryFor home (readIs (h .body) n .found) n) (x .network) (x .ssi) (x .part)
-    (ap (λ (y : Entry). y .network) same) (ap (λ (y : Entry). y .ssi) same) (ap (λ (y : Entry). y .part) same))
+    rw (a .accepted, a .may) (is-named (entryFor home (readIs (h .body) n .found) n) (h .entry .key) (sym (ap (λ (y : Entry). y .key) (a .entry))))
 
 -- ---- numbers fit their bytes
 
@@ -127,5 +122,8 @@ fits home h k a =
     let f = accepted-framed (h .body) n (a .accepted) in
     let s = accepted-small (h .body) n (a .accepted) in
     let p = part-is r (a .may) in
-    let e : EntryFits (entryFor home r n) = record { network = network-small home _ k (s .1); ssi = s .0; part = omega (arith, p .1); bits = omega (arith, f .short) } in
+    let e : EntryFits (entryFor home r n) = record {
+      key = record { network = network-small home _ k (s .1); ssi = s .0; part = omega (arith, p .1) };
+      bits = omega (arith, f .short);
+    } in
     record { entry = subst EntryFits (sym (a .entry)) e; full = f .count }

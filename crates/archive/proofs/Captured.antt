@@ -17,8 +17,8 @@ use Rattle.archive.specs.Model.{Archive, bytesOf, lengthOf, withinLimits
 use Rattle.archive.specs.Filing.{wellFormed}
 use Rattle.archive.specs.Reading.{reading, isArchive}
 use Rattle.archive.specs.Keeping.{heldFor, captured, ifAccepted, placed, captureIs, captureOut}
-use Rattle.archive.specs.declared.Archived.{Archived}
-use Rattle.archive.specs.declared.Archived.the-variants.{Bytes, Refused}
+use Rattle.archive.specs.declared.Stored.{Stored}
+use Rattle.archive.specs.declared.Stored.the-variants.{Bytes, Refused}
 use Rattle.archive.proofs.Bodies.{agrees-is, part-is}
 use Rattle.archive.proofs.Rules.{archive-formed, is-formed}
 use Rattle.archive.proofs.Writing.{length-written, read-as-written, passes}
@@ -42,7 +42,7 @@ was-placed a room m e =
     let q = both within (leb (lengthOf a) room) (p .0) in
     (q .0, leb-true (lengthOf a) room (q .1), cc (p .1))
 
-if-accepted : (a : Answer) {r : Archived} {m : ℕ} → ifAccepted a r ≡ Bytes m → (a ≡ reader.Accepted) × (r ≡ Bytes m)
+if-accepted : (a : Answer) {r : Stored} {m : ℕ} → ifAccepted a r ≡ Bytes m → (a ≡ reader.Accepted) × (r ≡ Bytes m)
 if-accepted reader.Accepted e = (refl, e)
 if-accepted (reader.Refused k) e = never cc
 

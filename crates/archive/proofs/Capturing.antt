@@ -15,9 +15,9 @@ use Rattle.archive.specs.Model.{bytesOf, Archive, lengthOf, withinLimits
 use Rattle.archive.specs.Filing.{entryFor, filingOf}
 use Rattle.archive.specs.Reading.{homeOf, reading, isArchive}
 use Rattle.archive.specs.Keeping.{leaves, heldFor, captured, ifAccepted, placed, captureIs, captureOut}
-use Rattle.archive.specs.Inner.{filingFor, unfitNumber}
-use Rattle.archive.specs.declared.Archived.{Archived}
-use Rattle.archive.specs.declared.Archived.the-variants.{Bytes, Refused}
+use Rattle.archive.specs.Inner.{filingFor, notFiledNumber}
+use Rattle.archive.specs.declared.Stored.{Stored}
+use Rattle.archive.specs.declared.Stored.the-variants.{Bytes, Refused}
 use Rattle.archive.specs.declared.contents.Entry.{Entry}
 use Rattle.archive.specs.declared.filing.Filing.the-variants.{Under, Nowhere}
 use Rattle.archive.proofs.Bodies.{Agrees, was-accepted}
@@ -56,12 +56,12 @@ module _ (b s : List ℕ) (n room : ℕ) where
   unfolding captureIs
   no-archive e = rw e
 
-  pub not-filed : (home : ℕ) → isArchive b ≡ true → filingFor home s n ≡ Nowhere → captureIs b s n room ≡ Refused (unfitNumber (readIs s n .answer))
+  pub not-filed : (home : ℕ) → isArchive b ≡ true → filingFor home s n ≡ Nowhere → captureIs b s n room ≡ Refused (notFiledNumber (readIs s n .answer))
   unfolding captureIs filingFor filingOf
   not-filed home e = rw e (go (readIs s n .answer) (mayHold (readIs s n .found)))
     where
       go : (a : Answer) (m : Bool) → pick (isAccepted a) (pick m (Under (entryFor home (readIs s n .found) n)) Nowhere) Nowhere ≡ Nowhere
-          → ifAccepted a (pick m (placed (captured b s n) room) (Refused 6)) ≡ Refused (unfitNumber a)
+          → ifAccepted a (pick m (placed (captured b s n) room) (Refused 6)) ≡ Refused (notFiledNumber a)
       go reader.Accepted true f = never cc
       go reader.Accepted false f = refl
       go (reader.Refused k) m f = refl
@@ -87,6 +87,6 @@ module _ (a : Archive) (room : ℕ) where
   placed-whole e h = sym (ap (λ (p : Bool). pick p (Bytes (lengthOf a)) (Refused 8)) (both⁻¹ e (le-leb (lengthOf a) room h)))
 
 -- what is left in the lent buffer goes by the answer
-pub capture-leaves : (b s : List ℕ) (n : ℕ) (out : List ℕ) {r : Archived} → captureIs b s n (length out) ≡ r → captureOut b s n out ≡ leaves r (bytesOf (captured b s n)) out
+pub capture-leaves : (b s : List ℕ) (n : ℕ) (out : List ℕ) {r : Stored} → captureIs b s n (length out) ≡ r → captureOut b s n out ≡ leaves r (bytesOf (captured b s n)) out
 unfolding captureOut
-capture-leaves b s n out e = ap (λ (r : Archived). leaves r (bytesOf (captured b s n)) out) e
+capture-leaves b s n out e = ap (λ (r : Stored). leaves r (bytesOf (captured b s n)) out) e

@@ -10,7 +10,7 @@ use lib.Dec.{ltb, eqb}
 use borrow.Author.Tests.{eqb-true, lt-ltb, le-ltb, ne-eqb}
 use Rattle.bits.specs.Bits.{Bytes}
 use Rattle.bits.proofs.Tests.{and-false, both}
-use Rattle.archive.specs.Model.{Held, keyOf, headerWidth, entryWidth, sizes, withinLimits}
+use Rattle.archive.specs.Model.{Held, rank, headerWidth, entryWidth, sizes, withinLimits}
 use Rattle.archive.specs.Filing.{bodyAgrees, keepsRules, wellFormed}
 use Rattle.archive.specs.Reading.{number3, countOf, sizeAt, heldAt, heldFrom, bodiesAt, heldIn, reading, isArchive}
 use Rattle.archive.proofs.Rules.{archive-formed}
@@ -29,15 +29,15 @@ module _ (b : List ℕ) (home last n at off : ℕ) (h : 0 < n) where
   abbrev rest : List Held
   rest = heldFrom b (n - 1) (at + entryWidth) (off + sizeAt b at)
 
-  pub rest-low : keyOf here ≤ last → restOk b home last n at off ≡ false
+  pub rest-low : rank here ≤ last → restOk b home last n at off ≡ false
   unfolding restOk keepsRules
-  rest-low p = rw (heldFrom-next b n at off h, le-ltb last (keyOf here) p)
+  rest-low p = rw (heldFrom-next b n at off h, le-ltb last (rank here) p)
 
   pub rest-bad : bodyAgrees home here ≡ false → restOk b home last n at off ≡ false
   unfolding restOk keepsRules
   rest-bad p =
       rw (heldFrom-next b n at off h, p)
-      (ap (λ (x : Bool). x && eqb (off + (sizeAt b at + sizes rest)) (length b)) (and-false (ltb last (keyOf here)) refl))
+      (ap (λ (x : Bool). x && eqb (off + (sizeAt b at + sizes rest)) (length b)) (and-false (ltb last (rank here)) refl))
 
   pub rest-short : length b < off + sizeAt b at → restOk b home last n at off ≡ false
   unfolding restOk
@@ -45,12 +45,12 @@ module _ (b : List ℕ) (home last n at off : ℕ) (h : 0 < n) where
       and-false (keepsRules home last (heldFrom b n at off))
       (ne-eqb (off + sizes (heldFrom b n at off)) (length b) (λ (q : off + sizes (heldFrom b n at off) ≡ length b). omega (arith, sizes-next b n at off h)))
 
-  pub rest-next : last < keyOf here → bodyAgrees home here ≡ true
-      → restOk b home last n at off ≡ restOk b home (keyOf here) (n - 1) (at + entryWidth) (off + sizeAt b at)
+  pub rest-next : last < rank here → bodyAgrees home here ≡ true
+      → restOk b home last n at off ≡ restOk b home (rank here) (n - 1) (at + entryWidth) (off + sizeAt b at)
   unfolding restOk keepsRules
   rest-next p q =
       let e : off + (sizeAt b at + sizes rest) ≡ off + sizeAt b at + sizes rest = omega arith in
-      rw (heldFrom-next b n at off h, lt-ltb last (keyOf here) p, q) (ap (λ (k : ℕ). keepsRules home (keyOf here) rest && eqb k (length b)) e)
+      rw (heldFrom-next b n at off h, lt-ltb last (rank here) p, q) (ap (λ (k : ℕ). keepsRules home (rank here) rest && eqb k (length b)) e)
 
 pub rest-none : (b : List ℕ) (home last n at off : ℕ) → n ≤ 0 → restOk b home last n at off ≡ eqb off (length b)
 unfolding restOk keepsRules heldFrom

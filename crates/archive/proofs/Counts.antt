@@ -11,13 +11,13 @@ use Rattle.bits.specs.Bits.{pick}
 use Rattle.reader.specs.Read.{readIs}
 use Rattle.reader.specs.declared.Answer.the-variants as reader
 use Rattle.judging.specs.Judge.{mayHold}
-use Rattle.archive.specs.Model.{Held, keyOf, Rising, no-key, next-key, headerWidth, lengthOf}
+use Rattle.archive.specs.Model.{Held, rank, Rising, no-key, next-key, headerWidth, lengthOf}
 use Rattle.archive.specs.Filing.{keepsRules}
 use Rattle.archive.specs.Reading.{countOf, bodiesAt, heldIn, reading, isArchive, Counted}
 use Rattle.archive.specs.Keeping.{put, heldFor, captured, placed, captureIs}
 use Rattle.archive.specs.Restoring.{lookup}
-use Rattle.archive.specs.declared.Archived.{Archived}
-use Rattle.archive.specs.declared.Archived.the-variants.{Bytes, Refused}
+use Rattle.archive.specs.declared.Stored.{Stored}
+use Rattle.archive.specs.declared.Stored.the-variants.{Bytes, Refused}
 use Rattle.archive.proofs.Rules.{kept, archive-formed}
 use Rattle.archive.proofs.Walks.{length-heldFrom}
 use Rattle.archive.proofs.Checks.{sound}
@@ -30,7 +30,7 @@ rising : (home last : ℕ) (hs : List Held) → keepsRules home last hs ≡ true
 rising home last [] k = no-key
 rising home last (h ∷ hs) k =
     let u = kept home last h hs k in
-    next-key (u .rises) (rising home (keyOf h) hs (u .others))
+    next-key (u .rises) (rising home (rank h) hs (u .others))
 
 pub counted : (b : List ℕ) → isArchive b ≡ true → Counted b
 unfolding reading
@@ -43,7 +43,7 @@ counted b ok =
 
 -- a new key with 512 held
 abbrev pub fullFor : List ℕ → Held → Bool
-fullFor b h = isNone (lookup (keyOf h) (reading b .held)) && eqb (length (reading b .held)) 512
+fullFor b h = isNone (lookup (h .entry .key) (reading b .held)) && eqb (length (reading b .held)) 512
 
 one-too-many : (c : ℕ) (p : Bool) → c ≤ 512 → leb (pick p (suc c) c) 512 ≡ not (p && eqb c 512)
 one-too-many c false h = le-leb c 512 h
@@ -60,7 +60,7 @@ over-not x y = go (leb x y) refl
     go true e = sym (ap not (le-ltb y x (leb-true x y e)))
     go false e = sym (ap not (lt-ltb y x (leb-false x y e)))
 
-either : (p q r : Bool) (x y : Archived) → pick ((not p && not q) && not r) x y ≡ pick (p || (q || r)) y x
+either : (p q r : Bool) (x y : Stored) → pick ((not p && not q) && not r) x y ≡ pick (p || (q || r)) y x
 either true q r x y = refl
 either false true r x y = refl
 either false false true x y = refl
@@ -75,7 +75,7 @@ eight b s n room ok a m =
     let f = archive-formed b ok in
     let size = lengthOf (captured b s n) in
     let c : leb (length (put h (reading b .held))) 512 ≡ not (fullFor b h) =
-    ap (λ (k : ℕ). leb k 512) (length-put (reading b .home) 0 h (reading b .held) (f .rules)) ∙ one-too-many (length (reading b .held)) (isNone (lookup (keyOf h) (reading b .held))) (f .few)
+    ap (λ (k : ℕ). leb k 512) (length-put (reading b .home) 0 h (reading b .held) (f .rules)) ∙ one-too-many (length (reading b .held)) (isNone (lookup (h .entry .key) (reading b .held))) (f .few)
     in
     as-placed b s n room ok a m
     ∙ (λ i. pick ((c i && over-not size 65536 i) && over-not size room i) (Bytes size) (Refused 8))

@@ -13,8 +13,8 @@ use Rattle.archive.specs.Model.{headerWidth, bytesOf}
 use Rattle.archive.specs.Filing.{keepsRules, wellFormed}
 use Rattle.archive.specs.Reading.{reading, isArchive}
 use Rattle.archive.specs.Keeping.{leaves, emptyOf, emptyIs, emptyOut}
-use Rattle.archive.specs.declared.Archived.{Archived}
-use Rattle.archive.specs.declared.Archived.the-variants.{Bytes}
+use Rattle.archive.specs.declared.Stored.{Stored}
+use Rattle.archive.specs.declared.Stored.the-variants.{Bytes}
 use Rattle.archive.proofs.Rules.{is-formed}
 use Rattle.archive.proofs.Writing.{length-written, read-as-written, passes}
 
@@ -38,5 +38,5 @@ empty-holds home out m e =
     let f = empty-formed home (r .0) in
     let w = bytesOf (emptyOf home) in
     let l : length w ≡ m = length-written (emptyOf home) f ∙ sym (r .1) in
-    let is : take m (emptyOut home out) ≡ w = ap (λ (x : Archived). take m (leaves x w out)) e ∙ take-at w (drop (length w) out) m l in
+    let is : take m (emptyOut home out) ≡ w = ap (λ (x : Stored). take m (leaves x w out)) e ∙ take-at w (drop (length w) out) m l in
     (ap isArchive is ∙ passes (emptyOf home) f, ap reading is ∙ read-as-written (emptyOf home) f)

@@ -13,12 +13,13 @@ use Rattle.archive.specs.Reading.{homeOf, countOf, entryAt, sizeAt, held
 use Rattle.archive.specs.Inner.{linesFrom}
 use Rattle.archive.specs.Listing.{decimal, item, firstLine, line, lines, listing, listIs}
 use Rattle.archive.specs.declared.contents.Entry.{Entry}
-use Rattle.archive.specs.declared.listing.Listed.the-variants.{Bytes}
+use Rattle.archive.specs.declared.Stored.the-variants.{Bytes}
 use Rattle.archive.proofs.Walks.{home-is, length-heldFrom}
 
 -- ---- lengths
 
-pub length-line : (e : Entry) → length (line e) ≡ length (decimal (e .network)) + length (decimal (e .ssi)) + length (decimal (e .part)) + length (decimal (e .bits .0)) + 14
+pub length-line : (e : Entry) → length (line e)
+    ≡ length (decimal (e .key .network)) + length (decimal (e .key .ssi)) + length (decimal (e .key .part)) + length (decimal (e .bits .0)) + 14
 unfolding line item
 length-line e = simp length-append (omega arith)
 

@@ -7,7 +7,7 @@ use Prim.Native.Nat.{ℕ, suc, _+_, _*_, _-_}
 use native.Mathlib.Omega.{arith}
 use lib.ListN.{length, take, drop, length-append}
 use Rattle.bits.specs.Bits as are
-use Rattle.archive.specs.Model.{Held, keyOf, headerWidth, entryWidth, headerBytes, entryBytes, contentsOf, bodiesOf, bytesOf, bodySize, sizes, lengthOf}
+use Rattle.archive.specs.Model.{Held, rank, headerWidth, entryWidth, headerBytes, entryBytes, contentsOf, bodiesOf, bytesOf, bodySize, sizes, lengthOf}
 use Rattle.archive.specs.Reading.{number3, countOf, bodiesAt, heldIn, reading, isArchive}
 use Rattle.archive.specs.Keeping.{put, with}
 use Rattle.archive.specs.Inner.{seek, nextAt, restAt, Within, frontOf, backOf, spliced, splicedLength}
@@ -74,7 +74,7 @@ module _ (b : List ℕ) (y : are.Bytes b) (ok : isArchive b ≡ true) (key : ℕ
         small = sound b ok .small;
       }
 
-  module _ (h : Held) (is : keyOf h ≡ key) where
+  module _ (h : Held) (is : rank h ≡ key) where
     -- the new count, length and bytes
     pub new-count : length (put h (heldIn b)) + placeIn b key .entries ≡ countOf b + 1
     new-count =

@@ -7,7 +7,7 @@ use lib.ListN.{length}
 use lib.Dec.{ltb, leb, eqb}
 use borrow.Author.Tests.{ltb-true, leb-true, lt-ltb, le-leb}
 use Rattle.bits.proofs.Tests.{both, both⁻¹}
-use Rattle.archive.specs.Model.{Held, Archive, keyOf, lengthOf, withinLimits}
+use Rattle.archive.specs.Model.{Held, Archive, rank, lengthOf, withinLimits}
 use Rattle.archive.specs.Filing.{bodyAgrees, keepsRules, wellFormed}
 use Rattle.archive.specs.Reading.{reading, isArchive}
 use Rattle.archive.proofs.Bodies.{agrees-says, Fits, fits}
@@ -19,15 +19,15 @@ pub data AllFit : List Held → Type 0 where
 -- ---- an archive that keeps the rules
 
 pub record Kept (home last : ℕ) (h : Held) (hs : List Held) : Type 0 where
-  pub rises : last < keyOf h
+  pub rises : last < rank h
   pub agrees : bodyAgrees home h ≡ true
-  pub others : keepsRules home (keyOf h) hs ≡ true
+  pub others : keepsRules home (rank h) hs ≡ true
 
 pub kept : (home last : ℕ) (h : Held) (hs : List Held) → keepsRules home last (h ∷ hs) ≡ true → Kept home last h hs
 unfolding keepsRules
 kept home last h hs e =
-    let p = both (ltb last (keyOf h)) (bodyAgrees home h && keepsRules home (keyOf h) hs) e in
-    let q = both (bodyAgrees home h) (keepsRules home (keyOf h) hs) (p .1) in
+    let p = both (ltb last (rank h)) (bodyAgrees home h && keepsRules home (rank h) hs) e in
+    let q = both (bodyAgrees home h) (keepsRules home (rank h) hs) (p .1) in
     record { rises = ltb-true _ _ (p .0); agrees = q .0; others = q .1 }
 
 pub is-kept : (home last : ℕ) (h : Held) (hs : List Held) → Kept home last h hs → keepsRules home last (h ∷ hs) ≡ true
@@ -38,7 +38,7 @@ pub all-fit : (home last : ℕ) (hs : List Held) → home < 16777216 → keepsRu
 all-fit home last [] h e = no-more
 all-fit home last (x ∷ xs) h e =
     let k = kept home last x xs e in
-    and-fit (fits home x h (agrees-says home x (k .agrees))) (all-fit home (keyOf x) xs h (k .others))
+    and-fit (fits home x h (agrees-says home x (k .agrees))) (all-fit home (rank x) xs h (k .others))
 
 pub record Formed (a : Archive) : Type 0 where
   pub home : a .home < 16777216

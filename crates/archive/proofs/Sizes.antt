@@ -10,13 +10,13 @@ use borrow.Author.Tests.{le-leb}
 use Rattle.bits.specs.Bits.{pick}
 use Rattle.reader.specs.Read.{readIs}
 use Rattle.pdu.proofs.Accepted.{accepted-framed}
-use Rattle.archive.specs.Model.{Held, keyOf}
+use Rattle.archive.specs.Model.{Held, rank}
 use Rattle.archive.specs.Filing.{keepsRules}
 use Rattle.archive.specs.Reading.{reading, isArchive}
 use Rattle.archive.specs.Listing.{firstLine, line, lines, listing, listIs}
 use Rattle.archive.specs.declared.contents.Entry.{Entry}
-use Rattle.archive.specs.declared.listing.Listed.{Listed}
-use Rattle.archive.specs.declared.listing.Listed.the-variants.{Bytes, Refused}
+use Rattle.archive.specs.declared.Stored.{Stored}
+use Rattle.archive.specs.declared.Stored.the-variants.{Bytes, Refused}
 use Rattle.archive.proofs.Bodies.{Agrees, agrees-says, part-is, fits}
 use Rattle.archive.proofs.Rules.{kept, archive-formed}
 use Rattle.archive.proofs.Decimal.{within}
@@ -27,12 +27,12 @@ line-size : (home : ℕ) (h : Held) → home < 16777216 → Agrees home h → le
 line-size home h k a =
     let e = h .entry in
     let n = e .bits .0 in
-    let f = fits home h k a .entry in
-    let network : e .network < 100000000 = omega (arith, f .network) in
-    let ssi : e .ssi < 100000000 = omega (arith, f .ssi) in
-    let part : e .part < 10 = omega (arith, ap (λ (y : Entry). y .part) (a .entry), part-is (readIs (h .body) n .found) (a .may) .1) in
+    let f = fits home h k a .entry .key in
+    let network : e .key .network < 100000000 = omega (arith, f .network) in
+    let ssi : e .key .ssi < 100000000 = omega (arith, f .ssi) in
+    let part : e .key .part < 10 = omega (arith, ap (λ (y : Entry). y .key .part) (a .entry), part-is (readIs (h .body) n .found) (a .may) .1) in
     let bits : n < 10000 = omega (arith, accepted-framed (h .body) n (a .accepted) .short) in
-    omega (arith, length-line e, within 7 (e .network) network, within 7 (e .ssi) ssi, within 0 (e .part) part, within 3 n bits)
+    omega (arith, length-line e, within 7 (e .key .network) network, within 7 (e .key .ssi) ssi, within 0 (e .key .part) part, within 3 n bits)
 
 lines-size : (home last : ℕ) (hs : List Held) → home < 16777216 → keepsRules home last hs ≡ true → length (lines hs) ≤ 35 * length hs
 unfolding lines
@@ -40,7 +40,7 @@ lines-size home last [] k e = omega arith
 lines-size home last (h ∷ hs) k e =
     let u = kept home last h hs e in
     let l = line-size home h k (agrees-says home h (u .agrees)) in
-    let rest = lines-size home (keyOf h) hs k (u .others) in
+    let rest = lines-size home (rank h) hs k (u .others) in
     omega (arith, length-append (line (h .entry)) (lines hs), l, rest)
 
 pub listing-size : (b : List ℕ) → isArchive b ≡ true → length (listing (reading b)) ≤ 17946
@@ -55,7 +55,7 @@ listing-size b ok =
     omega (arith, all, first, within 7 (a .home) home, within 2 (length (a .held)) count, lines-size (a .home) 0 (a .held) (f .home) (f .rules), f .few)
 
 -- in a buffer of that size every archive is listed
-abbrev pub sizeOf : Listed → ℕ
+abbrev pub sizeOf : Stored → ℕ
 sizeOf (Bytes n) = n
 sizeOf (Refused k) = 0
 

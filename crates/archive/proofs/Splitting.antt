@@ -7,7 +7,7 @@ use native.Mathlib.Omega.{arith}
 use lib.ListN.{length}
 use lib.Dec.{ltb, eqb}
 use Rattle.bits.specs.Frame.{bytesFor}
-use Rattle.archive.specs.Model.{Held, keyOf, entryWidth, entryBytes, contentsOf, bodiesOf, bodySize, sizes}
+use Rattle.archive.specs.Model.{Held, rank, entryWidth, entryBytes, contentsOf, bodiesOf, bodySize, sizes}
 use Rattle.archive.specs.Keeping.{put}
 use Rattle.archive.specs.Inner.{seek}
 use Rattle.archive.specs.declared.checking.Place.{Place}
@@ -25,15 +25,15 @@ pub record Split (key at off : ℕ) (hs : List Held) (p : Place) : Type 0 where
   pub off-is : p .off ≡ off + sizes pre
   pub entries-is : p .entries ≡ length mid
   pub bits-is : bytesFor (p .bits .0) ≡ sizes mid
-  pub put-is : (h : Held) → keyOf h ≡ key → put h hs ≡ pre ++ (h ∷ post)
+  pub put-is : (h : Held) → rank h ≡ key → put h hs ≡ pre ++ (h ∷ post)
 
 pub split : (key at off : ℕ) (hs : List Held) → Split key at off hs (seek key at off hs)
 unfolding seek
 split key at off [] =
     record { pre = []; mid = []; post = []; is = refl; at-is = omega arith; off-is = omega arith; entries-is = refl; bits-is = refl; put-is = λ h e. refl }
-split key at off (x ∷ xs) = go (ltb (keyOf x) key) refl (eqb (keyOf x) key) refl (split key (at + entryWidth) (off + bodySize x) xs)
+split key at off (x ∷ xs) = go (ltb (rank x) key) refl (eqb (rank x) key) refl (split key (at + entryWidth) (off + bodySize x) xs)
   where
-    go : (p : Bool) → ltb (keyOf x) key ≡ p → (q : Bool) → eqb (keyOf x) key ≡ q
+    go : (p : Bool) → ltb (rank x) key ≡ p → (q : Bool) → eqb (rank x) key ≡ q
         → Split key (at + entryWidth) (off + bodySize x) xs (seek key (at + entryWidth) (off + bodySize x) xs)
         → Split key at off (x ∷ xs) (seek key at off (x ∷ xs))
     go true hp q hq s =

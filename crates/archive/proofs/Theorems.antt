@@ -1,5 +1,5 @@
 -- Capture and restore in document 01's words: what is held and restored after a capture. Assumes nothing.
-use mathlib.Core.Path.{_≡_, sym, ap, _∙_}
+use mathlib.Core.Path.{_≡_, refl, sym, ap, _∙_}
 use mathlib.Core.Bool.{Bool, true}
 use mathlib.Core.List.{List}
 use mathlib.Core.Option.{Option, some}
@@ -9,13 +9,14 @@ use borrow.Author.Tests.{le-leb}
 use Rattle.bits.specs.Bits.{pick}
 use Rattle.bits.specs.Frame.{bytesFor}
 use Rattle.reader.specs.Read.{readIs}
-use Rattle.archive.specs.Model.{Held, Archive, keyFor, lengthOf}
+use Rattle.archive.specs.Model.{Held, Archive, lengthOf}
 use Rattle.archive.specs.Filing.{entryFor, names}
 use Rattle.archive.specs.Reading.{reading, isArchive}
 use Rattle.archive.specs.Keeping.{over, heldFor, captured, captureIs, captureOut}
 use Rattle.archive.specs.Restoring.{inRange, lookup, delivered, bodyOf, restoreIs, restoreOut}
-use Rattle.archive.specs.declared.Archived.the-variants.{Bytes}
+use Rattle.archive.specs.declared.Stored.the-variants.{Bytes}
 use Rattle.archive.specs.declared.Restored.the-variants as restored
+use Rattle.archive.specs.declared.contents.Key.{Key}
 use Rattle.archive.specs.declared.contents.Entry.{Entry}
 use Rattle.archive.proofs.Bodies.{fits, part-is, Fits}
 use Rattle.archive.proofs.Captured.{Taken, taken, captured-formed, captured-archive, captured-reads, written}
@@ -24,7 +25,8 @@ use Rattle.archive.proofs.Lookup.{ranged}
 use Rattle.archive.proofs.Restoring.{as-delivered, restore-leaves}
 use Rattle.archive.proofs.Capturing.{home-fits, offered-agrees}
 use Rattle.archive.proofs.Putting.{lookup-put}
-use Rattle.archive.proofs.Users.{key-names, names-itself, in-range}
+use Rattle.archive.proofs.Tests.{is-named}
+use Rattle.archive.proofs.Users.{rank-names, in-range}
 
 -- after an accepted capture
 
@@ -52,35 +54,34 @@ module _ (b s : List ℕ) (n m : ℕ) (lent : List ℕ) (e : captureIs b s n (le
   entry-fits : Fits (heldFor (reading b .home) s n)
   entry-fits = fits (reading b .home) (heldFor (reading b .home) s n) (home-fits b (t .archive)) (offered-agrees (reading b .home) s n (t .accepted) (t .may))
 
-  entry-ranged : inRange (entry .network) (entry .ssi) (entry .part) ≡ true
+  entry-ranged : inRange (entry .key) ≡ true
   entry-ranged =
-      let f = entry-fits .entry in
+      let f = entry-fits .entry .key in
       let p = part-is (readIs s n .found) (t .may) in
-      in-range (entry .network) (entry .ssi) (entry .part) (f .network) (f .ssi) (p .0) (p .1)
+      in-range (entry .key) (f .network) (f .ssi) (p .0) (p .1)
 
   -- what is held for a user and part
-  pub held-after : (network ssi part : ℕ) → inRange network ssi part ≡ true
-      → lookup (keyFor network ssi part) (reading new .held) ≡ pick (names entry network ssi part) (some (heldFor (reading b .home) s n)) (lookup (keyFor network ssi part) (reading b .held))
+  pub held-after : (k : Key) → inRange k ≡ true
+      → lookup k (reading new .held) ≡ pick (names entry k) (some (heldFor (reading b .home) s n)) (lookup k (reading b .held))
   unfolding captured
-  held-after network ssi part r =
-      ap (λ (a : Archive). lookup (keyFor network ssi part) (a .held)) new-reads
-      ∙ lookup-put (keyFor network ssi part) (heldFor (reading b .home) s n) (reading b .held)
-      ∙ ap (λ (p : Bool). pick p (some (heldFor (reading b .home) s n)) (lookup (keyFor network ssi part) (reading b .held)))
-      (key-names entry network ssi part (entry-fits .entry) (ranged network ssi part r))
+  held-after k r =
+      ap (λ (a : Archive). lookup k (a .held)) new-reads
+      ∙ lookup-put k (heldFor (reading b .home) s n) (reading b .held)
+      ∙ ap (λ (p : Bool). pick p (some (heldFor (reading b .home) s n)) (lookup k (reading b .held)))
+      (rank-names entry k (entry-fits .entry .key) (ranged k r))
 
   -- restore gives exactly the captured bits for that user and part
   pub restore-captured : (out : List ℕ) → bytesFor n ≤ length out
-      → (restoreIs new (entry .network) (entry .ssi) (entry .part) (length out) ≡ restored.Bits (record { 0 = n }))
-      × (restoreOut new (entry .network) (entry .ssi) (entry .part) out ≡ over s out)
+      → (restoreIs new (entry .key) (length out) ≡ restored.Bits (record { 0 = n })) × (restoreOut new (entry .key) out ≡ over s out)
   restore-captured out h =
+      let k = entry .key in
       let r = entry-ranged in
-      let l : lookup (keyFor (entry .network) (entry .ssi) (entry .part)) (reading new .held) ≡ some (heldFor (reading b .home) s n) =
-      held-after (entry .network) (entry .ssi) (entry .part) r
-      ∙ ap (λ (p : Bool). pick p (some (heldFor (reading b .home) s n)) (lookup (keyFor (entry .network) (entry .ssi) (entry .part)) (reading b .held))) (names-itself entry)
+      let l : lookup k (reading new .held) ≡ some (heldFor (reading b .home) s n) =
+      held-after k r ∙ ap (λ (p : Bool). pick p (some (heldFor (reading b .home) s n)) (lookup k (reading b .held))) (is-named entry k refl)
       in
-      let x : restoreIs new (entry .network) (entry .ssi) (entry .part) (length out) ≡ restored.Bits (record { 0 = n }) =
-      as-delivered new (entry .network) (entry .ssi) (entry .part) (length out) r new-archive
+      let x : restoreIs new k (length out) ≡ restored.Bits (record { 0 = n }) =
+      as-delivered new k (length out) r new-archive
       ∙ ap (λ (z : Option Held). delivered z (length out)) l
       ∙ ap (λ (p : Bool). pick p (restored.Bits (record { 0 = n })) (restored.Refused 8)) (le-leb (bytesFor n) (length out) h)
       in
-      (x, restore-leaves new (entry .network) (entry .ssi) (entry .part) out x ∙ ap (λ (z : Option Held). over (bodyOf z) out) l)
+      (x, restore-leaves new k out x ∙ ap (λ (z : Option Held). over (bodyOf z) out) l)

@@ -9,7 +9,7 @@ use lib.Dec.{leb}
 use borrow.Author.Tests.{lt-ltb, le-ltb, le-leb, eq-eqb, ne-eqb}
 use Rattle.bits.specs.Bits.{Bytes}
 use Rattle.bits.proofs.Tests.{by-test}
-use Rattle.archive.specs.Model.{keyOf, headerWidth, entryWidth, sizes}
+use Rattle.archive.specs.Model.{rank, headerWidth, entryWidth, sizes}
 use Rattle.archive.specs.Reading.{number2, number3, homeOf, sizeAt, heldAt, heldFrom}
 use Rattle.archive.specs.Inner.{placeOf, seek}
 
@@ -46,18 +46,18 @@ sizes-next b n at off h = rw (heldFrom-next b n at off h)
 -- ---- the search
 
 module _ (b : List ℕ) (key n at off : ℕ) (h : 0 < n) where
-  pub seek-past : keyOf (heldAt b at off) < key
+  pub seek-past : rank (heldAt b at off) < key
       → seek key at off (heldFrom b n at off) ≡ seek key (at + entryWidth) (off + sizeAt b at) (heldFrom b (n - 1) (at + entryWidth) (off + sizeAt b at))
   unfolding seek
   seek-past p = rw (heldFrom-next b n at off h, lt-ltb _ _ p)
 
-  pub seek-held : keyOf (heldAt b at off) ≡ key → seek key at off (heldFrom b n at off) ≡ placeOf at off 1 (number2 b (at + 7))
+  pub seek-held : rank (heldAt b at off) ≡ key → seek key at off (heldFrom b n at off) ≡ placeOf at off 1 (number2 b (at + 7))
   unfolding seek
-  seek-held p = rw (heldFrom-next b n at off h, le-ltb (keyOf (heldAt b at off)) key (omega arith), eq-eqb _ _ p)
+  seek-held p = rw (heldFrom-next b n at off h, le-ltb (rank (heldAt b at off)) key (omega arith), eq-eqb _ _ p)
 
-  pub seek-gap : key < keyOf (heldAt b at off) → seek key at off (heldFrom b n at off) ≡ placeOf at off 0 0
+  pub seek-gap : key < rank (heldAt b at off) → seek key at off (heldFrom b n at off) ≡ placeOf at off 0 0
   unfolding seek
-  seek-gap p = rw (heldFrom-next b n at off h, le-ltb (keyOf (heldAt b at off)) key (omega arith), ne-eqb (keyOf (heldAt b at off)) key (λ q. omega arith))
+  seek-gap p = rw (heldFrom-next b n at off h, le-ltb (rank (heldAt b at off)) key (omega arith), ne-eqb (rank (heldAt b at off)) key (λ q. omega arith))
 
 pub seek-none : (b : List ℕ) (key n at off : ℕ) → n ≤ 0 → seek key at off (heldFrom b n at off) ≡ placeOf at off 0 0
 unfolding seek heldFrom

@@ -33,17 +33,17 @@ held-back b h at off p q p′ q′ f e l e′ l′ =
     let x = h .entry in
     let g : (k : ℕ) → getD b (at + k) 0 ≡ getD (entryBytes x ++ q) k 0 = λ k. seam b p (entryBytes x ++ q) at k e l in
     let z : at ≡ at + 0 = omega arith in
-    let g₀ : getD b at 0 ≡ x .network / 65536 = ap (λ (j : ℕ). getD b j 0) z ∙ g 0 in
-    let n : number3 b at ≡ x .network = omega (arith, g₀, g 1, g 2, f .entry .network) in
+    let g₀ : getD b at 0 ≡ x .key .network / 65536 = ap (λ (j : ℕ). getD b j 0) z ∙ g 0 in
+    let n : number3 b at ≡ x .key .network = omega (arith, g₀, g 1, g 2, f .entry .key .network) in
     let s₁ : getD b (at + 3 + 1) 0 ≡ getD (entryBytes x ++ q) 4 0 = ap (λ (j : ℕ). getD b j 0) (add-assoc at 3 1) ∙ g 4 in
     let s₂ : getD b (at + 3 + 2) 0 ≡ getD (entryBytes x ++ q) 5 0 = ap (λ (j : ℕ). getD b j 0) (add-assoc at 3 2) ∙ g 5 in
-    let s : number3 b (at + 3) ≡ x .ssi = omega (arith, g 3, s₁, s₂, f .entry .ssi) in
+    let s : number3 b (at + 3) ≡ x .key .ssi = omega (arith, g 3, s₁, s₂, f .entry .key .ssi) in
     let t₁ : getD b (at + 7 + 1) 0 ≡ getD (entryBytes x ++ q) 8 0 = ap (λ (j : ℕ). getD b j 0) (add-assoc at 7 1) ∙ g 8 in
     let t : number2 b (at + 7) ≡ x .bits .0 = omega (arith, g 7, t₁, f .entry .bits) in
     let d : take (sizeAt b at) (drop off b) ≡ h .body =
     ap (λ (j : ℕ). take ((j + 7) / 8) (drop off b)) t ∙ part-of b p′ (h .body) q′ off (bodySize h) e′ l′ (f .full)
     in
-    λ i. record { entry = record { network = n i; ssi = s i; part = g 6 i; bits = record { 0 = t i } }; body = d i }
+    λ i. record { entry = record { key = record { network = n i; ssi = s i; part = g 6 i }; bits = record { 0 = t i } }; body = d i }
 
 length-entry : (e : Entry) → length (entryBytes e) ≡ entryWidth
 unfolding entryBytes

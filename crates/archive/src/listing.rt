@@ -1,4 +1,5 @@
 // The listing of an archive as text: a line for the header, then a line for each PDU held.
+use crate::Stored;
 use crate::checking;
 use crate::contents;
 use crate::contents::ENTRY;
@@ -11,16 +12,10 @@ ghost use mathlib.Core.List.{_∷_, []};
 ghost use Prim.Native.Nat.{_+_, _*_, _≤_, _<_};
 ghost use lib.ListN.{length};
 ghost use Rattle.bits.specs.Inner.{Laid};
-ghost use Rattle.archive.specs.Model.{headerWidth};
+ghost use Rattle.archive.specs.Model.{headerWidth, entryWidth};
 ghost use Rattle.archive.specs.Reading.{countOf, isArchive, reading};
 ghost use Rattle.archive.specs.Inner.{EntryFits, linesFrom};
 ghost use Rattle.archive.specs.Listing.{decimal, item, line, firstLine, listing, listIs, listOut};
-
-// The length in bytes of the text that was written, or a refusal number.
-pub enum Listed {
-    Bytes(usize),
-    Refused(u32),
-}
 
 // How many digits a number has.
 fn digits_of(n: usize) -> usize
@@ -81,15 +76,16 @@ fn write_line(out: &mut [u8], at: usize, entry: Entry) -> usize
     requires { ⌜ at + length (line entry) ≤ length (now out) ⌝ }
     ensures { λ r. ⌜ Laid (now (out .entry)) at (line entry) (now (out .exit)) r ⌝ }
 {
-    let ssi_at = write_item(out, at, entry.network as usize, b" ");
-    let part_at = write_item(out, ssi_at, entry.ssi as usize, b" part ");
-    let bits_at = write_item(out, part_at, entry.part as usize, b" bits ");
+    let key = entry.key;
+    let ssi_at = write_item(out, at, key.network as usize, b" ");
+    let part_at = write_item(out, ssi_at, key.ssi as usize, b" part ");
+    let bits_at = write_item(out, part_at, key.part as usize, b" bits ");
     write_item(out, bits_at, entry.bits.0, b"\n")
 }
 
 // Writes the lines of all entries.
 fn write_lines(archive: &[u8], out: &mut [u8], start: usize) -> usize
-    requires { ⌜ headerWidth + 9 * countOf (now archive) ≤ length (now archive) ⌝ }
+    requires { ⌜ headerWidth + entryWidth * countOf (now archive) ≤ length (now archive) ⌝ }
     requires { ⌜ start + length (linesFrom (now archive) (countOf (now archive)) headerWidth) ≤ length (now out) ⌝ }
     ensures { λ r. ⌜ Laid (now (out .entry)) start (linesFrom (now (archive .entry)) (countOf (now (archive .entry))) headerWidth) (now (out .exit)) r ⌝ }
 {
@@ -123,8 +119,9 @@ fn line_length(entry: Entry) -> usize
     requires { ⌜ EntryFits entry ⌝ }
     ensures { λ r. ⌜ (r ≡ length (line entry)) × (r ≤ 46) ⌝ }
 {
-    let user = digits_of(entry.network as usize) + digits_of(entry.ssi as usize);
-    let body = digits_of(entry.part as usize) + digits_of(entry.bits.0);
+    let key = entry.key;
+    let user = digits_of(key.network as usize) + digits_of(key.ssi as usize);
+    let body = digits_of(key.part as usize) + digits_of(entry.bits.0);
     user + body + LINE_WORDS
 }
 
@@ -146,15 +143,15 @@ fn text_length(archive: &[u8]) -> usize
 }
 
 // Lists an archive: writes the text to the lent buffer.
-pub fn list(archive: &[u8], out: &mut [u8]) -> Listed
+pub fn list(archive: &[u8], out: &mut [u8]) -> Stored
     ensures { λ r. ⌜ r ≡ listIs (now (archive .entry)) (length (now (out .entry))) ⌝ }
     ensures { λ _. ⌜ now (out .exit) ≡ listOut (now (archive .entry)) (now (out .entry)) ⌝ }
 {
     if !checking::check(archive) {
-        return Listed::Refused(7);
+        return Stored::Refused(7);
     }
     if out.len() < text_length(archive) {
-        return Listed::Refused(8);
+        return Stored::Refused(8);
     }
-    Listed::Bytes(write_text(archive, out))
+    Stored::Bytes(write_text(archive, out))
 }

@@ -11,12 +11,10 @@ use Rattle.writer.specs.declared.Written.{Written}
 use Rattle.writer.specs.declared.Written.the-variants as written
 use Rattle.rules.specs.declared.Decision.{Decision}
 use Rattle.rules.specs.declared.Decision.the-variants as decided
-use Rattle.archive.specs.declared.Archived.{Archived}
-use Rattle.archive.specs.declared.Archived.the-variants as archived
+use Rattle.archive.specs.declared.Stored.{Stored}
+use Rattle.archive.specs.declared.Stored.the-variants as stored
 use Rattle.archive.specs.declared.Restored.{Restored}
 use Rattle.archive.specs.declared.Restored.the-variants as restored
-use Rattle.archive.specs.declared.listing.Listed.{Listed}
-use Rattle.archive.specs.declared.listing.Listed.the-variants as listed
 use Rattle.words.specs.RecordWords.{areRecord, recordWords, recordFrom}
 use Rattle.words.specs.RequestWords.{isRequest, requestFrom}
 use Rattle.barring.specs.Decide.{decideIs}
@@ -50,11 +48,11 @@ writeOut words out = pick (areRecord (length words)) (outIs (recordFrom words) o
 unfoldable pub writeBits : List ℕ → List ℕ → ℕ → ℕ
 writeBits words out old = pick (areRecord (length words)) (writtenLength (writeIs (recordFrom words) out) old) old
 
--- ---- boc_empty and boc_capture
+-- ---- boc_empty, boc_capture and boc_contents
 
-abbrev pub archivedLength : Archived → ℕ → ℕ
-archivedLength (archived.Bytes n) old = n
-archivedLength (archived.Refused k) old = old
+abbrev pub storedLength : Stored → ℕ → ℕ
+storedLength (stored.Bytes n) old = n
+storedLength (stored.Refused k) old = old
 
 -- ---- boc_restore
 
@@ -77,9 +75,3 @@ decideNumber b words = pick (isRequest words) (decidedNumber (decideIs b (reques
 
 unfoldable pub decision : List ℕ → List ℕ → ℕ → ℕ
 decision b words old = pick (isRequest words) (decidedVerdict (decideIs b (requestFrom words)) old) old
-
--- ---- boc_contents
-
-abbrev pub listedLength : Listed → ℕ → ℕ
-listedLength (listed.Bytes n) old = n
-listedLength (listed.Refused k) old = old

@@ -1,9 +1,9 @@
 // The public calls for C: each returns 0 or the refusal number; what it answers besides goes through a pointer to one number,
 // which a refusal leaves alone. A slice of words of another length than it should have gives 9, before anything else.
-use archive::Archived;
+use archive::Key;
 use archive::Restored;
+use archive::Stored;
 use archive::listing;
-use archive::listing::Listed;
 use barring::Decision;
 use bits::BitCount;
 use pdu::Answer;
@@ -12,10 +12,10 @@ use words::record;
 use words::request;
 ghost use mathlib.Core.Path.{_≡_};
 ghost use lib.ListN.{length};
-ghost use Rattle.archive.specs.Keeping.{archivedNumber, emptyIs, emptyOut, captureIs, captureOut};
+ghost use Rattle.archive.specs.Keeping.{storedNumber, emptyIs, emptyOut, captureIs, captureOut};
 ghost use Rattle.archive.specs.Restoring.{restoredNumber, restoreIs, restoreOut};
-ghost use Rattle.archive.specs.Listing.{listedNumber, listIs, listOut};
-ghost use Rattle.boc.specs.Calls.{readNumber, readWords, writeNumber, writeOut, writeBits, archivedLength, restoredLength, decideNumber, decision, listedLength};
+ghost use Rattle.archive.specs.Listing.{listIs, listOut};
+ghost use Rattle.boc.specs.Calls.{readNumber, readWords, writeNumber, writeOut, writeBits, storedLength, restoredLength, decideNumber, decision};
 
 // Reads the PDU of `count` bits in `bytes`; its record goes to 514 words.
 #[no_mangle]
@@ -61,16 +61,16 @@ pub extern "C" fn boc_write(words: &[u32], out: &mut [u8], count: &mut usize) ->
 // Writes the empty archive of a home network; its length in bytes goes to `size`.
 #[no_mangle]
 pub extern "C" fn boc_empty(home: u32, out: &mut [u8], size: &mut usize) -> u32
-    ensures { λ r. ⌜ r ≡ archivedNumber (emptyIs home (length (now (out .entry)))) ⌝ }
+    ensures { λ r. ⌜ r ≡ storedNumber (emptyIs home (length (now (out .entry)))) ⌝ }
     ensures { λ _. ⌜ now (out .exit) ≡ emptyOut home (now (out .entry)) ⌝ }
-    ensures { λ _. ⌜ now (size .exit) ≡ archivedLength (emptyIs home (length (now (out .entry)))) (now (size .entry)) ⌝ }
+    ensures { λ _. ⌜ now (size .exit) ≡ storedLength (emptyIs home (length (now (out .entry)))) (now (size .entry)) ⌝ }
 {
     match archive::empty(home, out) {
-        Archived::Bytes(n) => {
+        Stored::Bytes(n) => {
             *size = n;
             0
         },
-        Archived::Refused(number) => number,
+        Stored::Refused(number) => number,
     }
 }
 
@@ -83,16 +83,16 @@ pub extern "C" fn boc_capture(
     out: &mut [u8],
     size: &mut usize,
 ) -> u32
-    ensures { λ r. ⌜ r ≡ archivedNumber (captureIs (now (held .entry)) (now (bytes .entry)) count (length (now (out .entry)))) ⌝ }
+    ensures { λ r. ⌜ r ≡ storedNumber (captureIs (now (held .entry)) (now (bytes .entry)) count (length (now (out .entry)))) ⌝ }
     ensures { λ _. ⌜ now (out .exit) ≡ captureOut (now (held .entry)) (now (bytes .entry)) count (now (out .entry)) ⌝ }
-    ensures { λ _. ⌜ now (size .exit) ≡ archivedLength (captureIs (now (held .entry)) (now (bytes .entry)) count (length (now (out .entry)))) (now (size .entry)) ⌝ }
+    ensures { λ _. ⌜ now (size .exit) ≡ storedLength (captureIs (now (held .entry)) (now (bytes .entry)) count (length (now (out .entry)))) (now (size .entry)) ⌝ }
 {
     match archive::capture(held, bytes, BitCount(count), out) {
-        Archived::Bytes(n) => {
+        Stored::Bytes(n) => {
             *size = n;
             0
         },
-        Archived::Refused(number) => number,
+        Stored::Refused(number) => number,
     }
 }
 
@@ -106,11 +106,12 @@ pub extern "C" fn boc_restore(
     out: &mut [u8],
     count: &mut usize,
 ) -> u32
-    ensures { λ r. ⌜ r ≡ restoredNumber (restoreIs (now (held .entry)) network ssi part (length (now (out .entry)))) ⌝ }
-    ensures { λ _. ⌜ now (out .exit) ≡ restoreOut (now (held .entry)) network ssi part (now (out .entry)) ⌝ }
-    ensures { λ _. ⌜ now (count .exit) ≡ restoredLength (restoreIs (now (held .entry)) network ssi part (length (now (out .entry)))) (now (count .entry)) ⌝ }
+    ensures { λ r. ⌜ r ≡ restoredNumber (restoreIs (now (held .entry)) (record { network = network; ssi = ssi; part = part }) (length (now (out .entry)))) ⌝ }
+    ensures { λ _. ⌜ now (out .exit) ≡ restoreOut (now (held .entry)) (record { network = network; ssi = ssi; part = part }) (now (out .entry)) ⌝ }
+    ensures { λ _. ⌜ now (count .exit) ≡ restoredLength (restoreIs (now (held .entry)) (record { network = network; ssi = ssi; part = part }) (length (now (out .entry)))) (now (count .entry)) ⌝ }
 {
-    match archive::restore(held, network, ssi, part, out) {
+    let key = Key { network, ssi, part };
+    match archive::restore(held, key, out) {
         Restored::Bits(n) => {
             *count = n.0;
             0
@@ -149,15 +150,15 @@ pub extern "C" fn boc_decide(held: &[u8], words: &[u32], verdict: &mut u32) -> u
 // Lists an archive as text; its length in bytes goes to `size`.
 #[no_mangle]
 pub extern "C" fn boc_contents(held: &[u8], out: &mut [u8], size: &mut usize) -> u32
-    ensures { λ r. ⌜ r ≡ listedNumber (listIs (now (held .entry)) (length (now (out .entry)))) ⌝ }
+    ensures { λ r. ⌜ r ≡ storedNumber (listIs (now (held .entry)) (length (now (out .entry)))) ⌝ }
     ensures { λ _. ⌜ now (out .exit) ≡ listOut (now (held .entry)) (now (out .entry)) ⌝ }
-    ensures { λ _. ⌜ now (size .exit) ≡ listedLength (listIs (now (held .entry)) (length (now (out .entry)))) (now (size .entry)) ⌝ }
+    ensures { λ _. ⌜ now (size .exit) ≡ storedLength (listIs (now (held .entry)) (length (now (out .entry)))) (now (size .entry)) ⌝ }
 {
     match listing::list(held, out) {
-        Listed::Bytes(length) => {
+        Stored::Bytes(length) => {
             *size = length;
             0
         },
-        Listed::Refused(number) => number,
+        Stored::Refused(refusal) => refusal,
     }
 }

@@ -15,10 +15,11 @@ use Rattle.rules.specs.declared.Decision.the-variants.{Allowed, NotHeld}
 use Rattle.archive.specs.Keeping.{over, emptyIs, emptyOut}
 use Rattle.archive.specs.Restoring.{inRange, restoreIs, restoreOut}
 use Rattle.archive.specs.History.{Offer, afterAll, lastAccepted}
-use Rattle.archive.specs.declared.Archived.the-variants.{Bytes}
+use Rattle.archive.specs.declared.contents.Key.{Key}
+use Rattle.archive.specs.declared.Stored.the-variants.{Bytes}
 use Rattle.archive.specs.declared.Restored.the-variants.{Bits, Refused}
 use Rattle.archive.proofs.History as history
-use Rattle.barring.specs.Decide.{partFor, partIn, decideIs}
+use Rattle.barring.specs.Decide.{keyFor, partIn, decideIs}
 use Rattle.barring.proofs.History as deciding
 
 -- The empty archive of a home network, the m bytes that `empty` wrote; and PDUs offered one after another, each with the buffer lent for it.
@@ -28,28 +29,28 @@ module _ (home : ℕ) (lent : List ℕ) (m : ℕ) (e : emptyIs home (length lent
   archive = afterAll (take m (emptyOut home lent)) offers
 
   -- the last PDU accepted for a user and part
-  abbrev pub last : ℕ → ℕ → ℕ → Option Offer
-  last network ssi part = lastAccepted network ssi part (take m (emptyOut home lent)) none offers
+  abbrev pub last : Key → Option Offer
+  last k = lastAccepted k (take m (emptyOut home lent)) none offers
 
-  module _ (network ssi part : ℕ) (r : inRange network ssi part ≡ true) (out : List ℕ) where
+  module _ (k : Key) (r : inRange k ≡ true) (out : List ℕ) where
     -- Restoring gives exactly its bits, if the buffer has room for them,
-    pub restores-the-last : (o : Offer) → last network ssi part ≡ some o → bytesFor (o .bits) ≤ length out
-        → (restoreIs archive network ssi part (length out) ≡ Bits (record { 0 = o .bits })) × (restoreOut archive network ssi part out ≡ over (o .pdu) out)
-    restores-the-last = history.always home lent m e offers network ssi part r out
+    pub restores-the-last : (o : Offer) → last k ≡ some o → bytesFor (o .bits) ≤ length out
+        → (restoreIs archive k (length out) ≡ Bits (record { 0 = o .bits })) × (restoreOut archive k out ≡ over (o .pdu) out)
+    restores-the-last = history.always home lent m e offers k r out
 
     -- or "not held", and no byte changed.
-    pub restores-nothing-else : last network ssi part ≡ none
-        → (restoreIs archive network ssi part (length out) ≡ Refused 11) × (restoreOut archive network ssi part out ≡ out)
-    restores-nothing-else = history.never home lent m e offers network ssi part r out
+    pub restores-nothing-else : last k ≡ none
+        → (restoreIs archive k (length out) ≡ Refused 11) × (restoreOut archive k out ≡ out)
+    restores-nothing-else = history.never home lent m e offers k r out
 
   module _ (q : Request) (f : requestRefusal q ≡ 0) where
     -- The decision is the barring rule applied to the record of that same PDU,
-    pub decides-by-the-last : (o : Offer) → last (q .user .network) (q .user .ssi) (partFor (q .destination)) ≡ some o
+    pub decides-by-the-last : (o : Offer) → last (keyFor q) ≡ some o
         → decideIs archive q ≡ ruling home (readIs (o .pdu) (o .bits) .found) q
     decides-by-the-last o l = deciding.decided home lent m e offers q f ∙ ap (deciding.saidBy home q) l
 
     -- or "not held".
-    pub decides-by-nothing-else : last (q .user .network) (q .user .ssi) (partFor (q .destination)) ≡ none → decideIs archive q ≡ NotHeld
+    pub decides-by-nothing-else : last (keyFor q) ≡ none → decideIs archive q ≡ NotHeld
     decides-by-nothing-else l = deciding.decided home lent m e offers q f ∙ ap (deciding.saidBy home q) l
 
 -- A part that is not held never allows a call.

@@ -15,7 +15,7 @@ use Rattle.archive.specs.Filing.{entryFor}
 use Rattle.archive.specs.Reading.{reading, isArchive}
 use Rattle.archive.specs.Keeping.{leaves, with, heldFor, captured, placed, captureIs}
 use Rattle.archive.specs.Inner.{filingFor}
-use Rattle.archive.specs.declared.Archived.the-variants.{Refused}
+use Rattle.archive.specs.declared.Stored.the-variants.{Refused}
 use Rattle.archive.specs.declared.contents.Entry.{Entry}
 use Rattle.archive.proofs.Bodies.{fits, Fits}
 use Rattle.archive.proofs.Capturing.{home-read, home-fits, filed-under, offered-agrees, no-archive, not-filed, as-placed, capture-leaves}
@@ -52,8 +52,8 @@ returns-2 : tie.Need-returns-2
 returns-2 c =
     let told = c .before in
     let f = told .before .before in
-    let e : captureIs (b-of f) (s-of f) (n-of f) (length (out-of f)) ≡ Refused (c .unfit .result) =
-    not-filed _ _ _ _ _ (ok (f .before .before)) (sym (filed f) ∙ told .enum-told .given .1) ∙ ap (λ (x : ℕ). Refused x) (sym (c .unfit .ensures))
+    let e : captureIs (b-of f) (s-of f) (n-of f) (length (out-of f)) ≡ Refused (c .not-filed-number .result) =
+    not-filed _ _ _ _ _ (ok (f .before .before)) (sym (filed f) ∙ told .enum-told .given .1) ∙ ap (λ (x : ℕ). Refused x) (sym (c .not-filed-number .ensures))
     in
     (sym e, sym (capture-leaves _ _ _ (out-of f) e))
 

@@ -14,11 +14,11 @@ use Rattle.reader.specs.Read.{refusalOf, readIs}
 use Rattle.reader.specs.declared.Answer.{Answer}
 use Rattle.reader.specs.declared.Answer.the-variants as reader
 use Rattle.judging.specs.Judge.{mayHold}
-use Rattle.archive.specs.Model.{Held, keyOf, lengthOf}
+use Rattle.archive.specs.Model.{Held, lengthOf}
 use Rattle.archive.specs.Reading.{reading, isArchive}
-use Rattle.archive.specs.Keeping.{archivedNumber, heldFor, captured, captureIs}
+use Rattle.archive.specs.Keeping.{storedNumber, heldFor, captured, captureIs}
 use Rattle.archive.specs.Restoring.{lookup}
-use Rattle.archive.specs.declared.Archived.the-variants.{Bytes, Refused}
+use Rattle.archive.specs.declared.Stored.the-variants.{Bytes, Refused}
 use Rattle.archive.proofs.Putting.{isNone}
 use Rattle.archive.proofs.Capturing.{no-archive, capture-leaves}
 use Rattle.archive.proofs.Captured.{taken, captured-formed}
@@ -57,7 +57,7 @@ module _ (b s : List ℕ) (n room : ℕ) where
 
   is-full : isFull ≡ true → Full b s n
   is-full e =
-      let k = both (isNone (lookup (keyOf (heldFor (reading b .home) s n)) (reading b .held))) (eqb (length (reading b .held)) 512) e in
+      let k = both (isNone (lookup (heldFor (reading b .home) s n .entry .key) (reading b .held))) (eqb (length (reading b .held)) 512) e in
       record { new = is-none _ (k .0); count = eqb-true _ _ (k .1) }
 
   full-is : Full b s n → isFull ≡ true
@@ -67,10 +67,10 @@ module _ (b s : List ℕ) (n room : ℕ) where
   placed o = eight b s n room (o .archive) (o .accepted) (o .may)
 
   offered : Offered b s n → Both (number b s n room)
-  offered o = subst Both (sym (ap archivedNumber (placed o))) (go isFull refl (ltb 65536 size) refl (ltb room size) refl)
+  offered o = subst Both (sym (ap storedNumber (placed o))) (go isFull refl (ltb 65536 size) refl (ltb room size) refl)
     where
       go : (p : Bool) → isFull ≡ p → (q : Bool) → ltb 65536 size ≡ q → (t : Bool) → ltb room size ≡ t
-          → Both (archivedNumber (pick (p || (q || t)) (Refused 8) (Bytes size)))
+          → Both (storedNumber (pick (p || (q || t)) (Refused 8) (Bytes size)))
       go true e q f t g = (full o (is-full e), refl)
       go false e true f t g = (too-long o (ltb-true _ _ f), refl)
       go false e false f true g = (no-room o (ltb-true _ _ g), refl)
@@ -86,7 +86,7 @@ module _ (b s : List ℕ) (n room : ℕ) where
   row = go (isArchive b) refl (readIs s n .answer) refl (mayHold (readIs s n .found)) refl
     where
       to : {k : ℕ} → captureIs b s n room ≡ Refused k → Both k → Both (number b s n room)
-      to e h = subst Both (sym (ap archivedNumber e)) h
+      to e h = subst Both (sym (ap storedNumber e)) h
 
       go : (p : Bool) → isArchive b ≡ p → (a : Answer) → readIs s n .answer ≡ a → (q : Bool) → mayHold (readIs s n .found) ≡ q → Both (number b s n room)
       go false e a f q g = to (no-archive b s n room e) (damaged e, refl)
@@ -98,17 +98,17 @@ module _ (b s : List ℕ) (n room : ℕ) where
       go true e reader.Accepted f true g = offered (record { archive = e; accepted = f; may = g })
 
   over : Offered b s n → isFull || (ltb 65536 size || ltb room size) ≡ true → number b s n room ≡ 8
-  over o e = ap archivedNumber (placed o ∙ ap (λ (t : Bool). pick t (Refused 8) (Bytes size)) e)
+  over o e = ap storedNumber (placed o ∙ ap (λ (t : Bool). pick t (Refused 8) (Bytes size)) e)
 
   or-true : (p : Bool) {q : Bool} → q ≡ true → p || q ≡ true
   or-true true e = refl
   or-true false e = e
 
   back : (k : ℕ) → Given b s n room k → number b s n room ≡ k
-  back k (success o f l h) = ap archivedNumber (placed o) ∙ rw (false-unless isFull (λ t. f (is-full t)), le-ltb _ _ l, le-ltb _ _ h)
-  back k (damaged e) = ap archivedNumber (no-archive b s n room e)
-  back k (unread m e f) = ap archivedNumber (pdu-refused b s n room e f)
-  back k (not-kept e f g) = ap archivedNumber (may-not b s n room e f g)
+  back k (success o f l h) = ap storedNumber (placed o) ∙ rw (false-unless isFull (λ t. f (is-full t)), le-ltb _ _ l, le-ltb _ _ h)
+  back k (damaged e) = ap storedNumber (no-archive b s n room e)
+  back k (unread m e f) = ap storedNumber (pdu-refused b s n room e f)
+  back k (not-kept e f g) = ap storedNumber (may-not b s n room e f g)
   back k (full o f) = over o (ap (λ (p : Bool). p || (ltb 65536 size || ltb room size)) (full-is f))
   back k (too-long o h) = over o (or-true isFull (ap (λ (q : Bool). q || ltb room size) (lt-ltb _ _ h)))
   back k (no-room o h) = over o (or-true isFull (or-true (ltb 65536 size) (lt-ltb _ _ h)))

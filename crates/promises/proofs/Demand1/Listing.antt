@@ -9,20 +9,21 @@ use lib.Dec.{leb}
 use borrow.Author.Tests.{leb-true, leb-false, le-leb, lt-leb}
 use Rattle.bits.specs.Bits.{pick}
 use Rattle.archive.specs.Reading.{isArchive}
-use Rattle.archive.specs.Listing.{lists, listIs, listOut, listedNumber}
-use Rattle.archive.specs.declared.listing.Listed.{Listed}
-use Rattle.archive.specs.declared.listing.Listed.the-variants.{Bytes, Refused}
+use Rattle.archive.specs.Keeping.{leaves, storedNumber}
+use Rattle.archive.specs.Listing.{listIs, listOut}
+use Rattle.archive.specs.declared.Stored.{Stored}
+use Rattle.archive.specs.declared.Stored.the-variants.{Bytes, Refused}
 use Rattle.promises.specs.Answers.{OneOf}
 use Rattle.promises.specs.Demand1.Listing.{number, text, Given, success, damaged, no-room, Promise}
 use Rattle.promises.proofs.Tables.{exactly}
 
 module _ (b : List ℕ) where
-  list-leaves : (out : List ℕ) {r : Listed} → listIs b (length out) ≡ r → listOut b out ≡ lists r (text b) out
+  list-leaves : (out : List ℕ) {r : Stored} → listIs b (length out) ≡ r → listOut b out ≡ leaves r (text b) out
   unfolding listOut
-  list-leaves out e = ap (λ (r : Listed). lists r (text b) out) e
+  list-leaves out e = ap (λ (r : Stored). leaves r (text b) out) e
 
   module _ (room : ℕ) where
-    abbrev answerBy : Bool → Bool → Listed
+    abbrev answerBy : Bool → Bool → Stored
     answerBy archive fits = pick archive (pick fits (Bytes (length (text b))) (Refused 8)) (Refused 7)
 
     abbrev Both : ℕ → Type 0
@@ -32,7 +33,7 @@ module _ (b : List ℕ) where
     unfolding listIs
     row = go (isArchive b) refl (leb (length (text b)) room) refl
       where
-        go : (p : Bool) → isArchive b ≡ p → (q : Bool) → leb (length (text b)) room ≡ q → Both (listedNumber (answerBy p q))
+        go : (p : Bool) → isArchive b ≡ p → (q : Bool) → leb (length (text b)) room ≡ q → Both (storedNumber (answerBy p q))
         go false e q f = (damaged e, refl)
         go true e true f = (success e (leb-true _ _ f), refl)
         go true e false f = (no-room e (leb-false _ _ f), refl)

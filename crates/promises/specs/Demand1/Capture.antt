@@ -8,17 +8,17 @@ use lib.ListN.{length, replicate}
 use Rattle.reader.specs.Read.{readIs}
 use Rattle.reader.specs.declared.Answer.the-variants as reader
 use Rattle.judging.specs.Judge.{mayHold}
-use Rattle.archive.specs.Model.{keyOf, bytesOf, lengthOf}
+use Rattle.archive.specs.Model.{bytesOf, lengthOf}
 use Rattle.archive.specs.Reading.{reading, isArchive}
-use Rattle.archive.specs.Keeping.{archivedNumber, over, heldFor, captured, captureIs, captureOut}
+use Rattle.archive.specs.Keeping.{storedNumber, over, heldFor, captured, captureIs, captureOut}
 use Rattle.archive.specs.Restoring.{lookup}
 use Rattle.archive.specs.Examples.{calls, profileA}
-use Rattle.archive.specs.declared.Archived.the-variants.{Bytes, Refused}
+use Rattle.archive.specs.declared.Stored.the-variants.{Bytes, Refused}
 use Rattle.promises.specs.Answers.{Exactly}
 use Rattle.promises.specs.Demand1.Reading as read
 
 abbrev pub number : List ℕ → List ℕ → ℕ → ℕ → ℕ
-number b s n room = archivedNumber (captureIs b s n room)
+number b s n room = storedNumber (captureIs b s n room)
 
 -- an archive, and a PDU that it may hold
 pub record Offered (b s : List ℕ) (n : ℕ) : Type 0 where
@@ -28,7 +28,7 @@ pub record Offered (b s : List ℕ) (n : ℕ) : Type 0 where
 
 -- a new key with 512 held
 pub record Full (b s : List ℕ) (n : ℕ) : Type 0 where
-  pub new : lookup (keyOf (heldFor (reading b .home) s n)) (reading b .held) ≡ none
+  pub new : lookup (heldFor (reading b .home) s n .entry .key) (reading b .held) ≡ none
   pub count : length (reading b .held) ≡ 512
 
 -- the table of refusals, as far as capture goes

@@ -4,12 +4,12 @@ use mathlib.Core.List.{List, [], _∷_}
 use Prim.Native.Nat.{ℕ, _≤_, _<_}
 use lib.ListN.{length}
 use Rattle.archive.specs.Model.{headerWidth, bytesOf}
-use Rattle.archive.specs.Keeping.{archivedNumber, over, emptyOf, emptyIs, emptyOut}
-use Rattle.archive.specs.declared.Archived.the-variants.{Bytes, Refused}
+use Rattle.archive.specs.Keeping.{storedNumber, over, emptyOf, emptyIs, emptyOut}
+use Rattle.archive.specs.declared.Stored.the-variants.{Bytes, Refused}
 use Rattle.promises.specs.Answers.{Exactly}
 
 abbrev pub number : ℕ → ℕ → ℕ
-number home room = archivedNumber (emptyIs home room)
+number home room = storedNumber (emptyIs home room)
 
 -- the table of refusals, as far as the empty archive goes
 pub data Given (home room : ℕ) : ℕ → Type 0 where

@@ -5,14 +5,14 @@ use mathlib.Core.List.{List, [], _∷_}
 use Prim.Native.Nat.{ℕ, _≤_, _<_}
 use lib.ListN.{length, replicate}
 use Rattle.archive.specs.Reading.{reading, isArchive}
-use Rattle.archive.specs.Keeping.{over}
-use Rattle.archive.specs.Listing.{digits, decimal, item, firstLine, lines, listing, listIs, listOut, listedNumber}
+use Rattle.archive.specs.Keeping.{over, storedNumber}
+use Rattle.archive.specs.Listing.{digits, decimal, item, firstLine, lines, listing, listIs, listOut}
 use Rattle.archive.specs.Examples.{calls}
-use Rattle.archive.specs.declared.listing.Listed.the-variants.{Bytes, Refused}
+use Rattle.archive.specs.declared.Stored.the-variants.{Bytes, Refused}
 use Rattle.promises.specs.Answers.{Exactly}
 
 abbrev pub number : List ℕ → ℕ → ℕ
-number b room = listedNumber (listIs b room)
+number b room = storedNumber (listIs b room)
 
 -- the text of the archive that the bytes say
 abbrev pub text : List ℕ → List ℕ

@@ -11,7 +11,7 @@ use lib.Dec.{leb}
 use Rattle.bits.proofs.Tests.{said-no, said-yes}
 use Rattle.archive.specs.Reading.{reading, isArchive}
 use Rattle.archive.specs.Listing.{listing, listIs, listOut}
-use Rattle.archive.specs.declared.listing.Listed.the-variants.{Bytes}
+use Rattle.archive.specs.declared.Stored.the-variants.{Bytes}
 use Rattle.archive.proofs.Laying.{at-front}
 use Rattle.archive.proofs.listing.list.Statement.{statement}
 use Rattle.archive.proofs.listing.list.Tie as tie

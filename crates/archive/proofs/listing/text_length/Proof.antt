@@ -6,6 +6,7 @@ use native.Mathlib.Omega.{arith}
 use borrow.Author.Needs.{needs}
 use denote.Ref.{now}
 use lib.ListN.{length, length-append}
+use Rattle.archive.specs.Model.{headerWidth, entryWidth}
 use Rattle.archive.specs.Reading.{homeOf, countOf, reading}
 use Rattle.archive.specs.Listing.{decimal, firstLine, line, listing}
 use Rattle.archive.specs.Inner.{linesFrom}
@@ -18,7 +19,7 @@ use Rattle.archive.proofs.listing.text_length.Tie as tie
 
 abbrev Inv-loop : tie.InvT-loop
 Inv-loop archive left₀ home size₀ at₀ left size at =
-    (at + 9 * left ≤ length archive) × (size + 46 * left ≤ 23583) × (size + length (linesFrom archive left at) ≡ length (listing (reading archive)))
+    (at + entryWidth * left ≤ length archive) × (size + 46 * left ≤ 23583) × (size + length (linesFrom archive left at) ≡ length (listing (reading archive)))
 
 abbrev μ-loop : tie.MeasureT-loop
 μ-loop archive left₀ home size₀ at₀ left size at = left
@@ -35,12 +36,12 @@ loop-holds c =
     let b = now (count .before .before .args .archive) in
     let s = sound b (count .before .before .pre) in
     let n = count .count .ensures .0 in
-    let lines : length (linesFrom b (count .count .result) 5) ≡ length (linesFrom b (countOf b) 5) = ap (λ (k : ℕ). length (linesFrom b k 5)) n in
+    let lines : length (linesFrom b (count .count .result) headerWidth) ≡ length (linesFrom b (countOf b) headerWidth) = ap (λ (k : ℕ). length (linesFrom b k headerWidth)) n in
     let first : length (firstLine (homeOf b) (countOf b)) ≡ length (decimal (home .home .result)) + length (decimal (count .count .result)) + 15 =
     (λ i. length (firstLine (sym (home .home .ensures) i) (sym n i))) ∙ length-first (home .home .result) (count .count .result)
     in
-    let whole : length (listing (reading b)) ≡ length (firstLine (homeOf b) (countOf b)) + length (linesFrom b (countOf b) 5) =
-    ap length (listing-read b (omega (arith, s .whole))) ∙ length-append (firstLine (homeOf b) (countOf b)) (linesFrom b (countOf b) 5)
+    let whole : length (listing (reading b)) ≡ length (firstLine (homeOf b) (countOf b)) + length (linesFrom b (countOf b) headerWidth) =
+    ap length (listing-read b (omega (arith, s .whole))) ∙ length-append (firstLine (homeOf b) (countOf b)) (linesFrom b (countOf b) headerWidth)
     in
     (omega (arith, s .whole), omega (arith, s .few), omega (arith, c .before .digits-of .ensures .0, c .digits-of2 .ensures .0))
 
@@ -50,7 +51,7 @@ loop-again c =
     let loop = entry .before .before in
     let b = now (loop .before .before .before .before .before .before .args .archive) in
     let l = loop .loop in
-    let others = linesFrom b (l .left - 1) (l .at + 9) in
+    let others = linesFrom b (l .left - 1) (l .at + entryWidth) in
     let next : length (linesFrom b (l .left) (l .at)) ≡ length (line (entry .entry-at .result)) + length others =
     ap length (linesFrom-next b (l .left) (l .at) (entry .before .loop-test .taken) ∙ ap (λ (e : Entry). line e ++ others) (sym (entry .entry-at .ensures .0)))
     ∙ length-append (line (entry .entry-at .result)) others

@@ -7,6 +7,7 @@ use denote.Ref.{now}
 use lib.ListN.{length}
 use Rattle.bits.specs.Inner.{Laid}
 use Rattle.bits.proofs.Laying.{then, none, first-fits, rest-fits}
+use Rattle.archive.specs.Model.{headerWidth, entryWidth}
 use Rattle.archive.specs.Reading.{countOf}
 use Rattle.archive.specs.Inner.{linesFrom}
 use Rattle.archive.specs.Listing.{line}
@@ -17,8 +18,8 @@ use Rattle.archive.proofs.listing.write_lines.Tie as tie
 
 abbrev Inv-loop : tie.InvT-loop
 Inv-loop archive out₀ start left₀ entry-at₀ at₀ out left entry-at at =
-    (entry-at + 9 * left ≤ length archive) × (length out ≡ length out₀) × (at + length (linesFrom archive left entry-at) ≤ length out)
-    × ((out′ : List ℕ) (end : ℕ) → Laid out at (linesFrom archive left entry-at) out′ end → Laid out₀ start (linesFrom archive (countOf archive) 5) out′ end)
+    (entry-at + entryWidth * left ≤ length archive) × (length out ≡ length out₀) × (at + length (linesFrom archive left entry-at) ≤ length out)
+    × ((out′ : List ℕ) (end : ℕ) → Laid out at (linesFrom archive left entry-at) out′ end → Laid out₀ start (linesFrom archive (countOf archive) headerWidth) out′ end)
 
 abbrev μ-loop : tie.MeasureT-loop
 μ-loop archive out₀ start left₀ entry-at₀ at₀ out left entry-at at = left
@@ -33,7 +34,7 @@ abbrev b-of : tie.At-loop Inv-loop μ-loop → List ℕ
 b-of c = now (c .before .before .before .before .args .archive)
 
 abbrev others : tie.At-loop Inv-loop μ-loop → List ℕ
-others c = linesFrom (b-of c) (c .loop .left - 1) (c .loop .entry-at + 9)
+others c = linesFrom (b-of c) (c .loop .left - 1) (c .loop .entry-at + entryWidth)
 
 turn : (c : tie.After-entry-at Inv-loop μ-loop)
     → linesFrom (b-of (c .before .before .before)) (c .before .before .before .loop .left) (c .before .before .before .loop .entry-at)

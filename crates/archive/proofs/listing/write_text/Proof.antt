@@ -7,6 +7,7 @@ use borrow.Author.Needs.{needs}
 use denote.Ref.{now}
 use lib.ListN.{length}
 use Rattle.bits.proofs.Laying.{then, first-fits, rest-fits}
+use Rattle.archive.specs.Model.{headerWidth}
 use Rattle.archive.specs.Reading.{countOf, reading}
 use Rattle.archive.specs.Listing.{firstLine, listing}
 use Rattle.archive.specs.Inner.{linesFrom}
@@ -23,7 +24,7 @@ abbrev first : tie.After-count → List ℕ
 first c = firstLine (c .before .home .result) (c .count .result)
 
 abbrev rest : tie.After-count → List ℕ
-rest c = linesFrom (b-of c) (countOf (b-of c)) 5
+rest c = linesFrom (b-of c) (countOf (b-of c)) headerWidth
 
 parts : (c : tie.After-count) → listing (reading (b-of c)) ≡ first c ++ rest c
 parts c =

@@ -6,8 +6,8 @@ use Rattle.bits.specs.Frame.{bytesFor}
 use Rattle.reader.specs.Read.{readIs}
 use native.Mathlib.Nat.{add-sub-cancel-left}
 use borrow.Author.Needs.{needs}
-use Rattle.barring.proofs.judge.Statement.{statement}
-use Rattle.barring.proofs.judge.Tie as tie
+use Rattle.barring.proofs.ruling_of_body.Statement.{statement}
+use Rattle.barring.proofs.ruling_of_body.Tie as tie
 
 returns : tie.Need-returns
 returns c =
@@ -20,8 +20,8 @@ returns c =
     ∙ ap (λ (k : ℕ). readIs (take k (drop (a .at) (a .archive .now))) (a .n .0)) (add-sub-cancel-left (a .at) (b .bytes .result) ∙ b .bytes .ensures) in
     c .rule .ensures ∙ rw (h .home .ensures, body)
 
-pub judge-spec : {M : Type 1} → statement M
-judge-spec =
+pub ruling-of-body-spec : {M : Type 1} → statement M
+ruling-of-body-spec =
     tie.close
     (tie.spec
     (λ c κs. search needs)
