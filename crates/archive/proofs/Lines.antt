@@ -5,15 +5,11 @@ use Prim.Native.Nat.{ℕ, zero, suc, _+_, _-_, _≤_, _<_}
 use native.Mathlib.Omega.{arith}
 use native.Mathlib.Nat.{not-suc-le-zero}
 use lib.ListN.{length, length-append}
-use lib.Dec.{leb}
-use borrow.Author.Tests.{leb-true}
-use Rattle.bits.proofs.Tests.{never, picked}
 use Rattle.archive.specs.Model.{headerWidth, entryWidth}
-use Rattle.archive.specs.Reading.{homeOf, countOf, entryAt, sizeAt, heldFrom, bodiesAt, reading, isArchive}
+use Rattle.archive.specs.Reading.{homeOf, countOf, entryAt, sizeAt, heldFrom, bodiesAt, reading}
 use Rattle.archive.specs.Inner.{linesFrom}
-use Rattle.archive.specs.Listing.{decimal, item, firstLine, line, lines, listing, listIs}
+use Rattle.archive.specs.Listing.{decimal, item, firstLine, line, lines, listing}
 use Rattle.archive.specs.declared.contents.Entry.{Entry}
-use Rattle.archive.specs.declared.Stored.the-variants.{Bytes}
 use Rattle.archive.proofs.Walks.{home-is, length-heldFrom}
 
 -- ---- lengths
@@ -53,12 +49,3 @@ listing-read b h =
     let l = length-heldFrom b (countOf b) headerWidth (bodiesAt b) in
     let r = lines-read b (countOf b) headerWidth (bodiesAt b) in
     λ i. firstLine (sym (home-is b h) i) (l i) ++ r i
-
--- what is listed fits the lent buffer
-pub listed-fits : (b : List ℕ) (room n : ℕ) → listIs b room ≡ Bytes n → n ≤ room
-unfolding listIs
-listed-fits b room n e =
-    let p = picked (isArchive b) e (λ x. never cc) in
-    let q = picked (leb (length (listing (reading b))) room) (p .1) (λ x. never cc) in
-    let z : length (listing (reading b)) ≡ n = cc (q .1) in
-    omega (arith, leb-true (length (listing (reading b))) room (q .0))

@@ -6,17 +6,16 @@ use Prim.Native.Nat.{ℕ, _*_, _≤_, _<_}
 use native.Mathlib.Omega.{arith}
 use lib.ListN.{length, length-append}
 use lib.Dec.{leb}
-use borrow.Author.Tests.{le-leb}
+use borrow.Author.Tests.{leb-true, le-leb}
 use Rattle.bits.specs.Bits.{pick}
 use Rattle.reader.specs.Read.{readIs}
 use Rattle.pdu.proofs.Accepted.{accepted-framed}
 use Rattle.archive.specs.Model.{Held, rank}
 use Rattle.archive.specs.Filing.{keepsRules}
 use Rattle.archive.specs.Reading.{reading, isArchive}
-use Rattle.archive.specs.Listing.{firstLine, line, lines, listing, listIs}
+use Rattle.archive.specs.Keeping.{over}
+use Rattle.archive.specs.Listing.{firstLine, line, lines, listing, refusedLine, reportOf, reportIs, reportOut}
 use Rattle.archive.specs.declared.contents.Entry.{Entry}
-use Rattle.archive.specs.declared.Stored.{Stored}
-use Rattle.archive.specs.declared.Stored.the-variants.{Bytes, Refused}
 use Rattle.archive.proofs.Bodies.{Agrees, agrees-says, part-is, fits}
 use Rattle.archive.proofs.Rules.{kept, archive-formed}
 use Rattle.archive.proofs.Decimal.{within}
@@ -54,18 +53,26 @@ listing-size b ok =
     let all = length-append (firstLine (a .home) (length (a .held))) (lines (a .held)) in
     omega (arith, all, first, within 7 (a .home) home, within 2 (length (a .held)) count, lines-size (a .home) 0 (a .held) (f .home) (f .rules), f .few)
 
--- in a buffer of that size every archive is listed
-abbrev pub sizeOf : Stored → ℕ
-sizeOf (Bytes n) = n
-sizeOf (Refused k) = 0
+-- ---- the report
 
-pub all-listed : (b : List ℕ) (room : ℕ) → 17946 ≤ room → sizeOf (listIs b room) ≡ pick (isArchive b) (length (listing (reading b))) 0
-unfolding listIs
-all-listed b room h = go (isArchive b) refl
+-- what is reported fits the lent buffer
+pub report-fits : (b : List ℕ) (room : ℕ) → reportIs b room ≤ room
+unfolding reportIs
+report-fits b room = go (leb (length (reportOf b)) room) refl
   where
-    size : ℕ
-    size = length (listing (reading b))
+    go : (p : Bool) → leb (length (reportOf b)) room ≡ p → pick p (length (reportOf b)) 0 ≤ room
+    go true e = leb-true (length (reportOf b)) room e
+    go false e = omega arith
 
-    go : (p : Bool) → isArchive b ≡ p → sizeOf (pick p (pick (leb size room) (Bytes size) (Refused 8)) (Refused 7)) ≡ pick p size 0
-    go true e = ap (λ (q : Bool). sizeOf (pick q (Bytes size) (Refused 8))) (le-leb size room (omega (arith, listing-size b e)))
-    go false e = refl
+report-size : (b : List ℕ) → length (reportOf b) ≤ 17946
+unfolding reportOf
+report-size b = go (isArchive b) refl
+  where
+    go : (p : Bool) → isArchive b ≡ p → length (pick p (listing (reading b)) refusedLine) ≤ 17946
+    go true e = listing-size b e
+    go false e = omega arith
+
+-- a buffer of 17,946 bytes holds every report
+pub report-whole : (b out : List ℕ) → 17946 ≤ length out → (reportIs b (length out) ≡ length (reportOf b)) × (reportOut b out ≡ over (reportOf b) out)
+unfolding reportIs reportOut
+report-whole b out h = let e = le-leb (length (reportOf b)) (length out) (omega (arith, report-size b)) in (rw e, rw e)

@@ -11,9 +11,9 @@ use Rattle.reader.specs.Read.{readIs}
 use Rattle.archive.specs.Model.{Held, Archive, headerBytes, entryBytes, bytesOf, lengthOf}
 use Rattle.archive.specs.Reading.{heldFrom, bodiesAt, reading, isArchive}
 use Rattle.archive.specs.Keeping.{emptyOf, emptyIs, emptyOut, with, captured, placed, captureIs, captureOut}
-use Rattle.archive.specs.Filing.{wellFormed, keepsRules}
+use Rattle.archive.specs.Filing.{filingOf, bodyAgrees, wellFormed, keepsRules}
 use Rattle.archive.specs.Restoring.{bodyFrom, lookup}
-use Rattle.archive.specs.Listing.{digits, decimal, item, firstLine, line, lines, listing}
+use Rattle.archive.specs.Listing.{digits, decimal, item, firstLine, line, lines, listing, reportOf, reportIs, reportOut}
 use Rattle.archive.specs.declared.contents.Key.{Key}
 use Rattle.archive.specs.declared.Stored.the-variants.{Bytes}
 use Rattle.archive.specs.declared.Fetched.the-variants.{Body}
@@ -118,3 +118,20 @@ textA =
 listing-a : listing holdingA ≡ textA
 unfolding listing firstLine lines line item decimal digits
 listing-a = refl
+
+-- ---- the report
+
+report-a : reportOf bytesA ≡ textA
+unfolding calls filingOf bodyAgrees reportOf listing firstLine lines line item decimal digits
+report-a = refl
+
+-- `refused 7` on its line; the bytes after it stay
+report-none : (reportIs [] 12 ≡ 10)
+    × (reportOut [] (replicate 12 0xff) ≡ 114 ∷ 101 ∷ 102 ∷ 117 ∷ 115 ∷ 101 ∷ 100 ∷ 32 ∷ 55 ∷ 10 ∷ 0xff ∷ 0xff ∷ [])
+unfolding calls reportOf reportIs reportOut
+report-none = (refl, refl)
+
+-- a buffer of 9 bytes is too short for it
+report-short : (reportIs [] 9 ≡ 0) × (reportOut [] (replicate 9 0xff) ≡ replicate 9 0xff)
+unfolding calls reportOf reportIs reportOut
+report-short = (refl, refl)

@@ -6,7 +6,7 @@ use lib.Dec.{ltb, leb}
 use Rattle.bits.specs.Bits.{pick, guard}
 use Rattle.archive.specs.Model.{Held, Archive}
 use Rattle.archive.specs.Reading.{reading, isArchive}
-use Rattle.archive.specs.Keeping.{leaves}
+use Rattle.archive.specs.Keeping.{over, leaves}
 use Rattle.archive.specs.declared.contents.Entry.{Entry}
 use Rattle.archive.specs.declared.Stored.{Stored}
 use Rattle.archive.specs.declared.Stored.the-variants.{Bytes, Refused}
@@ -84,3 +84,27 @@ listIs b room =
 
 unfoldable pub listOut : List ℕ → List ℕ → List ℕ
 listOut b out = leaves (listIs b (length out)) (listing (reading b)) out
+
+-- ---- report: what the program `contents` prints
+
+-- `refused 7` and a line end
+abbrev pub refusedLine : List ℕ
+refusedLine = 114 ∷ 101 ∷ 102 ∷ 117 ∷ 115 ∷ 101 ∷ 100 ∷ 32 ∷ 55 ∷ lineEnd
+
+-- the listing of an archive; `refused 7` for what is none
+unfoldable pub reportOf : List ℕ → List ℕ
+reportOf b = pick (isArchive b) (listing (reading b)) refusedLine
+
+-- a text's length if the lent buffer has room for it, otherwise 0
+abbrev pub lengthWithin : List ℕ → ℕ → ℕ
+lengthWithin w room = guard (leb (length w) room) 0 (length w)
+
+-- a text at the front of the lent buffer if that has room for it, otherwise the buffer as it was
+abbrev pub textWithin : List ℕ → List ℕ → List ℕ
+textWithin w out = guard (leb (length w) (length out)) out (over w out)
+
+unfoldable pub reportIs : List ℕ → ℕ → ℕ
+reportIs b room = lengthWithin (reportOf b) room
+
+unfoldable pub reportOut : List ℕ → List ℕ → List ℕ
+reportOut b out = textWithin (reportOf b) out

@@ -14,13 +14,12 @@ ghost use lib.ListN.{length};
 ghost use Rattle.bits.specs.Inner.{Laid};
 ghost use Rattle.archive.specs.Model.{headerWidth, entryWidth};
 ghost use Rattle.archive.specs.Reading.{countOf, isArchive, reading};
-ghost use Rattle.archive.specs.Inner.{EntryFits, linesFrom};
-ghost use Rattle.archive.specs.Listing.{decimal, item, line, firstLine, listing, listIs, listOut};
+ghost use Rattle.archive.specs.Inner.{linesFrom};
+ghost use Rattle.archive.specs.Listing.{decimal, item, line, firstLine, listing, listIs, listOut, refusedLine, lengthWithin, textWithin, reportIs, reportOut};
 
 // How many digits a number has.
 fn digits_of(n: usize) -> usize
-    requires { ⌜ n < 100000000 ⌝ }
-    ensures { λ r. ⌜ (r ≡ length (decimal n)) × (r ≤ 8) ⌝ }
+    ensures { λ r. ⌜ (r ≡ length (decimal n)) × (r ≤ 20) ⌝ }
 {
     let mut rest = n;
     let mut count = 1;
@@ -40,16 +39,21 @@ fn write_byte(out: &mut [u8], at: usize, byte: u8) -> usize
     at + 1
 }
 
-// Writes a number in decimal: the digits before its last one, then that one.
+// Writes a number in decimal, its last digit first.
 fn write_number(out: &mut [u8], at: usize, n: usize) -> usize
     requires { ⌜ at + length (decimal n) ≤ length (now out) ⌝ }
     ensures { λ r. ⌜ Laid (now (out .entry)) at (decimal n) (now (out .exit)) r ⌝ }
 {
-    if n < 10 {
-        return write_byte(out, at, 48 + n as u8);
+    let end = at + digits_of(n);
+    let mut rest = n;
+    let mut place = end;
+    while 10 <= rest {
+        place -= 1;
+        write_byte(out, place, 48 + (rest % 10) as u8);
+        rest /= 10;
     }
-    let last_at = write_number(out, at, n / 10);
-    write_byte(out, last_at, 48 + (n % 10) as u8)
+    write_byte(out, at, 48 + rest as u8);
+    end
 }
 
 // Writes a number and the word after it.
@@ -116,8 +120,7 @@ const LINE_WORDS: usize = 14;
 
 // The length of an entry's line.
 fn line_length(entry: Entry) -> usize
-    requires { ⌜ EntryFits entry ⌝ }
-    ensures { λ r. ⌜ (r ≡ length (line entry)) × (r ≤ 46) ⌝ }
+    ensures { λ r. ⌜ (r ≡ length (line entry)) × (r ≤ 94) ⌝ }
 {
     let key = entry.key;
     let user = digits_of(key.network as usize) + digits_of(key.ssi as usize);
@@ -154,4 +157,30 @@ pub fn list(archive: &[u8], out: &mut [u8]) -> Stored
         return Stored::Refused(8);
     }
     Stored::Bytes(write_text(archive, out))
+}
+
+// Writes `refused 7` on a line, where there is room for it.
+fn write_refused(out: &mut [u8]) -> usize
+    ensures { λ r. ⌜ r ≡ lengthWithin refusedLine (length (now (out .entry))) ⌝ }
+    ensures { λ _. ⌜ now (out .exit) ≡ textWithin refusedLine (now (out .entry)) ⌝ }
+{
+    if out.len() < 10 {
+        return 0;
+    }
+    copying::append(out, 0, b"refused 7\n")
+}
+
+// What the program `contents` prints of its input: writes the listing, or `refused 7` for what is no archive, to the lent buffer. Returns
+// its length; 0 where the buffer is too short for it, and then no byte is changed.
+pub fn report(archive: &[u8], out: &mut [u8]) -> usize
+    ensures { λ r. ⌜ r ≡ reportIs (now (archive .entry)) (length (now (out .entry))) ⌝ }
+    ensures { λ _. ⌜ now (out .exit) ≡ reportOut (now (archive .entry)) (now (out .entry)) ⌝ }
+{
+    if !checking::check(archive) {
+        return write_refused(out);
+    }
+    if out.len() < text_length(archive) {
+        return 0;
+    }
+    write_text(archive, out)
 }

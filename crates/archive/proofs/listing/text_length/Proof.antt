@@ -11,7 +11,6 @@ use Rattle.archive.specs.Reading.{homeOf, countOf, reading}
 use Rattle.archive.specs.Listing.{decimal, firstLine, line, listing}
 use Rattle.archive.specs.Inner.{linesFrom}
 use Rattle.archive.specs.declared.contents.Entry.{Entry}
-use Rattle.archive.proofs.Walks.{home-small}
 use Rattle.archive.proofs.Checks.{sound}
 use Rattle.archive.proofs.Lines.{length-first, linesFrom-next, linesFrom-none, listing-read}
 use Rattle.archive.proofs.listing.text_length.Statement.{statement}
@@ -19,15 +18,10 @@ use Rattle.archive.proofs.listing.text_length.Tie as tie
 
 abbrev Inv-loop : tie.InvT-loop
 Inv-loop archive left₀ home size₀ at₀ left size at =
-    (at + entryWidth * left ≤ length archive) × (size + 46 * left ≤ 23583) × (size + length (linesFrom archive left at) ≡ length (listing (reading archive)))
+    (at + entryWidth * left ≤ length archive) × (size + 94 * left ≤ 48183) × (size + length (linesFrom archive left at) ≡ length (listing (reading archive)))
 
 abbrev μ-loop : tie.MeasureT-loop
 μ-loop archive left₀ home size₀ at₀ left size at = left
-
-digits-of-requires : tie.Need-digits-of-requires Inv-loop μ-loop
-digits-of-requires c κs =
-    let known = c .before .before in
-    omega (arith, c .home .ensures, home-small (now (known .before .args .archive)) (λ i. known .shared-slice-known .given i .fits))
 
 loop-holds : tie.Need-loop-holds Inv-loop μ-loop
 loop-holds c =
@@ -73,13 +67,13 @@ text-length-spec =
     (λ c κs. omega (arith, sound _ (c .before .pre) .whole))
     (λ c κs. search needs)
     (λ c. search needs)
-    digits-of-requires
-    (λ c κs. omega arith)
+    (λ c κs. search needs)
+    (λ c κs. search needs)
     (λ c. omega arith)
     (λ c. omega arith)
     loop-holds
     (λ c κs. omega arith)
-    (λ c κs. c .entry-at .ensures .1)
+    (λ c κs. search needs)
     (λ c. omega arith)
     (λ c. omega arith)
     (λ c. omega arith)
