@@ -22,9 +22,9 @@ use Rattle.archive.specs.declared.Stored.{Stored}
 use Rattle.archive.specs.declared.Stored.the-variants.{Bytes, Refused}
 use Rattle.archive.specs.declared.Restored.{Restored}
 use Rattle.archive.specs.declared.Restored.the-variants as restored
-use Rattle.archive.proofs.Restoring.{as-delivered, restore-leaves}
-use Rattle.archive.proofs.Theorems.{new-archive, new-reads, held-after}
-use Rattle.archive.proofs.Emptied.{empty-holds}
+use Rattle.archive.proofs.Calls.Restore.{as-delivered, restore-leaves}
+use Rattle.archive.proofs.Calls.AfterCapture.{new-archive, new-reads, held-after}
+use Rattle.archive.proofs.Calls.Empty.{empty-holds}
 
 -- ---- one offer
 
@@ -47,11 +47,13 @@ module _ (k : Key) (r : inRange k ≡ true) where
       now : (x : Stored) → List ℕ
       now x = keptOf x b (captureOut b (o .pdu) (o .bits) (o .lent))
 
-      picked : (p : Bool) {l : Option Held} → l ≡ pick p (some (heldFor (reading b .home) (o .pdu) (o .bits))) (heldIn b) → (n : ℕ) → Matches l (latest (Bytes n) p o last)
+      picked : (p : Bool) {l : Option Held} → l ≡ pick p (some (heldFor (reading b .home) (o .pdu) (o .bits))) (heldIn b) → (n : ℕ)
+          → Matches l (latest (Bytes n) p o last)
       picked true e n = subst (λ (l : Option Held). Matches l (some o)) (sym e) (refl, refl)
       picked false e n = subst (λ (l : Option Held). Matches l last) (sym e) m
 
-      go : (x : Stored) → answerTo b o ≡ x → (isArchive (now (answerTo b o)) ≡ true) × (Matches (heldIn (now (answerTo b o))) (latest (answerTo b o) (names (entryOf b o) k) o last))
+      go : (x : Stored) → answerTo b o ≡ x
+          → (isArchive (now (answerTo b o)) ≡ true) × (Matches (heldIn (now (answerTo b o))) (latest (answerTo b o) (names (entryOf b o) k) o last))
       go (Bytes n) e =
           rw e (new-archive b (o .pdu) (o .bits) n (o .lent) e, picked (names (entryOf b o) k) (held-after b (o .pdu) (o .bits) n (o .lent) e k r) n)
       go (Refused k) e = rw e (ok, m)
@@ -113,7 +115,8 @@ kept home lent m e os k r =
     record { archive = s .0; home-is = home-kept start os ∙ ap (λ (a : Archive). a .home) (z .1); held = s .1 }
 
 -- and restoring gives it, or 11
-module _ (home : ℕ) (lent : List ℕ) (m : ℕ) (e : emptyIs home (length lent) ≡ Bytes m) (os : List Offer) (k : Key) (r : inRange k ≡ true) (out : List ℕ) where
+module _ (home : ℕ) (lent : List ℕ) (m : ℕ) (e : emptyIs home (length lent) ≡ Bytes m) (os : List Offer) (k : Key) (r : inRange k ≡ true)
+    (out : List ℕ) where
   abbrev pub start : List ℕ
   start = take m (emptyOut home lent)
 
@@ -134,5 +137,6 @@ module _ (home : ℕ) (lent : List ℕ) (m : ℕ) (e : emptyIs home (length lent
 
   -- otherwise, with room for it, exactly the bits of the last
   pub always : (o : Offer) → last ≡ some o → bytesFor (o .bits) ≤ length out
-      → (restoreIs (afterAll start os) k (length out) ≡ restored.Bits (record { 0 = o .bits })) × (restoreOut (afterAll start os) k out ≡ over (o .pdu) out)
+      → (restoreIs (afterAll start os) k (length out) ≡ restored.Bits (record { 0 = o .bits }))
+      × (restoreOut (afterAll start os) k out ≡ over (o .pdu) out)
   always o l h = rw (l, le-leb (bytesFor (o .bits)) (length out) h) at history

@@ -15,7 +15,8 @@ ghost use Rattle.bits.specs.Inner.{Laid};
 ghost use Rattle.archive.specs.Model.{headerWidth, entryWidth};
 ghost use Rattle.archive.specs.Reading.{countOf, isArchive, reading};
 ghost use Rattle.archive.specs.Inner.{linesFrom};
-ghost use Rattle.archive.specs.Listing.{decimal, item, line, firstLine, listing, listIs, listOut, refusedLine, lengthWithin, textWithin, reportIs, reportOut};
+ghost use Rattle.archive.specs.Listing.{decimal, item, line, firstLine, listing, listIs, listOut};
+ghost use Rattle.archive.specs.Listing.{refusedLine, lengthWithin, textWithin, reportIs, reportOut};
 
 // How many digits a number has.
 fn digits_of(n: usize) -> usize

@@ -22,8 +22,8 @@ use Rattle.archive.specs.Restoring.{inRange, fetchIs}
 use Rattle.archive.specs.declared.Fetched.{Fetched}
 use Rattle.archive.specs.declared.Fetched.the-variants.{Body, NoArchive}
 use Rattle.archive.specs.declared.Fetched.the-variants as fetched
-use Rattle.archive.proofs.Lookup.{Right, BodyIs, fetch-right, fetch-none}
-use Rattle.archive.proofs.Capturing.{home-read}
+use Rattle.archive.proofs.Calls.Fetch.{Right, BodyIs, fetch-right, fetch-none}
+use Rattle.archive.proofs.Calls.Capture.{home-read}
 use Rattle.barring.specs.Decide.{partFor, judgedBy, keyFor, partIn, decideIs}
 use Rattle.barring.specs.Inner.{rulingOfBody}
 

@@ -37,7 +37,8 @@ matched home q none (some o) m = absurd m
 matched home q (some h) none m = absurd m
 
 -- from an empty archive, for any offers and every well-formed request
-module _ (home : ℕ) (lent : List ℕ) (m : ℕ) (e : emptyIs home (length lent) ≡ Bytes m) (os : List Offer) (q : Request) (f : requestRefusal q ≡ 0) where
+module _ (home : ℕ) (lent : List ℕ) (m : ℕ) (e : emptyIs home (length lent) ≡ Bytes m) (os : List Offer) (q : Request)
+    (f : requestRefusal q ≡ 0) where
   abbrev pub start : List ℕ
   start = take m (emptyOut home lent)
 

@@ -13,10 +13,10 @@ use Rattle.archive.specs.Model.{Archive, bytesOf}
 use Rattle.archive.specs.Filing.{entryFor, bodyAgrees, wellFormed}
 use Rattle.archive.specs.Reading.{reading, isArchive, Counted}
 use Rattle.archive.specs.declared.contents.Entry.{Entry}
-use Rattle.archive.proofs.Bodies.{agrees-says, agrees-is}
-use Rattle.archive.proofs.Capturing.{offered-agrees}
-use Rattle.archive.proofs.Writing as writing
-use Rattle.archive.proofs.Counts.{counted}
+use Rattle.archive.proofs.Model.Bodies.{agrees-says, agrees-is}
+use Rattle.archive.proofs.Calls.Capture.{offered-agrees}
+use Rattle.archive.proofs.Bytes.AsWritten as writing
+use Rattle.archive.proofs.Calls.Limits.{counted}
 
 -- Exactly the bytes of a well-formed archive pass: header, contents and bodies, nothing between or after.
 pub is-archive : (b : List ℕ) → Bytes b → (isArchive b ≡ true) ↔ ((a : Archive) × (wellFormed a ≡ true) × (bytesOf a ≡ b))

@@ -8,8 +8,9 @@ use denote.Ref.{now}
 use Rattle.bits.proofs.Tests.{said-no, said-yes}
 use Rattle.archive.specs.Reading.{isArchive}
 use Rattle.archive.specs.Restoring.{inRange, fetchIs}
-use Rattle.archive.proofs.Placing.{placeIn}
-use Rattle.archive.proofs.Lookup.{fetchedOf, fetch-none, fetch-out, fetch-place, ranged}
+use Rattle.archive.proofs.Bytes.Spliced.{placeIn}
+use Rattle.archive.proofs.Calls.Fetch.{fetchedOf, fetch-none, fetch-out, fetch-place}
+use Rattle.archive.proofs.Model.Keys.{ranged}
 use Rattle.archive.proofs.fetch.Statement.{statement}
 use Rattle.archive.proofs.fetch.Tie as tie
 

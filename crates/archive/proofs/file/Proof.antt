@@ -14,10 +14,10 @@ use Rattle.archive.specs.Keeping.{over, put, with}
 use Rattle.archive.specs.Inner.{Within, spliced, splicedLength}
 use Rattle.archive.specs.declared.Stored.the-variants.{Bytes}
 use Rattle.archive.specs.declared.checking.Place.{Place}
-use Rattle.archive.proofs.Checks.{sound}
-use Rattle.archive.proofs.Laying.{length-spliced, at-front}
-use Rattle.archive.proofs.Placing.{placeIn, within, new-count, new-length, new-bytes}
-use Rattle.archive.proofs.Capturing.{placed-over, placed-short, placed-whole}
+use Rattle.archive.proofs.Bytes.Checking.{sound}
+use Rattle.archive.proofs.Bytes.Copied.{length-spliced, at-front}
+use Rattle.archive.proofs.Bytes.Spliced.{placeIn, within, new-count, new-length, new-bytes}
+use Rattle.archive.proofs.Calls.Capture.{placed-over, placed-short, placed-whole}
 use Rattle.archive.proofs.file.Statement.{statement}
 use Rattle.archive.proofs.file.Tie as tie
 
@@ -36,9 +36,11 @@ unfolding placeIn
 found c = c .find .ensures
 
 inside : (c : tie.After-find) → Within (c .find .result) (b-of c)
-inside c = subst (λ (p : Place). Within p (b-of c)) (sym (found c)) (within (b-of c) (bytes c) (c .before .before .before .before .before .pre .0) (rank (h-of c)))
+inside c = subst (λ (p : Place). Within p (b-of c)) (sym (found c))
+    (within (b-of c) (bytes c) (c .before .before .before .before .before .pre .0) (rank (h-of c)))
 
-counted : (c : tie.After-count) → c .count .result + 1 ≡ length (put (h-of (c .before)) (heldIn (b-of (c .before)))) + c .before .find .result .entries
+counted : (c : tie.After-count)
+    → c .count .result + 1 ≡ length (put (h-of (c .before)) (heldIn (b-of (c .before)))) + c .before .find .result .entries
 counted c =
     let f = c .before in
     omega (
@@ -48,7 +50,8 @@ counted c =
       new-count (b-of f) (bytes f) (f .before .before .before .before .before .pre .0) (rank (h-of f)) (h-of f) refl,
     )
 
-sized : (c : tie.After-spliced-length) → c .spliced-length .result ≡ lengthOf (with (reading (b-of (c .before .before .before))) (h-of (c .before .before .before)))
+sized : (c : tie.After-spliced-length)
+    → c .spliced-length .result ≡ lengthOf (with (reading (b-of (c .before .before .before))) (h-of (c .before .before .before)))
 sized c =
     let f = c .before .before .before in
     c .spliced-length .ensures
@@ -56,11 +59,14 @@ sized c =
     ∙ new-length (b-of f) (bytes f) (f .before .before .before .before .before .pre .0) (rank (h-of f)) (h-of f) refl
 
 limits : (c : tie.After-within-limits)
-    → c .within-limits .result ≡ withinLimits (length (with (reading (b-of (c .before .before .before .before))) (h-of (c .before .before .before .before)) .held)) (lengthOf (with (reading (b-of (c .before .before .before .before))) (h-of (c .before .before .before .before))))
+    → c .within-limits .result
+    ≡ withinLimits (length (with (reading (b-of (c .before .before .before .before))) (h-of (c .before .before .before .before)) .held))
+    (lengthOf (with (reading (b-of (c .before .before .before .before))) (h-of (c .before .before .before .before))))
 unfolding reading
 limits c =
     let count = c .before .before .before in
-    let n : count .count .result + 1 - count .before .find .result .entries ≡ length (put (h-of (count .before)) (heldIn (b-of (count .before)))) = omega (arith, counted count) in
+    let n : count .count .result + 1 - count .before .find .result .entries ≡ length (put (h-of (count .before)) (heldIn (b-of (count .before)))) =
+    omega (arith, counted count) in
     c .within-limits .ensures ∙ (λ i. withinLimits (n i) (sized (c .before) i))
 
 spliced-length-requires : tie.Need-spliced-length-requires
@@ -79,8 +85,19 @@ splice-requires : tie.Need-splice-requires
 splice-requires c κs =
     let sizes = c .before .before .before .before in
     let count = sizes .before .before in
-    let f = count .before in
-    ((inside f, f .before .before .before .before .before .pre .1, omega (arith, count .count .ensures .0, sound (b-of f) (f .before .before .before .before .before .pre .0) .few)), omega (arith, sizes .spliced-length .ensures, c .before .if2 .left))
+    let f = count .before in (
+      (
+        inside f,
+        f .before .before .before .before .before .pre .1,
+        omega (
+          arith,
+          count .count .ensures .0,
+          sound (b-of f)
+              (f .before .before .before .before .before .pre .0) .few,
+        ),
+      ),
+      omega (arith, sizes .spliced-length .ensures, c .before .if2 .left),
+    )
 
 returns-3 : tie.Need-returns-3
 unfolding reading
@@ -103,7 +120,8 @@ returns-3 c =
     w .0 ∙ length-spliced (b-of f) (f .find .result) (count .count .result + 1 - f .find .result .entries) (h-of f .entry) (h-of f .body) (inside f)
     ∙ sym (within .before .spliced-length .ensures) ∙ sized (within .before)
     in (
-      ap (λ (k : ℕ). Bytes k) l ∙ placed-whole _ _ (said-yes (limits within) (test .before .if1 .left)) (omega (arith, sized (within .before), test .if2 .left)),
+      ap (λ (k : ℕ). Bytes k) l
+          ∙ placed-whole _ _ (said-yes (limits within) (test .before .if1 .left)) (omega (arith, sized (within .before), test .if2 .left)),
       w .1 ∙ ap (λ (k : List ℕ). over k (now (start .args .out))) e,
     )
 

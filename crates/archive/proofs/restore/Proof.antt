@@ -9,7 +9,7 @@ use lib.ListN.{length}
 use Rattle.bits.proofs.Tests.{said-no, said-yes}
 use Rattle.archive.specs.Restoring.{inRange, fetchIs, restores, restoreIs}
 use Rattle.archive.specs.declared.Fetched.{Fetched}
-use Rattle.archive.proofs.Restoring.{out-of-range, none-found, not-found, found-at, found-body, restore-leaves}
+use Rattle.archive.proofs.Calls.Restore.{out-of-range, none-found, not-found, found-at, found-body, restore-leaves}
 use Rattle.archive.proofs.restore.Statement.{statement}
 use Rattle.archive.proofs.restore.Tie as tie
 

@@ -17,7 +17,8 @@ returns c =
     let a = b .before .before .args in
     let body : r .read .result ≡ readIs (take (bytesFor (a .n .0)) (drop (a .at) (a .archive .now))) (a .n .0) =
     r .read .ensures
-    ∙ ap (λ (k : ℕ). readIs (take k (drop (a .at) (a .archive .now))) (a .n .0)) (add-sub-cancel-left (a .at) (b .bytes .result) ∙ b .bytes .ensures) in
+    ∙ ap (λ (k : ℕ). readIs (take k (drop (a .at) (a .archive .now))) (a .n .0))
+    (add-sub-cancel-left (a .at) (b .bytes .result) ∙ b .bytes .ensures) in
     c .rule .ensures ∙ rw (h .home .ensures, body)
 
 pub ruling-of-body-spec : {M : Type 1} → statement M

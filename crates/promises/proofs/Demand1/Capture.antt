@@ -19,11 +19,11 @@ use Rattle.archive.specs.Reading.{reading, isArchive}
 use Rattle.archive.specs.Keeping.{storedNumber, heldFor, captured, captureIs}
 use Rattle.archive.specs.Restoring.{lookup}
 use Rattle.archive.specs.declared.Stored.the-variants.{Bytes, Refused}
-use Rattle.archive.proofs.Putting.{isNone}
-use Rattle.archive.proofs.Capturing.{no-archive, capture-leaves}
-use Rattle.archive.proofs.Captured.{taken, captured-formed}
-use Rattle.archive.proofs.Writing.{length-written}
-use Rattle.archive.proofs.Counts.{fullFor, eight}
+use Rattle.archive.proofs.Model.Put.{isNone}
+use Rattle.archive.proofs.Calls.Capture.{no-archive, capture-leaves}
+use Rattle.archive.proofs.Calls.CaptureWrites.{taken, captured-formed}
+use Rattle.archive.proofs.Bytes.AsWritten.{length-written}
+use Rattle.archive.proofs.Calls.Limits.{fullFor, eight}
 use Rattle.promises.specs.Answers.{OneOf}
 use Rattle.promises.specs.Demand1.Reading as read
 use Rattle.promises.specs.Demand1.Capture.{number, Offered, Full, Given, success, damaged, unread, not-kept, full, too-long, no-room, Promise}

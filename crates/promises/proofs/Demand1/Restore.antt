@@ -16,7 +16,7 @@ use Rattle.archive.specs.Restoring.{restoredNumber, inRange, delivered, bodyOf,
 use Rattle.archive.specs.declared.contents.Key.{Key}
 use Rattle.archive.specs.declared.Restored.{Restored}
 use Rattle.archive.specs.declared.Restored.the-variants.{Bits, Refused}
-use Rattle.archive.proofs.Restoring.{out-of-range, no-archive, as-delivered, restore-leaves}
+use Rattle.archive.proofs.Calls.Restore.{out-of-range, no-archive, as-delivered, restore-leaves}
 use Rattle.promises.specs.Answers.{OneOf}
 use Rattle.promises.specs.Demand1.Restore.{number, held, Asked, Given, success, unranged, damaged, not-held, no-room, Promise}
 use Rattle.promises.proofs.Tables.{exactly}

@@ -16,14 +16,15 @@ use Rattle.archive.specs.Model.{Held, rankOf, rank, entryWidth, bodySize
 use Rattle.archive.specs.Filing.{bodyAgrees}
 use Rattle.archive.specs.Reading.{number3, heldAt, isArchive}
 use Rattle.archive.specs.declared.contents.Entry.{Entry}
-use Rattle.archive.proofs.Walks.{home-is}
-use Rattle.archive.proofs.Checks.{too-short, over-limits, begins, restOk, rest-low, rest-short, rest-bad, rest-next, rest-none}
+use Rattle.archive.proofs.Bytes.Walking.{home-is}
+use Rattle.archive.proofs.Bytes.Checking.{too-short, over-limits, begins, restOk, rest-low, rest-short, rest-bad, rest-next, rest-none}
 use Rattle.archive.proofs.checking.check.Statement.{statement}
 use Rattle.archive.proofs.checking.check.Tie as tie
 
 abbrev Inv-loop : tie.InvT-loop
 Inv-loop archive size home left₀ off₀ at₀ last₀ left off at last =
-    (at + entryWidth * left ≤ length archive) × (off ≤ length archive) × (length archive ≤ 65536) × (isArchive archive ≡ restOk archive home last left at off)
+    (at + entryWidth * left ≤ length archive) × (off ≤ length archive) × (length archive ≤ 65536)
+    × (isArchive archive ≡ restOk archive home last left at off)
 
 abbrev μ-loop : tie.MeasureT-loop
 μ-loop archive size home left₀ off₀ at₀ last₀ left off at last = left
@@ -80,23 +81,27 @@ returns-5 : tie.Need-returns-5 Inv-loop μ-loop
 returns-5 c =
     let bits = c .before .before in
     let loop = bits .before .before .before .before .before .before in
-    sym (loop .loop .inv .3 ∙ rest-short (b-of loop) _ _ _ _ _ (bits .before .before .before .before .before .loop-test .taken) (omega (arith, size (c .before))))
+    sym (loop .loop .inv .3
+    ∙ rest-short (b-of loop) _ _ _ _ _ (bits .before .before .before .before .before .loop-test .taken) (omega (arith, size (c .before))))
 
 agrees : (c : tie.After-body-agrees Inv-loop μ-loop)
-    → c .body-agrees .result ≡ bodyAgrees (home-of (c .before .before .before .before .before .before .before .before .before .before)) (here (c .before .before .before .before .before .before .before .before .before .before))
+    → c .body-agrees .result ≡ bodyAgrees (home-of (c .before .before .before .before .before .before .before .before .before .before))
+    (here (c .before .before .before .before .before .before .before .before .before .before))
 agrees c =
     let bytes = c .before .before .before in
     let loop = bytes .before .before .before .before .before .before .before in
     let off = loop .loop .off in
     let n : off + bytes .bytes .result - off ≡ bodySize (here loop) = add-sub-cancel-left off (bytes .bytes .result) ∙ size bytes in
     c .body-agrees .ensures
-    ∙ (λ i. bodyAgrees (home-of loop) (record { entry = bytes .before .before .before .before .before .entry-at .ensures .0 i; body = take (n i) (drop off (b-of loop)) }))
+    ∙ (λ i. bodyAgrees (home-of loop)
+    (record { entry = bytes .before .before .before .before .before .entry-at .ensures .0 i; body = take (n i) (drop off (b-of loop)) }))
 
 returns-6 : tie.Need-returns-6 Inv-loop μ-loop
 returns-6 c =
     let bytes = c .before .before .before .before in
     let loop = bytes .before .before .before .before .before .before .before in
-    sym (loop .loop .inv .3 ∙ rest-bad (b-of loop) _ _ _ _ _ (bytes .before .before .before .before .before .before .loop-test .taken) (said-no (agrees (c .before)) (c .if6 .taken)))
+    sym (loop .loop .inv .3 ∙ rest-bad (b-of loop) _ _ _ _ _ (bytes .before .before .before .before .before .before .loop-test .taken)
+    (said-no (agrees (c .before)) (c .if6 .taken)))
 
 loop-again : tie.Need-loop-again Inv-loop μ-loop
 loop-again c =
@@ -108,8 +113,10 @@ loop-again c =
       omega arith,
       omega arith,
       loop .loop .inv .3
-          ∙ rest-next b _ _ _ _ _ (high .before .before .before .before .loop-test .taken) (omega (arith, key (high .before))) (said-yes (agrees (c .before)) (c .if6 .left))
-          ∙ (λ i. restOk b (home-of loop) (sym (key (high .before)) i) (loop .loop .left - 1) (loop .loop .at + entryWidth) (loop .loop .off + sym (size bytes) i)),
+          ∙ rest-next b _ _ _ _ _ (high .before .before .before .before .loop-test .taken) (omega (arith, key (high .before)))
+          (said-yes (agrees (c .before)) (c .if6 .left))
+          ∙ (λ i. restOk b (home-of loop) (sym (key (high .before)) i) (loop .loop .left - 1) (loop .loop .at + entryWidth)
+          (loop .loop .off + sym (size bytes) i)),
     )
 
 returns-7 : tie.Need-returns-7 Inv-loop μ-loop

@@ -11,8 +11,8 @@ use Rattle.archive.specs.Model.{Held, rankOf, rank, headerWidth, entryWi
 use Rattle.archive.specs.Reading.{heldAt, heldFrom, heldIn, bodiesAt}
 use Rattle.archive.specs.Inner.{placeOf, seek}
 use Rattle.archive.specs.declared.contents.Entry.{Entry}
-use Rattle.archive.proofs.Walks.{sizes-next, seek-past, seek-held, seek-gap, seek-none}
-use Rattle.archive.proofs.Checks.{sound}
+use Rattle.archive.proofs.Bytes.Walking.{sizes-next, seek-past, seek-held, seek-gap, seek-none}
+use Rattle.archive.proofs.Bytes.Checking.{sound}
 use Rattle.archive.proofs.checking.find.Statement.{statement}
 use Rattle.archive.proofs.checking.find.Tie as tie
 
@@ -68,7 +68,12 @@ size c = c .bytes .ensures ∙ ap (λ (e : Entry). bytesFor (e .bits .0)) (c .be
 add-off : tie.Need-add-off-2 Inv-loop μ-loop
 add-off c =
     let loop = c .before .before .before .before .before .before .before in
-    omega (arith, size c, sizes-next (b-of loop) (loop .loop .left) (loop .loop .at) (loop .loop .off) (c .before .before .before .before .before .before .loop-test .taken))
+    omega (
+      arith,
+      size c,
+      sizes-next (b-of loop) (loop .loop .left) (loop .loop .at) (loop .loop .off)
+          (c .before .before .before .before .before .before .loop-test .taken),
+    )
 
 loop-again : tie.Need-loop-again Inv-loop μ-loop
 loop-again c =

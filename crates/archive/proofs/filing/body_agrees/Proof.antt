@@ -5,7 +5,7 @@ use borrow.Author.Tests.{eq-eqb, ne-eqb}
 use denote.Ref.{now}
 use Rattle.archive.specs.Filing.{names, agrees, bodyAgrees}
 use Rattle.archive.specs.declared.filing.Filing.{Filing}
-use Rattle.archive.proofs.Bodies.{body-filed}
+use Rattle.archive.proofs.Model.Bodies.{body-filed}
 use Rattle.archive.proofs.filing.body_agrees.Statement.{statement}
 use Rattle.archive.proofs.filing.body_agrees.Tie as tie
 

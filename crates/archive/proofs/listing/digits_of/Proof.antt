@@ -4,7 +4,7 @@ use Prim.Native.Nat.{_+_, _≤_, _<_}
 use native.Mathlib.Omega.{arith}
 use lib.ListN.{length}
 use Rattle.archive.specs.Listing.{decimal}
-use Rattle.archive.proofs.Decimal.{decimal-one, length-more, within}
+use Rattle.archive.proofs.Text.Decimal.{decimal-one, length-more, within}
 use Rattle.archive.proofs.listing.digits_of.Statement.{statement}
 use Rattle.archive.proofs.listing.digits_of.Tie as tie
 

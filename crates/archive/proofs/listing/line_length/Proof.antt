@@ -1,7 +1,7 @@
 -- The digits of four numbers, and the words. Assumes nothing.
 use native.Mathlib.Omega.{arith}
 use borrow.Author.Needs.{needs}
-use Rattle.archive.proofs.Lines.{length-line}
+use Rattle.archive.proofs.Text.Lines.{length-line}
 use Rattle.archive.proofs.listing.line_length.Statement.{statement}
 use Rattle.archive.proofs.listing.line_length.Tie as tie
 

@@ -10,7 +10,7 @@ use lib.Dec.{leb}
 use Rattle.bits.proofs.Tests.{said-no, said-yes}
 use Rattle.archive.specs.Reading.{reading, isArchive}
 use Rattle.archive.specs.Listing.{listing, reportOf, reportIs, reportOut}
-use Rattle.archive.proofs.Laying.{at-front}
+use Rattle.archive.proofs.Bytes.Copied.{at-front}
 use Rattle.archive.proofs.listing.report.Statement.{statement}
 use Rattle.archive.proofs.listing.report.Tie as tie
 
@@ -23,7 +23,8 @@ unfolding reportOf reportIs reportOut
 returns c =
     let refused = c .before .before in
     let test = refused .before .before in
-    let e : isArchive (now (test .before .before .before .before .args .archive)) ≡ false = said-no (test .before .check .ensures) (test .if1 .taken) in
+    let e : isArchive (now (test .before .before .before .before .args .archive)) ≡ false =
+    said-no (test .before .check .ensures) (test .if1 .taken) in
     (rw e (refused .write-refused .ensures .0), rw e (refused .write-refused .ensures .1))
 
 returns-2 : tie.Need-returns-2

@@ -11,14 +11,15 @@ use Rattle.archive.specs.Reading.{homeOf, countOf, reading}
 use Rattle.archive.specs.Listing.{decimal, firstLine, line, listing}
 use Rattle.archive.specs.Inner.{linesFrom}
 use Rattle.archive.specs.declared.contents.Entry.{Entry}
-use Rattle.archive.proofs.Checks.{sound}
-use Rattle.archive.proofs.Lines.{length-first, linesFrom-next, linesFrom-none, listing-read}
+use Rattle.archive.proofs.Bytes.Checking.{sound}
+use Rattle.archive.proofs.Text.Lines.{length-first, linesFrom-next, linesFrom-none, listing-read}
 use Rattle.archive.proofs.listing.text_length.Statement.{statement}
 use Rattle.archive.proofs.listing.text_length.Tie as tie
 
 abbrev Inv-loop : tie.InvT-loop
 Inv-loop archive left₀ home size₀ at₀ left size at =
-    (at + entryWidth * left ≤ length archive) × (size + 94 * left ≤ 48183) × (size + length (linesFrom archive left at) ≡ length (listing (reading archive)))
+    (at + entryWidth * left ≤ length archive) × (size + 94 * left ≤ 48183)
+    × (size + length (linesFrom archive left at) ≡ length (listing (reading archive)))
 
 abbrev μ-loop : tie.MeasureT-loop
 μ-loop archive left₀ home size₀ at₀ left size at = left
@@ -30,7 +31,8 @@ loop-holds c =
     let b = now (count .before .before .args .archive) in
     let s = sound b (count .before .before .pre) in
     let n = count .count .ensures .0 in
-    let lines : length (linesFrom b (count .count .result) headerWidth) ≡ length (linesFrom b (countOf b) headerWidth) = ap (λ (k : ℕ). length (linesFrom b k headerWidth)) n in
+    let lines : length (linesFrom b (count .count .result) headerWidth) ≡ length (linesFrom b (countOf b) headerWidth) =
+    ap (λ (k : ℕ). length (linesFrom b k headerWidth)) n in
     let first : length (firstLine (homeOf b) (countOf b)) ≡ length (decimal (home .home .result)) + length (decimal (count .count .result)) + 15 =
     (λ i. length (firstLine (sym (home .home .ensures) i) (sym n i))) ∙ length-first (home .home .result) (count .count .result)
     in
@@ -47,7 +49,8 @@ loop-again c =
     let l = loop .loop in
     let others = linesFrom b (l .left - 1) (l .at + entryWidth) in
     let next : length (linesFrom b (l .left) (l .at)) ≡ length (line (entry .entry-at .result)) + length others =
-    ap length (linesFrom-next b (l .left) (l .at) (entry .before .loop-test .taken) ∙ ap (λ (e : Entry). line e ++ others) (sym (entry .entry-at .ensures .0)))
+    ap length (linesFrom-next b (l .left) (l .at) (entry .before .loop-test .taken)
+    ∙ ap (λ (e : Entry). line e ++ others) (sym (entry .entry-at .ensures .0)))
     ∙ length-append (line (entry .entry-at .result)) others
     in
     (omega arith, omega arith, omega arith)

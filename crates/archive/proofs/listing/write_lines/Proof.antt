@@ -12,14 +12,15 @@ use Rattle.archive.specs.Reading.{countOf}
 use Rattle.archive.specs.Inner.{linesFrom}
 use Rattle.archive.specs.Listing.{line}
 use Rattle.archive.specs.declared.contents.Entry.{Entry}
-use Rattle.archive.proofs.Lines.{linesFrom-next, linesFrom-none}
+use Rattle.archive.proofs.Text.Lines.{linesFrom-next, linesFrom-none}
 use Rattle.archive.proofs.listing.write_lines.Statement.{statement}
 use Rattle.archive.proofs.listing.write_lines.Tie as tie
 
 abbrev Inv-loop : tie.InvT-loop
 Inv-loop archive out₀ start left₀ entry-at₀ at₀ out left entry-at at =
     (entry-at + entryWidth * left ≤ length archive) × (length out ≡ length out₀) × (at + length (linesFrom archive left entry-at) ≤ length out)
-    × ((out′ : List ℕ) (end : ℕ) → Laid out at (linesFrom archive left entry-at) out′ end → Laid out₀ start (linesFrom archive (countOf archive) headerWidth) out′ end)
+    × ((out′ : List ℕ) (end : ℕ) → Laid out at (linesFrom archive left entry-at) out′ end
+    → Laid out₀ start (linesFrom archive (countOf archive) headerWidth) out′ end)
 
 abbrev μ-loop : tie.MeasureT-loop
 μ-loop archive out₀ start left₀ entry-at₀ at₀ out left entry-at at = left
@@ -45,7 +46,8 @@ turn c =
     ∙ ap (λ (e : Entry). line e ++ others loop) (sym (c .entry-at .ensures .0))
 
 room : (c : tie.After-entry-at Inv-loop μ-loop)
-    → c .before .before .before .loop .at + length (line (c .entry-at .result) ++ others (c .before .before .before)) ≤ length (c .before .before .before .loop .out)
+    → c .before .before .before .loop .at + length (line (c .entry-at .result) ++ others (c .before .before .before)) ≤ length
+    (c .before .before .before .loop .out)
 room c =
     let l = c .before .before .before .loop in
     subst (λ (s : List ℕ). l .at + length s ≤ length (l .out)) (turn c) (l .inv .2)
@@ -66,7 +68,8 @@ loop-again c =
       rest-fits (others loop) (room entry) (laid .write-line .ensures),
       λ out′ end rest.
           l .inv .3 out′ end
-          (subst (λ (s : List ℕ). Laid (l .out) (l .at) s out′ end) (sym (turn entry)) (then (omega (arith, room entry)) (laid .write-line .ensures) rest)),
+          (subst (λ (s : List ℕ). Laid (l .out) (l .at) s out′ end) (sym (turn entry))
+          (then (omega (arith, room entry)) (laid .write-line .ensures) rest)),
     )
 
 same-length : tie.Need-same-length Inv-loop μ-loop
@@ -76,7 +79,8 @@ returns : tie.Need-returns Inv-loop μ-loop
 returns c =
     let l = c .before .loop in
     l .inv .3 (l .out) (l .at)
-    (subst (λ (s : List ℕ). Laid (l .out) (l .at) s (l .out) (l .at)) (sym (linesFrom-none (b-of (c .before)) (l .left) (l .entry-at) (c .loop-test .left))) (none (l .out) (l .at)))
+    (subst (λ (s : List ℕ). Laid (l .out) (l .at) s (l .out) (l .at))
+    (sym (linesFrom-none (b-of (c .before)) (l .left) (l .entry-at) (c .loop-test .left))) (none (l .out) (l .at)))
 
 pub write-lines-spec : {M : Type 1} → statement M
 write-lines-spec =

@@ -9,8 +9,8 @@ use denote.Ref.{now}
 use lib.ListN.{length}
 use Rattle.bits.specs.Inner.{Laid}
 use Rattle.archive.specs.Listing.{digit, decimal}
-use Rattle.archive.proofs.Decimal.{decimal-one, decimal-more, length-more}
-use Rattle.archive.proofs.Laying.{before-it}
+use Rattle.archive.proofs.Text.Decimal.{decimal-one, decimal-more, length-more}
+use Rattle.archive.proofs.Bytes.Copied.{before-it}
 use Rattle.archive.proofs.listing.write_number.Statement.{statement}
 use Rattle.archive.proofs.listing.write_number.Tie as tie
 
@@ -39,8 +39,10 @@ loop-again c =
     let at = test .before .before .before .before .args .at in
     let one-fewer = turn test in
     let place : l .place - 1 ≡ at + length (decimal (l .rest / 10)) = omega (arith, l .inv .0) in
-    let byte : Laid (l .out) (at + length (decimal (l .rest / 10))) (digit (l .rest % 10) ∷ []) (laid .write-byte .last .0) (laid .write-byte .result) =
-    subst (λ (k : ℕ). Laid (l .out) k (digit (l .rest % 10) ∷ []) (laid .write-byte .last .0) (laid .write-byte .result)) place (laid .write-byte .ensures)
+    let byte : Laid (l .out) (at + length (decimal (l .rest / 10))) (digit (l .rest % 10) ∷ []) (laid .write-byte .last .0)
+    (laid .write-byte .result) =
+    subst (λ (k : ℕ). Laid (l .out) k (digit (l .rest % 10) ∷ []) (laid .write-byte .last .0) (laid .write-byte .result)) place
+    (laid .write-byte .ensures)
     in
     let more = decimal-more (l .rest) (test .loop-test .taken) (omega arith) in
     let room : at + length (decimal (l .rest / 10) ++ (digit (l .rest % 10) ∷ [])) ≤ length (l .out) =

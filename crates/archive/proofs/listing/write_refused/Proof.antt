@@ -6,7 +6,7 @@ use borrow.Author.Tests.{le-leb, lt-leb}
 use denote.Ref.{now}
 use lib.ListN.{length}
 use lib.Dec.{leb}
-use Rattle.archive.proofs.Laying.{at-front}
+use Rattle.archive.proofs.Bytes.Copied.{at-front}
 use Rattle.archive.proofs.listing.write_refused.Statement.{statement}
 use Rattle.archive.proofs.listing.write_refused.Tie as tie
 

@@ -11,8 +11,8 @@ use Rattle.archive.specs.Model.{headerWidth}
 use Rattle.archive.specs.Reading.{countOf, reading}
 use Rattle.archive.specs.Listing.{firstLine, listing}
 use Rattle.archive.specs.Inner.{linesFrom}
-use Rattle.archive.proofs.Checks.{sound}
-use Rattle.archive.proofs.Lines.{listing-read}
+use Rattle.archive.proofs.Bytes.Checking.{sound}
+use Rattle.archive.proofs.Text.Lines.{listing-read}
 use Rattle.archive.proofs.listing.write_text.Statement.{statement}
 use Rattle.archive.proofs.listing.write_text.Tie as tie
 

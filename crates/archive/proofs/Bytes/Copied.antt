@@ -22,7 +22,8 @@ pub copied-one : (src dst : List ℕ) (i : ℕ) → i < length src → i < lengt
     → set (take i src ++ drop i dst) i (getD src i 0) ≡ take (i + 1) src ++ drop (i + 1) dst
 copied-one src dst i h k = rw add-one (go src dst i h k)
   where
-    go : (src dst : List ℕ) (i : ℕ) → i < length src → i < length dst → set (take i src ++ drop i dst) i (getD src i 0) ≡ take (suc i) src ++ drop (suc i) dst
+    go : (src dst : List ℕ) (i : ℕ) → i < length src → i < length dst
+        → set (take i src ++ drop i dst) i (getD src i 0) ≡ take (suc i) src ++ drop (suc i) dst
     go [] dst i h k = absurd (not-suc-le-zero h)
     go (x ∷ xs) [] i h k = absurd (not-suc-le-zero k)
     go (x ∷ xs) (y ∷ ys) zero h k = refl
@@ -32,7 +33,8 @@ pub copied-all : (src dst : List ℕ) (i : ℕ) → length src ≤ i → length 
 copied-all src dst i h k = rw (take-all i src h, drop-of-length-le dst k) (append-nil src)
 
 -- what a part that is lent on leaves, where the writer left s in it
-pub lent : (out s : List ℕ) (at : ℕ) {s′ : List ℕ} → s′ ≡ s → Laid out at s (take at out ++ (s′ ++ drop (at + length s - at) (drop at out))) (at + length s)
+pub lent : (out s : List ℕ) (at : ℕ) {s′ : List ℕ} → s′ ≡ s
+    → Laid out at s (take at out ++ (s′ ++ drop (at + length s - at) (drop at out))) (at + length s)
 lent out s at e = record { ends = refl; same = rw (e, add-sub-cancel-left, drop-drop) }
 
 pub length-front : (b : List ℕ) (at count : ℕ) (e : Entry) → headerWidth ≤ at → at ≤ length b → length (frontOf b at count e) ≡ at + entryWidth
@@ -45,8 +47,10 @@ pub length-spliced : (b : List ℕ) (p : Place) (count : ℕ) (e : Entry) (body 
     → length (spliced b p count e body) ≡ splicedLength b p (length body)
 unfolding backOf
 length-spliced b p count e body w =
-    let l₁ : length (take (p .off - nextAt p) (drop (nextAt p) b)) ≡ p .off - nextAt p = length-part b (nextAt p) (p .off - nextAt p) (omega (arith, w .contents, w .bodies)) in
-    let l₂ : length (take (length b - restAt p) (drop (restAt p) b)) ≡ length b - restAt p = length-part b (restAt p) (length b - restAt p) (omega (arith, w .bodies)) in
+    let l₁ : length (take (p .off - nextAt p) (drop (nextAt p) b)) ≡ p .off - nextAt p =
+    length-part b (nextAt p) (p .off - nextAt p) (omega (arith, w .contents, w .bodies)) in
+    let l₂ : length (take (length b - restAt p) (drop (restAt p) b)) ≡ length b - restAt p =
+    length-part b (restAt p) (length b - restAt p) (omega (arith, w .bodies)) in
     let l₃ = length-front b (p .at) count e (w .first) (omega (arith, w .contents, w .bodies)) in
     simp (length-append, l₁, l₂, l₃) (omega arith)
 

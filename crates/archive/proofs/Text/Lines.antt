@@ -10,7 +10,7 @@ use Rattle.archive.specs.Reading.{homeOf, countOf, entryAt, sizeAt, held
 use Rattle.archive.specs.Inner.{linesFrom}
 use Rattle.archive.specs.Listing.{decimal, item, firstLine, line, lines, listing}
 use Rattle.archive.specs.declared.contents.Entry.{Entry}
-use Rattle.archive.proofs.Walks.{home-is, length-heldFrom}
+use Rattle.archive.proofs.Bytes.Walking.{home-is, length-heldFrom}
 
 -- ---- lengths
 
@@ -43,7 +43,8 @@ unfolding lines linesFrom heldFrom
 lines-read b zero at off = refl
 lines-read b (suc n) at off = ap (λ (s : List ℕ). line (entryAt b at) ++ s) (lines-read b n (at + entryWidth) (off + sizeAt b at))
 
-pub listing-read : (b : List ℕ) → headerWidth ≤ length b → listing (reading b) ≡ firstLine (homeOf b) (countOf b) ++ linesFrom b (countOf b) headerWidth
+pub listing-read : (b : List ℕ) → headerWidth ≤ length b
+    → listing (reading b) ≡ firstLine (homeOf b) (countOf b) ++ linesFrom b (countOf b) headerWidth
 unfolding listing reading
 listing-read b h =
     let l = length-heldFrom b (countOf b) headerWidth (bodiesAt b) in

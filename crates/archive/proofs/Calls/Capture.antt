@@ -20,9 +20,9 @@ use Rattle.archive.specs.declared.Stored.{Stored}
 use Rattle.archive.specs.declared.Stored.the-variants.{Bytes, Refused}
 use Rattle.archive.specs.declared.contents.Entry.{Entry}
 use Rattle.archive.specs.declared.filing.Filing.the-variants.{Under, Nowhere}
-use Rattle.archive.proofs.Bodies.{Agrees, was-accepted}
-use Rattle.archive.proofs.Walks.{home-is}
-use Rattle.archive.proofs.Checks.{sound}
+use Rattle.archive.proofs.Model.Bodies.{Agrees, was-accepted}
+use Rattle.archive.proofs.Bytes.Walking.{home-is}
+use Rattle.archive.proofs.Bytes.Checking.{sound}
 use lib.Dec.{leb}
 use borrow.Author.Tests.{le-leb, lt-leb}
 
@@ -46,7 +46,8 @@ filed-under home s n f =
     (was-accepted (readIs s n .answer) (a .0), m .0, cc (m .1))
 
 -- a PDU that is filed agrees with its entry
-pub offered-agrees : (home : ℕ) (s : List ℕ) (n : ℕ) → readIs s n .answer ≡ reader.Accepted → mayHold (readIs s n .found) ≡ true → Agrees home (heldFor home s n)
+pub offered-agrees : (home : ℕ) (s : List ℕ) (n : ℕ) → readIs s n .answer ≡ reader.Accepted → mayHold (readIs s n .found) ≡ true
+    → Agrees home (heldFor home s n)
 offered-agrees home s n a m = record { accepted = a; may = m; entry = refl }
 
 -- ---- the answer
@@ -56,7 +57,8 @@ module _ (b s : List ℕ) (n room : ℕ) where
   unfolding captureIs
   no-archive e = rw e
 
-  pub not-filed : (home : ℕ) → isArchive b ≡ true → filingFor home s n ≡ Nowhere → captureIs b s n room ≡ Refused (notFiledNumber (readIs s n .answer))
+  pub not-filed : (home : ℕ) → isArchive b ≡ true → filingFor home s n ≡ Nowhere
+      → captureIs b s n room ≡ Refused (notFiledNumber (readIs s n .answer))
   unfolding captureIs filingFor filingOf
   not-filed home e = rw e (go (readIs s n .answer) (mayHold (readIs s n .found)))
     where
@@ -66,7 +68,8 @@ module _ (b s : List ℕ) (n room : ℕ) where
       go reader.Accepted false f = refl
       go (reader.Refused k) m f = refl
 
-  pub as-placed : isArchive b ≡ true → readIs s n .answer ≡ reader.Accepted → mayHold (readIs s n .found) ≡ true → captureIs b s n room ≡ placed (captured b s n) room
+  pub as-placed : isArchive b ≡ true → readIs s n .answer ≡ reader.Accepted → mayHold (readIs s n .found) ≡ true
+      → captureIs b s n room ≡ placed (captured b s n) room
   unfolding captureIs
   as-placed e f g = rw (e, f, g)
 
@@ -80,13 +83,15 @@ module _ (a : Archive) (room : ℕ) where
   pub placed-short : room < lengthOf a → Refused 8 ≡ placed a room
   unfolding placed
   placed-short h =
-      sym (ap (λ (p : Bool). pick p (Bytes (lengthOf a)) (Refused 8)) (and-false (withinLimits (length (a .held)) (lengthOf a)) (lt-leb (lengthOf a) room h)))
+      sym (ap (λ (p : Bool). pick p (Bytes (lengthOf a)) (Refused 8))
+      (and-false (withinLimits (length (a .held)) (lengthOf a)) (lt-leb (lengthOf a) room h)))
 
   pub placed-whole : withinLimits (length (a .held)) (lengthOf a) ≡ true → lengthOf a ≤ room → Bytes (lengthOf a) ≡ placed a room
   unfolding placed
   placed-whole e h = sym (ap (λ (p : Bool). pick p (Bytes (lengthOf a)) (Refused 8)) (both⁻¹ e (le-leb (lengthOf a) room h)))
 
 -- what is left in the lent buffer goes by the answer
-pub capture-leaves : (b s : List ℕ) (n : ℕ) (out : List ℕ) {r : Stored} → captureIs b s n (length out) ≡ r → captureOut b s n out ≡ leaves r (bytesOf (captured b s n)) out
+pub capture-leaves : (b s : List ℕ) (n : ℕ) (out : List ℕ) {r : Stored} → captureIs b s n (length out) ≡ r
+    → captureOut b s n out ≡ leaves r (bytesOf (captured b s n)) out
 unfolding captureOut
 capture-leaves b s n out e = ap (λ (r : Stored). leaves r (bytesOf (captured b s n)) out) e

@@ -7,17 +7,18 @@ use Prim.Native.Nat.{ℕ, suc, _+_, _*_, _-_}
 use native.Mathlib.Omega.{arith}
 use lib.ListN.{length, take, drop, length-append}
 use Rattle.bits.specs.Bits as are
-use Rattle.archive.specs.Model.{Held, rank, headerWidth, entryWidth, headerBytes, entryBytes, contentsOf, bodiesOf, bytesOf, bodySize, sizes, lengthOf}
+use Rattle.archive.specs.Model.{Held, rank, headerWidth, entryWidth, headerBytes, entryBytes}
+use Rattle.archive.specs.Model.{contentsOf, bodiesOf, bytesOf, bodySize, sizes, lengthOf}
 use Rattle.archive.specs.Reading.{number3, countOf, bodiesAt, heldIn, reading, isArchive}
 use Rattle.archive.specs.Keeping.{put, with}
 use Rattle.archive.specs.Inner.{seek, nextAt, restAt, Within, frontOf, backOf, spliced, splicedLength}
 use Rattle.archive.specs.declared.checking.Place.{Place}
-use Rattle.archive.proofs.Rules.{AllFit, all-fit}
-use Rattle.archive.proofs.Walks.{home-is, length-heldFrom}
-use Rattle.archive.proofs.Checks.{sound}
-use Rattle.archive.proofs.Reading.{written-as-read}
-use Rattle.archive.proofs.Writing.{part-of, length-header, length-contents, length-bodies}
-use Rattle.archive.proofs.Splitting.{Split, split, contents-join, bodies-join, sizes-join, fit-parts}
+use Rattle.archive.proofs.Model.Rules.{AllFit, all-fit}
+use Rattle.archive.proofs.Bytes.Walking.{home-is, length-heldFrom}
+use Rattle.archive.proofs.Bytes.Checking.{sound}
+use Rattle.archive.proofs.Bytes.AsRead.{written-as-read}
+use Rattle.archive.proofs.Bytes.AsWritten.{part-of, length-header, length-contents, length-bodies}
+use Rattle.archive.proofs.Bytes.Split.{Split, split, contents-join, bodies-join, sizes-join, fit-parts}
 
 -- ---- an archive around the place of a PDU
 
@@ -108,11 +109,14 @@ module _ (b : List ℕ) (y : are.Bytes b) (ok : isArchive b ≡ true) (key : ℕ
         let head = headerBytes home (length (heldIn b)) in
         let hl = length-header home (length (heldIn b)) in
         let l = parts in
-        let cs : contentsOf (heldIn b) ≡ cp ++ (cm ++ cq) = ap contentsOf (s .is) ∙ contents-join (s .pre) (s .mid ++ s .post) ∙ ap (λ (k : List ℕ). cp ++ k) (contents-join (s .mid) (s .post)) in
-        let bs : bodiesOf (heldIn b) ≡ bp ++ (bm ++ bq) = ap bodiesOf (s .is) ∙ bodies-join (s .pre) (s .mid ++ s .post) ∙ ap (λ (k : List ℕ). bp ++ k) (bodies-join (s .mid) (s .post)) in
+        let cs : contentsOf (heldIn b) ≡ cp ++ (cm ++ cq) =
+        ap contentsOf (s .is) ∙ contents-join (s .pre) (s .mid ++ s .post) ∙ ap (λ (k : List ℕ). cp ++ k) (contents-join (s .mid) (s .post)) in
+        let bs : bodiesOf (heldIn b) ≡ bp ++ (bm ++ bq) =
+        ap bodiesOf (s .is) ∙ bodies-join (s .pre) (s .mid ++ s .post) ∙ ap (λ (k : List ℕ). bp ++ k) (bodies-join (s .mid) (s .post)) in
         let w : b ≡ head ++ ((cp ++ (cm ++ cq)) ++ (bp ++ (bm ++ bq))) = sym (written-as-read b y ok) ∙ (λ i. head ++ (cs i ++ bs i)) in
         let p₂ : take (p .at - headerWidth) (drop headerWidth b) ≡ cp =
-        part-of b head cp ((cm ++ cq) ++ (bp ++ (bm ++ bq))) headerWidth (p .at - headerWidth) (w ∙ simp append-assoc) hl (omega (arith, l .cp, s .at-is))
+        part-of b head cp ((cm ++ cq) ++ (bp ++ (bm ++ bq))) headerWidth (p .at - headerWidth) (w ∙ simp append-assoc) hl
+        (omega (arith, l .cp, s .at-is))
         in
         let p₃ : take (p .off - nextAt p) (drop (nextAt p) b) ≡ cq ++ bp =
         part-of b (head ++ (cp ++ cm)) (cq ++ bp) (bm ++ bq) (nextAt p) (p .off - nextAt p) (w ∙ simp append-assoc)

@@ -16,10 +16,10 @@ use Rattle.archive.specs.Reading.{reading, isArchive}
 use Rattle.archive.specs.Keeping.{over}
 use Rattle.archive.specs.Listing.{firstLine, line, lines, listing, refusedLine, reportOf, reportIs, reportOut}
 use Rattle.archive.specs.declared.contents.Entry.{Entry}
-use Rattle.archive.proofs.Bodies.{Agrees, agrees-says, part-is, fits}
-use Rattle.archive.proofs.Rules.{kept, archive-formed}
-use Rattle.archive.proofs.Decimal.{within}
-use Rattle.archive.proofs.Lines.{length-line, length-first}
+use Rattle.archive.proofs.Model.Bodies.{Agrees, agrees-says, part-is, fits}
+use Rattle.archive.proofs.Model.Rules.{kept, archive-formed}
+use Rattle.archive.proofs.Text.Decimal.{within}
+use Rattle.archive.proofs.Text.Lines.{length-line, length-first}
 
 -- network and SSI have at most 8 digits, the part 1, the bit length 4
 line-size : (home : ℕ) (h : Held) → home < 16777216 → Agrees home h → length (line (h .entry)) ≤ 35
@@ -51,7 +51,16 @@ listing-size b ok =
     let count : length (a .held) < 1000 = omega (arith, f .few) in
     let first = length-first (a .home) (length (a .held)) in
     let all = length-append (firstLine (a .home) (length (a .held))) (lines (a .held)) in
-    omega (arith, all, first, within 7 (a .home) home, within 2 (length (a .held)) count, lines-size (a .home) 0 (a .held) (f .home) (f .rules), f .few)
+    omega (
+      arith,
+      all,
+      first,
+      within 7 (a .home) home,
+      within 2 (length (a .held)) count,
+      lines-size (a .home) 0 (a .held) (f .home)
+          (f .rules),
+      f .few,
+    )
 
 -- ---- the report
 

@@ -13,8 +13,8 @@ use Rattle.bits.proofs.Tests.{and-false, both}
 use Rattle.archive.specs.Model.{Held, rank, headerWidth, entryWidth, sizes, withinLimits}
 use Rattle.archive.specs.Filing.{bodyAgrees, keepsRules, wellFormed}
 use Rattle.archive.specs.Reading.{number3, countOf, sizeAt, heldAt, heldFrom, bodiesAt, heldIn, reading, isArchive}
-use Rattle.archive.proofs.Rules.{archive-formed}
-use Rattle.archive.proofs.Walks.{number3-small, heldFrom-next, length-heldFrom, sizes-next}
+use Rattle.archive.proofs.Model.Rules.{archive-formed}
+use Rattle.archive.proofs.Bytes.Walking.{number3-small, heldFrom-next, length-heldFrom, sizes-next}
 
 -- ---- entry by entry
 
@@ -43,7 +43,8 @@ module _ (b : List ℕ) (home last n at off : ℕ) (h : 0 < n) where
   unfolding restOk
   rest-short p =
       and-false (keepsRules home last (heldFrom b n at off))
-      (ne-eqb (off + sizes (heldFrom b n at off)) (length b) (λ (q : off + sizes (heldFrom b n at off) ≡ length b). omega (arith, sizes-next b n at off h)))
+      (ne-eqb (off + sizes (heldFrom b n at off)) (length b)
+      (λ (q : off + sizes (heldFrom b n at off) ≡ length b). omega (arith, sizes-next b n at off h)))
 
   pub rest-next : last < rank here → bodyAgrees home here ≡ true
       → restOk b home last n at off ≡ restOk b home (rank here) (n - 1) (at + entryWidth) (off + sizeAt b at)
@@ -64,7 +65,8 @@ module _ (b : List ℕ) where
   total = bodiesAt b + sizes (heldIn b)
 
   -- the check in the numbers that the code has
-  shape : isArchive b ≡ (ltb (number3 b 0) 16777216 && (withinLimits (countOf b) total && keepsRules (number3 b 0) 0 (heldIn b))) && eqb total (length b)
+  shape : isArchive b ≡ (ltb (number3 b 0) 16777216 && (withinLimits (countOf b) total && keepsRules (number3 b 0) 0 (heldIn b))) && eqb total
+      (length b)
   unfolding isArchive wellFormed reading
   shape = rw (length-heldFrom b (countOf b) headerWidth (bodiesAt b))
 
@@ -85,7 +87,8 @@ module _ (b : List ℕ) where
   pub over-limits : withinLimits (countOf b) (length b) ≡ false → isArchive b ≡ false
   over-limits h =
       shape ∙ as-long
-      ∙ ap (λ (x : Bool). x && eqb total (length b)) (and-false (ltb (number3 b 0) 16777216) (ap (λ (x : Bool). x && keepsRules (number3 b 0) 0 (heldIn b)) h))
+      ∙ ap (λ (x : Bool). x && eqb total (length b))
+      (and-false (ltb (number3 b 0) 16777216) (ap (λ (x : Bool). x && keepsRules (number3 b 0) 0 (heldIn b)) h))
 
   pub begins : Bytes b → withinLimits (countOf b) (length b) ≡ true → isArchive b ≡ restOk b (number3 b 0) 0 (countOf b) headerWidth (bodiesAt b)
   unfolding restOk

@@ -11,7 +11,7 @@ use Rattle.archive.specs.Model.{Held, rank, entryWidth, entryBytes, cont
 use Rattle.archive.specs.Keeping.{put}
 use Rattle.archive.specs.Inner.{seek}
 use Rattle.archive.specs.declared.checking.Place.{Place}
-use Rattle.archive.proofs.Rules.{AllFit, no-more, and-fit}
+use Rattle.archive.proofs.Model.Rules.{AllFit, no-more, and-fit}
 
 -- ---- where a key stands in a list
 
@@ -30,7 +30,18 @@ pub record Split (key at off : ℕ) (hs : List Held) (p : Place) : Type 0 where
 pub split : (key at off : ℕ) (hs : List Held) → Split key at off hs (seek key at off hs)
 unfolding seek
 split key at off [] =
-    record { pre = []; mid = []; post = []; is = refl; at-is = omega arith; off-is = omega arith; entries-is = refl; bits-is = refl; put-is = λ h e. refl }
+    record {
+      pre = [];
+      mid = [];
+      post = [];
+      is = refl;
+      at-is = omega arith;
+      off-is = omega arith;
+      entries-is = refl;
+      bits-is = refl;
+      put-is =
+          λ h e. refl;
+    }
 split key at off (x ∷ xs) = go (ltb (rank x) key) refl (eqb (rank x) key) refl (split key (at + entryWidth) (off + bodySize x) xs)
   where
     go : (p : Bool) → ltb (rank x) key ≡ p → (q : Bool) → eqb (rank x) key ≡ q

@@ -47,7 +47,8 @@ sizes-next b n at off h = rw (heldFrom-next b n at off h)
 
 module _ (b : List ℕ) (key n at off : ℕ) (h : 0 < n) where
   pub seek-past : rank (heldAt b at off) < key
-      → seek key at off (heldFrom b n at off) ≡ seek key (at + entryWidth) (off + sizeAt b at) (heldFrom b (n - 1) (at + entryWidth) (off + sizeAt b at))
+      → seek key at off (heldFrom b n at off)
+      ≡ seek key (at + entryWidth) (off + sizeAt b at) (heldFrom b (n - 1) (at + entryWidth) (off + sizeAt b at))
   unfolding seek
   seek-past p = rw (heldFrom-next b n at off h, lt-ltb _ _ p)
 
@@ -57,7 +58,12 @@ module _ (b : List ℕ) (key n at off : ℕ) (h : 0 < n) where
 
   pub seek-gap : key < rank (heldAt b at off) → seek key at off (heldFrom b n at off) ≡ placeOf at off 0 0
   unfolding seek
-  seek-gap p = rw (heldFrom-next b n at off h, le-ltb (rank (heldAt b at off)) key (omega arith), ne-eqb (rank (heldAt b at off)) key (λ q. omega arith))
+  seek-gap p = rw (
+    heldFrom-next b n at off h,
+    le-ltb (rank (heldAt b at off)) key (omega arith),
+    ne-eqb (rank (heldAt b at off)) key
+        (λ q. omega arith),
+  )
 
 pub seek-none : (b : List ℕ) (key n at off : ℕ) → n ≤ 0 → seek key at off (heldFrom b n at off) ≡ placeOf at off 0 0
 unfolding seek heldFrom

@@ -18,7 +18,7 @@ use Rattle.archive.specs.declared.Fetched.{Fetched}
 use Rattle.archive.specs.declared.Fetched.the-variants.{Body, NotHeld, NoArchive}
 use Rattle.archive.specs.declared.Restored.{Restored}
 use Rattle.archive.specs.declared.Restored.the-variants.{Bits, Refused}
-use Rattle.archive.proofs.Lookup.{BodyIs, Right, fetch-none, fetch-right}
+use Rattle.archive.proofs.Calls.Fetch.{BodyIs, Right, fetch-none, fetch-right}
 
 module _ (b : List ℕ) (k : Key) where
   -- the PDU held for the user and part

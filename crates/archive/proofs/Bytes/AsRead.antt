@@ -10,8 +10,8 @@ use lib.Seq.{drop-cons, drop-drop, take-add, take-all}
 use Rattle.bits.specs.Bits.{Bytes}
 use Rattle.archive.specs.Model.{headerWidth, entryWidth, bytes2, bytes3, headerBytes, entryBytes, contentsOf, bodiesOf, bytesOf, sizes}
 use Rattle.archive.specs.Reading.{number3, countOf, entryAt, sizeAt, heldFrom, bodiesAt, heldIn, reading, isArchive}
-use Rattle.archive.proofs.Walks.{length-heldFrom}
-use Rattle.archive.proofs.Checks.{sound}
+use Rattle.archive.proofs.Bytes.Walking.{length-heldFrom}
+use Rattle.archive.proofs.Bytes.Checking.{sound}
 
 -- ---- numbers in bytes
 
@@ -62,14 +62,16 @@ header-read b y h =
     let n₂ = bytes2-number {x = getD b 3 0} (y 4) in
     (λ i. n₁ i ++ n₂ i) ∙ bytes-from b 0 headerWidth 0 h
 
-contents-read : (b : List ℕ) (n at off : ℕ) → Bytes b → at + entryWidth * n ≤ length b → contentsOf (heldFrom b n at off) ≡ take (entryWidth * n) (drop at b)
+contents-read : (b : List ℕ) (n at off : ℕ) → Bytes b → at + entryWidth * n ≤ length b
+    → contentsOf (heldFrom b n at off) ≡ take (entryWidth * n) (drop at b)
 unfolding heldFrom
 contents-read b zero at off y h = refl
 contents-read b (suc n) at off y h =
     let e : entryWidth * suc n ≡ entryWidth + entryWidth * n = omega arith in
     let p = entry-read b at y (omega arith) in
     let q = contents-read b n (at + entryWidth) (off + sizeAt b at) y (omega arith) in
-    let r : contentsOf (heldFrom b (suc n) at off) ≡ take entryWidth (drop at b) ++ take (entryWidth * n) (drop (at + entryWidth) b) = λ i. p i ++ q i in
+    let r : contentsOf (heldFrom b (suc n) at off) ≡ take entryWidth (drop at b) ++ take (entryWidth * n) (drop (at + entryWidth) b) =
+    λ i. p i ++ q i in
     r ∙ rw (e, take-add entryWidth (entryWidth * n) (drop at b), drop-drop)
 
 bodies-read : (b : List ℕ) (n at off : ℕ) → bodiesOf (heldFrom b n at off) ≡ take (sizes (heldFrom b n at off)) (drop off b)

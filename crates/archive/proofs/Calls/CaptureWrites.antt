@@ -19,11 +19,11 @@ use Rattle.archive.specs.Reading.{reading, isArchive}
 use Rattle.archive.specs.Keeping.{heldFor, captured, ifAccepted, placed, captureIs, captureOut}
 use Rattle.archive.specs.declared.Stored.{Stored}
 use Rattle.archive.specs.declared.Stored.the-variants.{Bytes, Refused}
-use Rattle.archive.proofs.Bodies.{agrees-is, part-is}
-use Rattle.archive.proofs.Rules.{archive-formed, is-formed}
-use Rattle.archive.proofs.Writing.{length-written, read-as-written, passes}
-use Rattle.archive.proofs.Putting.{rules-put}
-use Rattle.archive.proofs.Capturing.{offered-agrees, capture-leaves}
+use Rattle.archive.proofs.Model.Bodies.{agrees-is, part-is}
+use Rattle.archive.proofs.Model.Rules.{archive-formed, is-formed}
+use Rattle.archive.proofs.Bytes.AsWritten.{length-written, read-as-written, passes}
+use Rattle.archive.proofs.Model.Put.{rules-put}
+use Rattle.archive.proofs.Calls.Capture.{offered-agrees, capture-leaves}
 
 -- what an accepted capture says
 pub record Taken (b s : List ℕ) (n room m : ℕ) : Type 0 where
@@ -34,7 +34,8 @@ pub record Taken (b s : List ℕ) (n room m : ℕ) : Type 0 where
   pub fits : lengthOf (captured b s n) ≤ room
   pub size : m ≡ lengthOf (captured b s n)
 
-was-placed : (a : Archive) (room m : ℕ) → placed a room ≡ Bytes m → (withinLimits (length (a .held)) (lengthOf a) ≡ true) × (lengthOf a ≤ room) × (m ≡ lengthOf a)
+was-placed : (a : Archive) (room m : ℕ) → placed a room ≡ Bytes m
+    → (withinLimits (length (a .held)) (lengthOf a) ≡ true) × (lengthOf a ≤ room) × (m ≡ lengthOf a)
 unfolding placed
 was-placed a room m e =
     let within = withinLimits (length (a .held)) (lengthOf a) in
@@ -80,7 +81,8 @@ module _ (b s : List ℕ) (n room m : ℕ) (t : Taken b s n room m) where
   captured-reads = read-as-written (captured b s n) captured-formed
 
 -- the written part of the lent buffer is the archive with the PDU
-pub written : (b s : List ℕ) (n m : ℕ) (out : List ℕ) → captureIs b s n (length out) ≡ Bytes m → take m (captureOut b s n out) ≡ bytesOf (captured b s n)
+pub written : (b s : List ℕ) (n m : ℕ) (out : List ℕ) → captureIs b s n (length out) ≡ Bytes m
+    → take m (captureOut b s n out) ≡ bytesOf (captured b s n)
 written b s n m out e =
     let t = taken b s n (length out) m e in
     let w = bytesOf (captured b s n) in

@@ -18,15 +18,13 @@ use Rattle.archive.specs.declared.Stored.the-variants.{Bytes}
 use Rattle.archive.specs.declared.Restored.the-variants as restored
 use Rattle.archive.specs.declared.contents.Key.{Key}
 use Rattle.archive.specs.declared.contents.Entry.{Entry}
-use Rattle.archive.proofs.Bodies.{fits, part-is, Fits}
-use Rattle.archive.proofs.Captured.{Taken, taken, captured-formed, captured-archive, captured-reads, written}
-use Rattle.archive.proofs.Writing.{length-written}
-use Rattle.archive.proofs.Lookup.{ranged}
-use Rattle.archive.proofs.Restoring.{as-delivered, restore-leaves}
-use Rattle.archive.proofs.Capturing.{home-fits, offered-agrees}
-use Rattle.archive.proofs.Putting.{lookup-put}
-use Rattle.archive.proofs.Tests.{is-named}
-use Rattle.archive.proofs.Users.{rank-names, in-range}
+use Rattle.archive.proofs.Model.Bodies.{fits, part-is, Fits}
+use Rattle.archive.proofs.Calls.CaptureWrites.{Taken, taken, captured-formed, captured-archive, captured-reads, written}
+use Rattle.archive.proofs.Bytes.AsWritten.{length-written}
+use Rattle.archive.proofs.Calls.Restore.{as-delivered, restore-leaves}
+use Rattle.archive.proofs.Calls.Capture.{home-fits, offered-agrees}
+use Rattle.archive.proofs.Model.Put.{lookup-put}
+use Rattle.archive.proofs.Model.Keys.{is-named, ranged, in-range, rank-names}
 
 -- after an accepted capture
 
@@ -49,10 +47,15 @@ module _ (b s : List ℕ) (n m : ℕ) (lent : List ℕ) (e : captureIs b s n (le
 
   -- the answer is the length of the new archive: header, contents and bodies, and nothing else
   pub new-length : (m ≡ length new) × (m ≡ lengthOf (captured b s n))
-  new-length = (t .size ∙ sym (ap length (written b s n m lent e) ∙ length-written (captured b s n) (captured-formed b s n (length lent) m t)), t .size)
+  new-length = (
+    t .size
+        ∙ sym (ap length (written b s n m lent e) ∙ length-written (captured b s n) (captured-formed b s n (length lent) m t)),
+    t .size,
+  )
 
   entry-fits : Fits (heldFor (reading b .home) s n)
-  entry-fits = fits (reading b .home) (heldFor (reading b .home) s n) (home-fits b (t .archive)) (offered-agrees (reading b .home) s n (t .accepted) (t .may))
+  entry-fits = fits (reading b .home) (heldFor (reading b .home) s n) (home-fits b (t .archive))
+      (offered-agrees (reading b .home) s n (t .accepted) (t .may))
 
   entry-ranged : inRange (entry .key) ≡ true
   entry-ranged =

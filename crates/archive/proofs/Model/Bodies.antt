@@ -25,7 +25,7 @@ use Rattle.archive.specs.declared.contents.Key.{Key}
 use Rattle.archive.specs.declared.contents.Entry.{Entry}
 use Rattle.archive.specs.declared.filing.Filing.{Filing}
 use Rattle.archive.specs.declared.filing.Filing.the-variants.{Under, Nowhere}
-use Rattle.archive.proofs.Tests.{named, is-named}
+use Rattle.archive.proofs.Model.Keys.{named, is-named}
 
 -- ---- a body and its entry
 
@@ -57,7 +57,8 @@ module _ (home : ℕ) (s : List ℕ) (n : ℕ) where
 -- a body agrees with its entry if that is the one it is filed under
 pub body-filed : (home : ℕ) (h : Held) → bodyAgrees home h ≡ agrees (filingFor home (h .body) (h .entry .bits .0)) (h .entry .key)
 unfolding bodyAgrees filingFor
-body-filed home h = go (isAccepted (readIs (h .body) (h .entry .bits .0) .answer)) (filingOf home (readIs (h .body) (h .entry .bits .0) .found) (h .entry .bits .0))
+body-filed home h = go (isAccepted (readIs (h .body) (h .entry .bits .0) .answer))
+    (filingOf home (readIs (h .body) (h .entry .bits .0) .found) (h .entry .bits .0))
   where
     go : (a : Bool) (f : Filing) → a && agrees f (h .entry .key) ≡ agrees (pick a f Nowhere) (h .entry .key)
     go true f = refl

@@ -10,13 +10,14 @@ use lib.Seq.{take-at, drop-at, getD-append-add}
 use borrow.Author.Tests.{eq-eqb}
 use Rattle.bits.specs.Bits.{Bytes}
 use Rattle.bits.proofs.Tests.{both}
-use Rattle.archive.specs.Model.{Held, Archive, headerWidth, entryWidth, headerBytes, entryBytes, contentsOf, bodiesOf, bytesOf, bodySize, sizes, lengthOf}
+use Rattle.archive.specs.Model.{Held, Archive, headerWidth, entryWidth, headerBytes, entryBytes}
+use Rattle.archive.specs.Model.{contentsOf, bodiesOf, bytesOf, bodySize, sizes, lengthOf}
 use Rattle.archive.specs.Filing.{wellFormed}
 use Rattle.archive.specs.Reading.{number2, number3, countOf, sizeAt, heldAt, heldFrom, reading, isArchive}
 use Rattle.archive.specs.declared.contents.Entry.{Entry}
-use Rattle.archive.proofs.Bodies.{Fits}
-use Rattle.archive.proofs.Rules.{AllFit, and-fit, all-fit, formed}
-use Rattle.archive.proofs.Reading.{written-as-read}
+use Rattle.archive.proofs.Model.Bodies.{Fits}
+use Rattle.archive.proofs.Model.Rules.{AllFit, and-fit, all-fit, formed}
+use Rattle.archive.proofs.Bytes.AsRead.{written-as-read}
 
 -- the byte at k after a front that ends at `at`
 seam : (b p q : List ℕ) (at k : ℕ) → b ≡ p ++ q → length p ≡ at → getD b (at + k) 0 ≡ getD q k 0
@@ -100,7 +101,8 @@ read-as-written a w =
     let h : number3 b 0 ≡ a .home = omega (arith, f .home) in
     let c : countOf b ≡ length (a .held) = omega (arith, f .few) in
     let d : heldFrom b (length (a .held)) headerWidth (headerWidth + entryWidth * length (a .held)) ≡ a .held =
-    held-from-back (a .held) b (headerBytes (a .home) (length (a .held))) [] headerWidth (headerWidth + entryWidth * length (a .held)) (all-fits a w) refl refl (omega (arith, length-contents (a .held)))
+    held-from-back (a .held) b (headerBytes (a .home) (length (a .held))) [] headerWidth (headerWidth + entryWidth * length (a .held))
+    (all-fits a w) refl refl (omega (arith, length-contents (a .held)))
     in
     λ i. record { home = h i; held = (ap (λ (k : ℕ). heldFrom b k headerWidth (headerWidth + entryWidth * k)) c ∙ d) i }
 

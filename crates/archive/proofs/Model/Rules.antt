@@ -10,7 +10,7 @@ use Rattle.bits.proofs.Tests.{both, both⁻¹}
 use Rattle.archive.specs.Model.{Held, Archive, rank, lengthOf, withinLimits}
 use Rattle.archive.specs.Filing.{bodyAgrees, keepsRules, wellFormed}
 use Rattle.archive.specs.Reading.{reading, isArchive}
-use Rattle.archive.proofs.Bodies.{agrees-says, Fits, fits}
+use Rattle.archive.proofs.Model.Bodies.{agrees-says, Fits, fits}
 
 pub data AllFit : List Held → Type 0 where
   no-more : AllFit []

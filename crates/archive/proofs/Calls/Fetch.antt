@@ -1,16 +1,15 @@
 -- What the search finds is what is held for the key, and where its body stands. Assumes nothing.
 use mathlib.Core.Path.{_≡_, refl}
-use mathlib.Core.Bool.{Bool, true, false, _&&_}
+use mathlib.Core.Bool.{Bool, true, false}
 use mathlib.Core.List.{List, [], _∷_}
 use mathlib.Core.Option.{Option, none, some}
-use Prim.Native.Nat.{ℕ, zero, suc, _+_, _≤_, _<_}
+use Prim.Native.Nat.{ℕ, zero, suc, _+_, _≤_}
 use native.Mathlib.Omega.{arith}
 use lib.ListN.{length, take, drop}
-use lib.Dec.{ltb, leb, eqb}
-use borrow.Author.Tests.{ltb-true, ltb-false, leb-true, ne-eqb}
+use lib.Dec.{ltb, eqb}
+use borrow.Author.Tests.{ltb-true, ltb-false, ne-eqb}
 use Rattle.bits.specs.Bits.{pick}
 use Rattle.bits.specs.Frame.{bytesFor}
-use Rattle.bits.proofs.Tests.{both}
 use Rattle.bits.specs.declared.BitCount.{BitCount}
 use Rattle.archive.specs.Model.{Held, rankOf, rank, entryWidth, bodySize, sizes}
 use Rattle.archive.specs.Filing.{keepsRules}
@@ -21,9 +20,9 @@ use Rattle.archive.specs.declared.contents.Key.{Key}
 use Rattle.archive.specs.declared.Fetched.{Fetched}
 use Rattle.archive.specs.declared.Fetched.the-variants.{Body, NotHeld, NoArchive}
 use Rattle.archive.specs.declared.checking.Place.{Place}
-use Rattle.archive.proofs.Rules.{Kept, kept}
-use Rattle.archive.proofs.Checks.{sound}
-use Rattle.archive.proofs.Placing.{placeIn}
+use Rattle.archive.proofs.Model.Rules.{Kept, kept}
+use Rattle.archive.proofs.Bytes.Checking.{sound}
+use Rattle.archive.proofs.Bytes.Spliced.{placeIn}
 
 -- ---- by order or not
 
@@ -31,11 +30,13 @@ use Rattle.archive.proofs.Placing.{placeIn}
 abbrev pub fetchedOf : Place → Fetched
 fetchedOf p = pick (eqb (p .entries) 0) NotHeld (Body (p .off) (p .bits))
 
-none-above : (home last : ℕ) (key : Key) (off : ℕ) (hs : List Held) → keepsRules home last hs ≡ true → rankOf key ≤ last → bodyFrom key off hs ≡ NotHeld
+none-above : (home last : ℕ) (key : Key) (off : ℕ) (hs : List Held) → keepsRules home last hs ≡ true → rankOf key ≤ last
+    → bodyFrom key off hs ≡ NotHeld
 none-above home last key off [] k h = refl
 none-above home last key off (x ∷ xs) k h =
     let u = kept home last x xs k in
-    rw (ne-eqb (rank x) (rankOf key) (λ (q : rank x ≡ rankOf key). omega (arith, u .rises))) (none-above home (rank x) key (off + bodySize x) xs (u .others) (omega (arith, u .rises)))
+    rw (ne-eqb (rank x) (rankOf key) (λ (q : rank x ≡ rankOf key). omega (arith, u .rises)))
+    (none-above home (rank x) key (off + bodySize x) xs (u .others) (omega (arith, u .rises)))
 
 seek-body : (home last : ℕ) (key : Key) (at off : ℕ) (hs : List Held) → keepsRules home last hs ≡ true
     → bodyFrom key off hs ≡ fetchedOf (seek (rankOf key) at off hs)
@@ -76,10 +77,12 @@ right-from : (b : List ℕ) (key : Key) (n at off : ℕ) → off + sizes (heldFr
     → Right b (bodyFrom key off (heldFrom b n at off)) (lookup key (heldFrom b n at off))
 unfolding heldFrom
 right-from b key zero at off h = refl
-right-from b key (suc n) at off h = go (eqb (rank (heldAt b at off)) (rankOf key)) refl (right-from b key n (at + entryWidth) (off + sizeAt b at) (omega arith))
+right-from b key (suc n) at off h =
+    go (eqb (rank (heldAt b at off)) (rankOf key)) refl (right-from b key n (at + entryWidth) (off + sizeAt b at) (omega arith))
   where
     go : (p : Bool) → eqb (rank (heldAt b at off)) (rankOf key) ≡ p
-        → Right b (bodyFrom key (off + sizeAt b at) (heldFrom b n (at + entryWidth) (off + sizeAt b at))) (lookup key (heldFrom b n (at + entryWidth) (off + sizeAt b at)))
+        → Right b (bodyFrom key (off + sizeAt b at) (heldFrom b n (at + entryWidth) (off + sizeAt b at)))
+        (lookup key (heldFrom b n (at + entryWidth) (off + sizeAt b at)))
         → Right b (bodyFrom key off (heldFrom b (suc n) at off)) (lookup key (heldFrom b (suc n) at off))
     go true e r = rw e (record { held = heldAt b at off; is = refl; bits = refl; body = refl; inside = omega arith })
     go false e r = rw e r
@@ -103,19 +106,3 @@ module _ (b : List ℕ) (k : Key) where
   pub fetch-right : isArchive b ≡ true → inRange k ≡ true → Right b (fetchIs b k) (lookup k (reading b .held))
   unfolding fetchIs reading
   fetch-right e f = rw (e, f) (right-from b k _ _ (bodiesAt b) (omega (arith, sound b e .whole)))
-
--- ---- in range
-
-pub record Ranged (k : Key) : Type 0 where
-  pub network : k .network < 16777216
-  pub ssi : k .ssi < 16777216
-  pub low : 1 ≤ k .part
-  pub high : k .part ≤ 2
-
-pub ranged : (k : Key) → inRange k ≡ true → Ranged k
-unfolding inRange
-ranged k e =
-    let p = both (ltb (k .network) 16777216) (ltb (k .ssi) 16777216 && (leb 1 (k .part) && leb (k .part) 2)) e in
-    let q = both (ltb (k .ssi) 16777216) (leb 1 (k .part) && leb (k .part) 2) (p .1) in
-    let r = both (leb 1 (k .part)) (leb (k .part) 2) (q .1) in
-    record { network = ltb-true _ _ (p .0); ssi = ltb-true _ _ (q .0); low = leb-true _ _ (r .0); high = leb-true _ _ (r .1) }

@@ -15,8 +15,8 @@ use Rattle.archive.specs.Reading.{reading, isArchive}
 use Rattle.archive.specs.Keeping.{leaves, emptyOf, emptyIs, emptyOut}
 use Rattle.archive.specs.declared.Stored.{Stored}
 use Rattle.archive.specs.declared.Stored.the-variants.{Bytes}
-use Rattle.archive.proofs.Rules.{is-formed}
-use Rattle.archive.proofs.Writing.{length-written, read-as-written, passes}
+use Rattle.archive.proofs.Model.Rules.{is-formed}
+use Rattle.archive.proofs.Bytes.AsWritten.{length-written, read-as-written, passes}
 
 empty-formed : (home : ℕ) → ltb home 16777216 ≡ true → wellFormed (emptyOf home) ≡ true
 unfolding keepsRules

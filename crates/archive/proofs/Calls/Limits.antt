@@ -18,11 +18,11 @@ use Rattle.archive.specs.Keeping.{put, heldFor, captured, placed, captur
 use Rattle.archive.specs.Restoring.{lookup}
 use Rattle.archive.specs.declared.Stored.{Stored}
 use Rattle.archive.specs.declared.Stored.the-variants.{Bytes, Refused}
-use Rattle.archive.proofs.Rules.{kept, archive-formed}
-use Rattle.archive.proofs.Walks.{length-heldFrom}
-use Rattle.archive.proofs.Checks.{sound}
-use Rattle.archive.proofs.Capturing.{as-placed}
-use Rattle.archive.proofs.Putting.{isNone, length-put}
+use Rattle.archive.proofs.Model.Rules.{kept, archive-formed}
+use Rattle.archive.proofs.Bytes.Walking.{length-heldFrom}
+use Rattle.archive.proofs.Bytes.Checking.{sound}
+use Rattle.archive.proofs.Calls.Capture.{as-placed}
+use Rattle.archive.proofs.Model.Put.{isNone, length-put}
 
 -- ---- the entry count is the number of keys held
 
@@ -68,14 +68,16 @@ either false false false x y = refl
 
 pub eight : (b s : List ℕ) (n room : ℕ) → isArchive b ≡ true → readIs s n .answer ≡ reader.Accepted → mayHold (readIs s n .found) ≡ true
     → captureIs b s n room
-    ≡ pick (fullFor b (heldFor (reading b .home) s n) || (ltb 65536 (lengthOf (captured b s n)) || ltb room (lengthOf (captured b s n)))) (Refused 8) (Bytes (lengthOf (captured b s n)))
+    ≡ pick (fullFor b (heldFor (reading b .home) s n) || (ltb 65536 (lengthOf (captured b s n)) || ltb room (lengthOf (captured b s n)))) (Refused 8)
+    (Bytes (lengthOf (captured b s n)))
 unfolding placed captured
 eight b s n room ok a m =
     let h = heldFor (reading b .home) s n in
     let f = archive-formed b ok in
     let size = lengthOf (captured b s n) in
     let c : leb (length (put h (reading b .held))) 512 ≡ not (fullFor b h) =
-    ap (λ (k : ℕ). leb k 512) (length-put (reading b .home) 0 h (reading b .held) (f .rules)) ∙ one-too-many (length (reading b .held)) (isNone (lookup (h .entry .key) (reading b .held))) (f .few)
+    ap (λ (k : ℕ). leb k 512) (length-put (reading b .home) 0 h (reading b .held) (f .rules))
+    ∙ one-too-many (length (reading b .held)) (isNone (lookup (h .entry .key) (reading b .held))) (f .few)
     in
     as-placed b s n room ok a m
     ∙ (λ i. pick ((c i && over-not size 65536 i) && over-not size room i) (Bytes size) (Refused 8))
