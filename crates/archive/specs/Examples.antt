@@ -8,13 +8,14 @@ use Rattle.bits.specs.Bits.{bits}
 use Rattle.bits.specs.Frame.{framed}
 use Rattle.grammar.specs.Grammar.{grammar, networkOf}
 use Rattle.reader.specs.Read.{readIs}
-use Rattle.archive.specs.Model.{Held, Archive, keyFor, headerBytes, entryBytes, bytesOf, lengthOf}
+use Rattle.archive.specs.Model.{Held, Archive, headerBytes, entryBytes, bytesOf, lengthOf}
 use Rattle.archive.specs.Reading.{heldFrom, bodiesAt, reading, isArchive}
 use Rattle.archive.specs.Keeping.{emptyOf, emptyIs, emptyOut, with, captured, placed, captureIs, captureOut}
-use Rattle.archive.specs.Filing.{wellFormed, keepsRules}
+use Rattle.archive.specs.Filing.{filingOf, bodyAgrees, wellFormed, keepsRules}
 use Rattle.archive.specs.Restoring.{bodyFrom, lookup}
-use Rattle.archive.specs.Listing.{digits, decimal, item, firstLine, line, lines, listing}
-use Rattle.archive.specs.declared.Archived.the-variants.{Bytes}
+use Rattle.archive.specs.Listing.{digits, decimal, item, firstLine, line, lines, listing, reportOf, reportIs, reportOut}
+use Rattle.archive.specs.declared.contents.Key.{Key}
+use Rattle.archive.specs.declared.Stored.the-variants.{Bytes}
 use Rattle.archive.specs.declared.Fetched.the-variants.{Body}
 
 -- profile A as a PDU of 138 bits
@@ -22,9 +23,13 @@ abbrev pub profileA : List ℕ
 profileA =
     0x49 ∷ 0x82 ∷ 0x00 ∷ 0x00 ∷ 0x0a ∷ 0x21 ∷ 0x21 ∷ 0x20 ∷ 0x00 ∷ 0x0c ∷ 0x80 ∷ 0x00 ∷ 0x0c ∷ 0x70 ∷ 0x80 ∷ 0x00 ∷ 0x4b ∷ 0x00 ∷ []
 
--- held for user 1/5, part 1
+-- a part of user 1/5
+abbrev pub partOf5 : ℕ → Key
+partOf5 part = record { network = 1; ssi = 5; part = part }
+
+-- held as its part 1
 abbrev pub heldA : Held
-heldA = record { entry = record { network = 1; ssi = 5; part = 1; bits = record { 0 = 138 } }; body = profileA }
+heldA = record { entry = record { key = partOf5 1; bits = record { 0 = 138 } }; body = profileA }
 
 abbrev pub holdingA : Archive
 holdingA = record { home = 1; held = heldA ∷ [] }
@@ -54,21 +59,22 @@ captured-again : with holdingA heldA ≡ holdingA
 captured-again = refl
 
 -- held for its user and part, and for no other part
-found-a : lookup (keyFor 1 5 1) (holdingA .held) ≡ some heldA
+found-a : lookup (partOf5 1) (holdingA .held) ≡ some heldA
 found-a = refl
 
-other-part : lookup (keyFor 1 5 2) (holdingA .held) ≡ none
+other-part : lookup (partOf5 2) (holdingA .held) ≡ none
 other-part = refl
 
 -- its body begins after the header and the one entry
-place-a : bodyFrom (keyFor 1 5 1) (bodiesAt bytesA) (holdingA .held) ≡ Body 14 (record { 0 = 138 })
+place-a : bodyFrom (partOf5 1) (bodiesAt bytesA) (holdingA .held) ≡ Body 14 (record { 0 = 138 })
 place-a = refl
 
 -- ---- the calls themselves
 
 -- `unfolding calls` opens all of them, down to the PDU's bits
 unfoldable pub calls : Unit {0}
-unfolding grammar readIs framed bits emptyIs emptyOut captureIs captureOut captured placed isArchive reading heldFrom wellFormed keepsRules headerBytes entryBytes networkOf
+unfolding grammar readIs framed bits emptyIs emptyOut captureIs captureOut captured placed isArchive reading heldFrom
+    wellFormed keepsRules headerBytes entryBytes networkOf
 calls = tt
 
 -- an empty archive of home network 1; the bytes after it stay
@@ -112,3 +118,20 @@ textA =
 listing-a : listing holdingA ≡ textA
 unfolding listing firstLine lines line item decimal digits
 listing-a = refl
+
+-- ---- the report
+
+report-a : reportOf bytesA ≡ textA
+unfolding calls filingOf bodyAgrees reportOf listing firstLine lines line item decimal digits
+report-a = refl
+
+-- `refused 7` on its line; the bytes after it stay
+report-none : (reportIs [] 12 ≡ 10)
+    × (reportOut [] (replicate 12 0xff) ≡ 114 ∷ 101 ∷ 102 ∷ 117 ∷ 115 ∷ 101 ∷ 100 ∷ 32 ∷ 55 ∷ 10 ∷ 0xff ∷ 0xff ∷ [])
+unfolding calls reportOf reportIs reportOut
+report-none = (refl, refl)
+
+-- a buffer of 9 bytes is too short for it
+report-short : (reportIs [] 9 ≡ 0) × (reportOut [] (replicate 9 0xff) ≡ replicate 9 0xff)
+unfolding calls reportOf reportIs reportOut
+report-short = (refl, refl)

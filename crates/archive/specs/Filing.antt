@@ -9,14 +9,18 @@ use Rattle.grammar.specs.Grammar.{networkOf}
 use Rattle.grammar.specs.declared.record.Record.{Record}
 use Rattle.reader.specs.Read.{readIs}
 use Rattle.judging.specs.Judge.{isAccepted, mayHold, userOf}
-use Rattle.archive.specs.Model.{Held, Archive, keyOf, lengthOf, withinLimits}
+use Rattle.archive.specs.Model.{Held, Archive, rank, lengthOf, withinLimits}
+use Rattle.archive.specs.declared.contents.Key.{Key}
 use Rattle.archive.specs.declared.contents.Entry.{Entry}
 use Rattle.archive.specs.declared.filing.Filing.{Filing}
 use Rattle.archive.specs.declared.filing.Filing.the-variants.{Under, Nowhere}
 
 -- a user's network is the extension if present, otherwise the home network; results 1 and 2 are parts 1 and 2: identities, numbers
 abbrev pub entryFor : ℕ → Record → ℕ → Entry
-entryFor home r n = record { network = networkOf home (userOf r); ssi = userOf r .ssi; part = r .result; bits = record { 0 = n } }
+entryFor home r n = record {
+  key = record { network = networkOf home (userOf r); ssi = userOf r .ssi; part = r .result };
+  bits = record { 0 = n };
+}
 
 unfoldable pub filingOf : ℕ → Record → ℕ → Filing
 filingOf home r n = pick (mayHold r) (Under (entryFor home r n)) Nowhere
@@ -24,24 +28,24 @@ filingOf home r n = pick (mayHold r) (Under (entryFor home r n)) Nowhere
 -- ---- an archive that keeps the rules
 
 -- the entry is of that network, SSI and part
-abbrev pub names : Entry → ℕ → ℕ → ℕ → Bool
-names e network ssi part = eqb (e .network) network && (eqb (e .ssi) ssi && eqb (e .part) part)
+abbrev pub names : Entry → Key → Bool
+names e k = eqb (e .key .network) (k .network) && (eqb (e .key .ssi) (k .ssi) && eqb (e .key .part) (k .part))
 
 -- network, SSI and part agree
-abbrev pub agrees : Filing → Entry → Bool
-agrees (Under f) e = names f (e .network) (e .ssi) (e .part)
-agrees Nowhere e = false
+abbrev pub agrees : Filing → Key → Bool
+agrees (Under e) k = names e k
+agrees Nowhere k = false
 
 -- the body is a legal PDU that is filed under its entry
 unfoldable pub bodyAgrees : ℕ → Held → Bool
 bodyAgrees home h =
     isAccepted (readIs (h .body) (h .entry .bits .0) .answer)
-    && agrees (filingOf home (readIs (h .body) (h .entry .bits .0) .found) (h .entry .bits .0)) (h .entry)
+    && agrees (filingOf home (readIs (h .body) (h .entry .bits .0) .found) (h .entry .bits .0)) (h .entry .key)
 
--- entries rise strictly, from above a key on, and each body agrees with its entry
+-- entries rise strictly, from above a rank on, and each body agrees with its entry
 unfoldable pub keepsRules : ℕ → ℕ → List Held → Bool
 keepsRules home last [] = true
-keepsRules home last (h ∷ hs) = ltb last (keyOf h) && (bodyAgrees home h && keepsRules home (keyOf h) hs)
+keepsRules home last (h ∷ hs) = ltb last (rank h) && (bodyAgrees home h && keepsRules home (rank h) hs)
 
 unfoldable pub wellFormed : Archive → Bool
 wellFormed a = ltb (a .home) 16777216 && (withinLimits (length (a .held)) (lengthOf a) && keepsRules (a .home) 0 (a .held))

@@ -8,8 +8,9 @@ use Rattle.reader.specs.Read.{readIs}
 use Rattle.archive.specs.Filing.{entryFor, names}
 use Rattle.archive.specs.Reading.{reading}
 use Rattle.archive.specs.Keeping.{captureIs, captureOut}
-use Rattle.archive.specs.declared.Archived.{Archived}
-use Rattle.archive.specs.declared.Archived.the-variants.{Bytes, Refused}
+use Rattle.archive.specs.declared.Stored.{Stored}
+use Rattle.archive.specs.declared.Stored.the-variants.{Bytes, Refused}
+use Rattle.archive.specs.declared.contents.Key.{Key}
 use Rattle.archive.specs.declared.contents.Entry.{Entry}
 
 -- an offered PDU, its bit length, and the buffer lent for its capture
@@ -19,11 +20,11 @@ pub record Offer : Type 0 where
   pub lent : List ℕ
 
 -- the archive to go on with: what was written, or the old one
-abbrev pub keptOf : Archived → List ℕ → List ℕ → List ℕ
+abbrev pub keptOf : Stored → List ℕ → List ℕ → List ℕ
 keptOf (Bytes n) old out = take n out
 keptOf (Refused k) old out = old
 
-abbrev pub answerTo : List ℕ → Offer → Archived
+abbrev pub answerTo : List ℕ → Offer → Stored
 answerTo b o = captureIs b (o .pdu) (o .bits) (length (o .lent))
 
 unfoldable pub after : List ℕ → Offer → List ℕ
@@ -40,12 +41,11 @@ abbrev pub entryOf : List ℕ → Offer → Entry
 entryOf b o = entryFor (reading b .home) (readIs (o .pdu) (o .bits) .found) (o .bits)
 
 -- an accepted offer for that user and part is the last; any other offer leaves it
-abbrev pub latest : Archived → Bool → Offer → Option Offer → Option Offer
+abbrev pub latest : Stored → Bool → Offer → Option Offer → Option Offer
 latest (Bytes n) true o last = some o
 latest (Bytes n) false o last = last
 latest (Refused k) same o last = last
 
-unfoldable pub lastAccepted : ℕ → ℕ → ℕ → List ℕ → Option Offer → List Offer → Option Offer
-lastAccepted network ssi part b last [] = last
-lastAccepted network ssi part b last (o ∷ os) =
-    lastAccepted network ssi part (after b o) (latest (answerTo b o) (names (entryOf b o) network ssi part) o last) os
+unfoldable pub lastAccepted : Key → List ℕ → Option Offer → List Offer → Option Offer
+lastAccepted k b last [] = last
+lastAccepted k b last (o ∷ os) = lastAccepted k (after b o) (latest (answerTo b o) (names (entryOf b o) k) o last) os

@@ -10,11 +10,12 @@ use Rattle.reader.specs.Read.{readIs}
 use Rattle.reader.specs.declared.Answer.{Answer}
 use Rattle.reader.specs.declared.Answer.the-variants as reader
 use Rattle.judging.specs.Judge.{isAccepted}
-use Rattle.archive.specs.Model.{Held, Archive, keyOf, headerWidth, entryWidth, headerBytes, entryBytes, bodySize}
+use Rattle.archive.specs.Model.{Held, Archive, rank, headerWidth, entryWidth, headerBytes, entryBytes, bodySize}
 use Rattle.archive.specs.Filing.{filingOf}
 use Rattle.archive.specs.Reading.{homeOf, entryAt, reading}
 use Rattle.archive.specs.Keeping.{with}
 use Rattle.archive.specs.Listing.{line}
+use Rattle.archive.specs.declared.contents.Key.{Key}
 use Rattle.archive.specs.declared.contents.Entry.{Entry}
 use Rattle.archive.specs.declared.checking.Place.{Place}
 use Rattle.archive.specs.declared.filing.Filing.{Filing}
@@ -27,15 +28,15 @@ unfoldable pub filingFor : ℕ → List ℕ → ℕ → Filing
 filingFor home s n = pick (isAccepted (readIs s n .answer)) (filingOf home (readIs s n .found) n) Nowhere
 
 -- the number with which a PDU is not filed: its own refusal, or 6
-abbrev pub unfitNumber : Answer → ℕ
-unfitNumber reader.Accepted = 6
-unfitNumber (reader.Refused k) = k
+abbrev pub notFiledNumber : Answer → ℕ
+notFiledNumber reader.Accepted = 6
+notFiledNumber (reader.Refused k) = k
 
 -- the archive of some bytes with a body under an entry
 abbrev pub filedIn : List ℕ → Entry → List ℕ → Archive
 filedIn b e body = with (reading b) (record { entry = e; body = body })
 
--- ---- the place of a key
+-- ---- the place of a key, by its rank
 
 -- a place with so many entries, none or one, and a body of so many bits
 abbrev pub placeOf : ℕ → ℕ → ℕ → ℕ → Place
@@ -43,11 +44,11 @@ placeOf at off entries bits = record { at = at; off = off; entries = entries; bi
 
 -- the search, by order: the entry of the key, or the gap where it would go
 unfoldable pub seek : ℕ → ℕ → ℕ → List Held → Place
-seek key at off [] = placeOf at off 0 0
-seek key at off (h ∷ hs) =
-    pick (ltb (keyOf h) key)
-    (seek key (at + entryWidth) (off + bodySize h) hs)
-    (pick (eqb (keyOf h) key) (placeOf at off 1 (h .entry .bits .0)) (placeOf at off 0 0))
+seek r at off [] = placeOf at off 0 0
+seek r at off (h ∷ hs) =
+    pick (ltb (rank h) r)
+    (seek r (at + entryWidth) (off + bodySize h) hs)
+    (pick (eqb (rank h) r) (placeOf at off 1 (h .entry .bits .0)) (placeOf at off 0 0))
 
 -- ---- a new entry and body for those at a place
 
@@ -65,11 +66,14 @@ pub record Within (p : Place) (b : List ℕ) : Type 0 where
   pub bodies : restAt p ≤ length b
   pub small : length b ≤ 65536
 
--- an entry's numbers fit their bytes
+-- a key's numbers, and an entry's, fit their bytes
+pub record KeyFits (k : Key) : Type 0 where
+  pub network : k .network < 16777216
+  pub ssi : k .ssi < 16777216
+  pub part : k .part < 256
+
 pub record EntryFits (e : Entry) : Type 0 where
-  pub network : e .network < 16777216
-  pub ssi : e .ssi < 16777216
-  pub part : e .part < 256
+  pub key : KeyFits (e .key)
   pub bits : e .bits .0 < 65536
 
 -- header, contents before the place, the new entry

@@ -4,28 +4,28 @@ use mathlib.Core.List.{List, [], _∷_, _++_}
 use Prim.Native.Nat.{ℕ}
 use lib.ListN.{length, drop}
 use lib.Dec.{ltb, leb, eqb}
-use Rattle.bits.specs.Bits.{pick}
+use Rattle.bits.specs.Bits.{pick, guard}
 use Rattle.reader.specs.Read.{readIs}
 use Rattle.reader.specs.declared.Answer.{Answer}
 use Rattle.reader.specs.declared.Answer.the-variants as reader
 use Rattle.judging.specs.Judge.{mayHold}
-use Rattle.archive.specs.Model.{Held, Archive, keyOf, headerWidth, bytesOf, lengthOf, withinLimits}
+use Rattle.archive.specs.Model.{Held, Archive, rank, headerWidth, bytesOf, lengthOf, withinLimits}
 use Rattle.archive.specs.Filing.{entryFor}
 use Rattle.archive.specs.Reading.{reading, isArchive}
-use Rattle.archive.specs.declared.Archived.{Archived}
-use Rattle.archive.specs.declared.Archived.the-variants.{Bytes, Refused}
+use Rattle.archive.specs.declared.Stored.{Stored}
+use Rattle.archive.specs.declared.Stored.the-variants.{Bytes, Refused}
 
 -- document 01's number of an answer, 0 for success
-abbrev pub archivedNumber : Archived → ℕ
-archivedNumber (Bytes n) = 0
-archivedNumber (Refused k) = k
+abbrev pub storedNumber : Stored → ℕ
+storedNumber (Bytes n) = 0
+storedNumber (Refused k) = k
 
 -- these bytes first, and the buffer's own after them
 abbrev pub over : List ℕ → List ℕ → List ℕ
 over w out = w ++ drop (length w) out
 
 -- a refusal changes no byte
-abbrev pub leaves : Archived → List ℕ → List ℕ → List ℕ
+abbrev pub leaves : Stored → List ℕ → List ℕ → List ℕ
 leaves (Bytes n) w out = over w out
 leaves (Refused k) w out = out
 
@@ -34,8 +34,8 @@ leaves (Refused k) w out = out
 abbrev pub emptyOf : ℕ → Archive
 emptyOf home = record { home = home; held = [] }
 
-unfoldable pub emptyIs : ℕ → ℕ → Archived
-emptyIs home room = pick (ltb home 16777216) (pick (leb headerWidth room) (Bytes headerWidth) (Refused 8)) (Refused 9)
+unfoldable pub emptyIs : ℕ → ℕ → Stored
+emptyIs home room = guard (ltb home 16777216) (Refused 9) (guard (leb headerWidth room) (Refused 8) (Bytes headerWidth))
 
 unfoldable pub emptyOut : ℕ → List ℕ → List ℕ
 emptyOut home out = leaves (emptyIs home (length out)) (bytesOf (emptyOf home)) out
@@ -45,7 +45,7 @@ emptyOut home out = leaves (emptyIs home (length out)) (bytesOf (emptyOf home)) 
 -- a PDU in its place, instead of the one of its key if there is one
 abbrev pub put : Held → List Held → List Held
 put h [] = h ∷ []
-put h (x ∷ xs) = pick (ltb (keyOf x) (keyOf h)) (x ∷ put h xs) (pick (eqb (keyOf x) (keyOf h)) (h ∷ xs) (h ∷ x ∷ xs))
+put h (x ∷ xs) = pick (ltb (rank x) (rank h)) (x ∷ put h xs) (pick (eqb (rank x) (rank h)) (h ∷ xs) (h ∷ x ∷ xs))
 
 abbrev pub with : Archive → Held → Archive
 with a h = record { home = a .home; held = put h (a .held) }
@@ -59,20 +59,21 @@ unfoldable pub captured : List ℕ → List ℕ → ℕ → Archive
 captured b s n = with (reading b) (heldFor (reading b .home) s n)
 
 -- the reader's refusal is passed on
-abbrev pub ifAccepted : Answer → Archived → Archived
+abbrev pub ifAccepted : Answer → Stored → Stored
 ifAccepted reader.Accepted r = r
 ifAccepted (reader.Refused k) r = Refused k
 
 -- 8 for one entry too many, or a result over the limit or the lent buffer
-unfoldable pub placed : Archive → ℕ → Archived
-placed a room = pick (withinLimits (length (a .held)) (lengthOf a) && leb (lengthOf a) room) (Bytes (lengthOf a)) (Refused 8)
+unfoldable pub placed : Archive → ℕ → Stored
+placed a room = guard (withinLimits (length (a .held)) (lengthOf a) && leb (lengthOf a) room) (Refused 8) (Bytes (lengthOf a))
 
 -- 7, the PDU's own, 6, 8
-unfoldable pub captureIs : List ℕ → List ℕ → ℕ → ℕ → Archived
+unfoldable pub captureIs : List ℕ → List ℕ → ℕ → ℕ → Stored
 captureIs b s n room =
-    pick (isArchive b)
-    (ifAccepted (readIs s n .answer) (pick (mayHold (readIs s n .found)) (placed (captured b s n) room) (Refused 6)))
-    (Refused 7)
+    guard (isArchive b) (Refused 7)
+    (ifAccepted (readIs s n .answer)
+    (guard (mayHold (readIs s n .found)) (Refused 6)
+    (placed (captured b s n) room)))
 
 unfoldable pub captureOut : List ℕ → List ℕ → ℕ → List ℕ → List ℕ
 captureOut b s n out = leaves (captureIs b s n (length out)) (bytesOf (captured b s n)) out

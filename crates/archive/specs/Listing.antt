@@ -3,13 +3,13 @@ use mathlib.Core.List.{List, [], _∷_, _++_}
 use Prim.Native.Nat.{ℕ, zero, suc, _+_, _/_, _%_}
 use lib.ListN.{length}
 use lib.Dec.{ltb, leb}
-use Rattle.bits.specs.Bits.{pick}
+use Rattle.bits.specs.Bits.{pick, guard}
 use Rattle.archive.specs.Model.{Held, Archive}
 use Rattle.archive.specs.Reading.{reading, isArchive}
-use Rattle.archive.specs.Keeping.{over}
+use Rattle.archive.specs.Keeping.{over, leaves}
 use Rattle.archive.specs.declared.contents.Entry.{Entry}
-use Rattle.archive.specs.declared.listing.Listed.{Listed}
-use Rattle.archive.specs.declared.listing.Listed.the-variants.{Bytes, Refused}
+use Rattle.archive.specs.declared.Stored.{Stored}
+use Rattle.archive.specs.declared.Stored.the-variants.{Bytes, Refused}
 
 -- ---- numbers
 
@@ -64,7 +64,8 @@ firstLine home count = homeWord ++ (item home entriesWord ++ item count lineEnd)
 
 -- `NETWORK SSI part P bits B`
 unfoldable pub line : Entry → List ℕ
-line e = item (e .network) space ++ (item (e .ssi) partWord ++ (item (e .part) bitsWord ++ item (e .bits .0) lineEnd))
+line e =
+    item (e .key .network) space ++ (item (e .key .ssi) partWord ++ (item (e .key .part) bitsWord ++ item (e .bits .0) lineEnd))
 
 unfoldable pub lines : List Held → List ℕ
 lines [] = []
@@ -75,21 +76,35 @@ listing a = firstLine (a .home) (length (a .held)) ++ lines (a .held)
 
 -- ---- list: 7, then 8 if the lent buffer is too short
 
--- document 01's number of an answer, 0 for success
-abbrev pub listedNumber : Listed → ℕ
-listedNumber (Bytes n) = 0
-listedNumber (Refused k) = k
-
-unfoldable pub listIs : List ℕ → ℕ → Listed
+unfoldable pub listIs : List ℕ → ℕ → Stored
 listIs b room =
-    pick (isArchive b)
-    (pick (leb (length (listing (reading b))) room) (Bytes (length (listing (reading b)))) (Refused 8))
-    (Refused 7)
-
--- a refusal changes no byte
-abbrev pub lists : Listed → List ℕ → List ℕ → List ℕ
-lists (Bytes n) w out = over w out
-lists (Refused k) w out = out
+    guard (isArchive b) (Refused 7)
+    (guard (leb (length (listing (reading b))) room) (Refused 8)
+    (Bytes (length (listing (reading b)))))
 
 unfoldable pub listOut : List ℕ → List ℕ → List ℕ
-listOut b out = lists (listIs b (length out)) (listing (reading b)) out
+listOut b out = leaves (listIs b (length out)) (listing (reading b)) out
+
+-- ---- report: what the program `contents` prints
+
+-- `refused 7` and a line end
+abbrev pub refusedLine : List ℕ
+refusedLine = 114 ∷ 101 ∷ 102 ∷ 117 ∷ 115 ∷ 101 ∷ 100 ∷ 32 ∷ 55 ∷ lineEnd
+
+-- the listing of an archive; `refused 7` for what is none
+unfoldable pub reportOf : List ℕ → List ℕ
+reportOf b = pick (isArchive b) (listing (reading b)) refusedLine
+
+-- a text's length if the lent buffer has room for it, otherwise 0
+abbrev pub lengthWithin : List ℕ → ℕ → ℕ
+lengthWithin w room = guard (leb (length w) room) 0 (length w)
+
+-- a text at the front of the lent buffer if that has room for it, otherwise the buffer as it was
+abbrev pub textWithin : List ℕ → List ℕ → List ℕ
+textWithin w out = guard (leb (length w) (length out)) out (over w out)
+
+unfoldable pub reportIs : List ℕ → ℕ → ℕ
+reportIs b room = lengthWithin (reportOf b) room
+
+unfoldable pub reportOut : List ℕ → List ℕ → List ℕ
+reportOut b out = textWithin (reportOf b) out

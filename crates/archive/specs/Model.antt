@@ -5,6 +5,7 @@ use Prim.Native.Nat.{ℕ, _+_, _*_, _/_, _%_, _<_}
 use lib.ListN.{length}
 use lib.Dec.{leb}
 use Rattle.bits.specs.Frame.{bytesFor}
+use Rattle.archive.specs.declared.contents.Key.{Key}
 use Rattle.archive.specs.declared.contents.Entry.{Entry}
 
 -- a PDU that is held: its contents entry and its body
@@ -16,17 +17,17 @@ pub record Archive : Type 0 where
   pub home : ℕ
   pub held : List Held
 
--- entries rise by network, then SSI, then part: by this one number
-abbrev pub keyFor : ℕ → ℕ → ℕ → ℕ
-keyFor network ssi part = network * 4294967296 + ssi * 256 + part
+-- entries rise by network, then SSI, then part: by this one number of their keys
+abbrev pub rankOf : Key → ℕ
+rankOf k = k .network * 4294967296 + k .ssi * 256 + k .part
 
-abbrev pub keyOf : Held → ℕ
-keyOf h = keyFor (h .entry .network) (h .entry .ssi) (h .entry .part)
+abbrev pub rank : Held → ℕ
+rank h = rankOf (h .entry .key)
 
--- entries that rise strictly, from above a key on: no user and part stands twice
+-- entries that rise strictly, from above a rank on: no user and part stands twice
 pub data Rising : ℕ → List Held → Type 0 where
   no-key : {last : ℕ} → Rising last []
-  next-key : {last : ℕ} {h : Held} {hs : List Held} → last < keyOf h → Rising (keyOf h) hs → Rising last (h ∷ hs)
+  next-key : {last : ℕ} {h : Held} {hs : List Held} → last < rank h → Rising (rank h) hs → Rising last (h ∷ hs)
 
 -- ---- bytes, the most significant of a number first
 
@@ -48,7 +49,7 @@ headerBytes home count = bytes3 home ++ bytes2 count
 
 -- network, SSI, part, bit length
 unfoldable pub entryBytes : Entry → List ℕ
-entryBytes e = bytes3 (e .network) ++ (bytes3 (e .ssi) ++ (e .part ∷ bytes2 (e .bits .0)))
+entryBytes e = bytes3 (e .key .network) ++ (bytes3 (e .key .ssi) ++ (e .key .part ∷ bytes2 (e .bits .0)))
 
 abbrev pub contentsOf : List Held → List ℕ
 contentsOf [] = []

@@ -26,11 +26,14 @@ abbrev pub countOf : List ℕ → ℕ
 countOf b = number2 b 3
 
 abbrev pub entryAt : List ℕ → ℕ → Entry
-entryAt b at = record { network = number3 b at; ssi = number3 b (at + 3); part = getD b (at + 6) 0; bits = record { 0 = number2 b (at + 7) } }
+entryAt b at = record {
+  key = record { network = number3 b at; ssi = number3 b (at + 3); part = getD b (at + 6) 0 };
+  bits = record { 0 = number2 b (at + 7) };
+}
 
 -- the bytes that the body of the entry at a place has
 abbrev pub sizeAt : List ℕ → ℕ → ℕ
-sizeAt b at = bytesFor (number2 b (at + 7))
+sizeAt b at = bytesFor (entryAt b at .bits .0)
 
 abbrev pub heldAt : List ℕ → ℕ → ℕ → Held
 heldAt b at off = record { entry = entryAt b at; body = take (sizeAt b at) (drop off b) }

@@ -2,14 +2,15 @@
 use crate::contents;
 use crate::contents::ENTRY;
 use crate::contents::HEADER;
+use crate::contents::Key;
 use crate::filing;
 use bits::BitCount;
 ghost use mathlib.Core.Path.{_≡_};
 ghost use mathlib.Core.Bool.{true};
 ghost use Prim.Native.Nat.{_≤_};
-ghost use Rattle.archive.specs.Model.{headerWidth};
+ghost use Rattle.archive.specs.Model.{rankOf, headerWidth};
 ghost use Rattle.archive.specs.Reading.{isArchive, bodiesAt, heldIn};
-ghost use Rattle.archive.specs.Inner.{seek, nextAt, restAt};
+ghost use Rattle.archive.specs.Inner.{KeyFits, seek, nextAt, restAt};
 
 // Exactly the bytes of a well-formed archive pass.
 pub fn check(archive: &[u8]) -> bool
@@ -32,8 +33,9 @@ pub fn check(archive: &[u8]) -> bool
     let mut last: u64 = 0;
     while 0 < left {
         let entry = contents::entry_at(archive, at);
-        let key = contents::key_of(entry.network, entry.ssi, entry.part);
-        if key <= last {
+        let key = entry.key;
+        let rank = key.rank();
+        if rank <= last {
             return false;
         }
         let bits = entry.bits;
@@ -45,7 +47,7 @@ pub fn check(archive: &[u8]) -> bool
         if !filing::body_agrees(home, entry, &archive[off..end]) {
             return false;
         }
-        last = key;
+        last = rank;
         off = end;
         at += ENTRY;
         left -= 1;
@@ -78,19 +80,21 @@ pub(crate) fn rest_of(place: Place) -> usize
 }
 
 // The place of a key in an archive.
-pub(crate) fn find(archive: &[u8], key: u64) -> Place
-    requires { ⌜ isArchive (now archive) ≡ true ⌝ }
-    ensures { λ r. ⌜ r ≡ seek key headerWidth (bodiesAt (now (archive .entry))) (heldIn (now (archive .entry))) ⌝ }
+pub(crate) fn find(archive: &[u8], key: Key) -> Place
+    requires { ⌜ (isArchive (now archive) ≡ true) × (KeyFits key) ⌝ }
+    ensures { λ r. ⌜ r ≡ seek (rankOf key) headerWidth (bodiesAt (now (archive .entry))) (heldIn (now (archive .entry))) ⌝ }
 {
+    let rank = key.rank();
     let mut left = contents::count(archive);
     let mut at = HEADER;
     let mut off = HEADER + ENTRY * left;
     while 0 < left {
         let entry = contents::entry_at(archive, at);
-        let here = contents::key_of(entry.network, entry.ssi, entry.part);
+        let key_here = entry.key;
+        let here = key_here.rank();
         let held = entry.bits;
-        if key <= here {
-            if here == key {
+        if rank <= here {
+            if here == rank {
                 return Place {
                     at,
                     off,

@@ -3,20 +3,35 @@ use bits::BitCount;
 ghost use mathlib.Core.Path.{_≡_};
 ghost use Prim.Native.Nat.{_+_, _≤_, _<_};
 ghost use lib.ListN.{length, getD};
-ghost use Rattle.archive.specs.Model.{keyFor, headerBytes, entryBytes, withinLimits};
+ghost use Rattle.archive.specs.Model.{rankOf, headerWidth, entryWidth, headerBytes, entryBytes, withinLimits};
 ghost use Rattle.archive.specs.Reading.{number2, number3, homeOf, entryAt};
-ghost use Rattle.archive.specs.Inner.{EntryFits};
+ghost use Rattle.archive.specs.Inner.{KeyFits, EntryFits};
 
 // Bytes of the header, and of an entry of the contents.
 pub(crate) const HEADER: usize = 5;
 
 pub(crate) const ENTRY: usize = 9;
 
-// A contents entry.
-pub struct Entry {
+// A user, by network and SSI, and a part: 1 for identities, 2 for numbers.
+pub struct Key {
     pub network: u32,
     pub ssi: u32,
     pub part: u32,
+}
+
+impl Key {
+    // The number by which entries rise: network, then SSI, then part.
+    pub(crate) fn rank(self) -> u64
+        requires { ⌜ KeyFits self ⌝ }
+        ensures { λ r. ⌜ r ≡ rankOf self ⌝ }
+    {
+        (self.network as u64) * 4294967296 + (self.ssi as u64) * 256 + self.part as u64
+    }
+}
+
+// A contents entry.
+pub struct Entry {
+    pub key: Key,
     pub bits: BitCount,
 }
 
@@ -63,14 +78,14 @@ pub fn home(archive: &[u8]) -> u32
 
 // The entry count in the header.
 pub(crate) fn count(archive: &[u8]) -> usize
-    requires { ⌜ 5 ≤ length (now archive) ⌝ }
+    requires { ⌜ headerWidth ≤ length (now archive) ⌝ }
     ensures { λ r. ⌜ (r ≡ number2 (now (archive .entry)) 3) × (r < 65536) ⌝ }
 {
     two(archive, 3)
 }
 
 // The header of a home network and an entry count.
-pub(crate) fn header_bytes(home: u32, count: usize) -> [u8; 5]
+pub(crate) fn header_bytes(home: u32, count: usize) -> [u8; HEADER]
     requires { ⌜ (home < 16777216) × (count < 65536) ⌝ }
     ensures { λ r. ⌜ r ≡ headerBytes home count ⌝ }
 {
@@ -85,38 +100,34 @@ pub(crate) fn header_bytes(home: u32, count: usize) -> [u8; 5]
 
 // The contents entry at a place.
 pub(crate) fn entry_at(b: &[u8], at: usize) -> Entry
-    requires { ⌜ at + 9 ≤ length (now b) ⌝ }
+    requires { ⌜ at + entryWidth ≤ length (now b) ⌝ }
     ensures { λ r. ⌜ (r ≡ entryAt (now (b .entry)) at) × (EntryFits r) ⌝ }
 {
-    Entry {
+    let key = Key {
         network: three(b, at),
         ssi: three(b, at + 3),
         part: byte(b, at + 6),
+    };
+    Entry {
+        key,
         bits: BitCount(two(b, at + 7)),
     }
 }
 
-pub(crate) fn entry_bytes(entry: Entry) -> [u8; 9]
+pub(crate) fn entry_bytes(entry: Entry) -> [u8; ENTRY]
     requires { ⌜ EntryFits entry ⌝ }
     ensures { λ r. ⌜ r ≡ entryBytes entry ⌝ }
 {
+    let key = entry.key;
     [
-        (entry.network / 65536) as u8,
-        (entry.network / 256 % 256) as u8,
-        (entry.network % 256) as u8,
-        (entry.ssi / 65536) as u8,
-        (entry.ssi / 256 % 256) as u8,
-        (entry.ssi % 256) as u8,
-        entry.part as u8,
+        (key.network / 65536) as u8,
+        (key.network / 256 % 256) as u8,
+        (key.network % 256) as u8,
+        (key.ssi / 65536) as u8,
+        (key.ssi / 256 % 256) as u8,
+        (key.ssi % 256) as u8,
+        key.part as u8,
         (entry.bits.0 / 256) as u8,
         (entry.bits.0 % 256) as u8,
     ]
-}
-
-// The number by which entries rise: network, then SSI, then part.
-pub(crate) fn key_of(network: u32, ssi: u32, part: u32) -> u64
-    requires { ⌜ (network < 16777216) × (ssi < 16777216) × (part < 256) ⌝ }
-    ensures { λ r. ⌜ r ≡ keyFor network ssi part ⌝ }
-{
-    (network as u64) * 4294967296 + (ssi as u64) * 256 + part as u64
 }

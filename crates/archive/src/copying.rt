@@ -9,6 +9,7 @@ ghost use mathlib.Core.Path.{_≡_};
 ghost use Prim.Native.Nat.{_+_, _≤_, _<_};
 ghost use lib.ListN.{length};
 ghost use Rattle.bits.specs.Inner.{Laid};
+ghost use Rattle.archive.specs.Model.{headerWidth, entryWidth};
 ghost use Rattle.archive.specs.Inner.{Within, EntryFits, frontOf, backOf, spliced, backLength, splicedLength};
 
 // Writes a body, or another part of an archive, to a place that is as long.
@@ -35,7 +36,7 @@ pub(crate) fn append(out: &mut [u8], at: usize, bytes: &[u8]) -> usize
 
 // Writes the header, the contents before a place and a new entry.
 fn write_front(archive: &[u8], at: usize, count: usize, entry: Entry, out: &mut [u8]) -> usize
-    requires { ⌜ (5 ≤ at) × (at ≤ length (now archive)) × (at + 9 ≤ length (now out)) × (count < 65536) × (EntryFits entry) ⌝ }
+    requires { ⌜ (headerWidth ≤ at) × (at ≤ length (now archive)) × (at + entryWidth ≤ length (now out)) × (count < 65536) × (EntryFits entry) ⌝ }
     ensures { λ r. ⌜ Laid (now (out .entry)) 0 (frontOf (now (archive .entry)) at count entry) (now (out .exit)) r ⌝ }
 {
     let header = contents::header_bytes(contents::home(archive), count);

@@ -1,5 +1,6 @@
 // Which PDUs an archive may hold, under which entry, and whether a body agrees with its entry.
 use crate::contents::Entry;
+use crate::contents::Key;
 use bits::BitCount;
 use grammar::site::network_of;
 use judging::Judged;
@@ -20,12 +21,12 @@ pub(crate) fn filing_of(home: u32, body: &[u8], n: BitCount) -> Filing
     let Judged::Part(user, part) = judging::judge(body, n) else {
         return Filing::Nowhere;
     };
-    Filing::Under(Entry {
+    let key = Key {
         network: network_of(home, user),
         ssi: user.ssi,
         part,
-        bits: n,
-    })
+    };
+    Filing::Under(Entry { key, bits: n })
 }
 
 // Whether a body is a legal PDU that is filed under its entry.
@@ -35,11 +36,13 @@ pub(crate) fn body_agrees(home: u32, entry: Entry, body: &[u8]) -> bool
     let Filing::Under(found) = filing_of(home, body, entry.bits) else {
         return false;
     };
-    if found.network != entry.network {
+    let filed = found.key;
+    let key = entry.key;
+    if filed.network != key.network {
         return false;
     }
-    if found.ssi != entry.ssi {
+    if filed.ssi != key.ssi {
         return false;
     }
-    found.part == entry.part
+    filed.part == key.part
 }

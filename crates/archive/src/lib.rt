@@ -8,6 +8,7 @@ pub mod listing;
 use bits::BitCount;
 pub use checking::check;
 use contents::Entry;
+pub use contents::Key;
 pub use contents::home;
 use filing::Filing;
 use pdu::Answer;
@@ -21,12 +22,12 @@ ghost use Rattle.bits.specs.Frame.{bytesFor};
 ghost use Rattle.reader.specs.Read.{readIs};
 ghost use Rattle.archive.specs.Model.{bytesOf};
 ghost use Rattle.archive.specs.Reading.{isArchive};
-ghost use Rattle.archive.specs.Inner.{EntryFits, filedIn, unfitNumber};
+ghost use Rattle.archive.specs.Inner.{EntryFits, filedIn, notFiledNumber};
 ghost use Rattle.archive.specs.Keeping.{leaves, emptyIs, emptyOut, placed, captureIs, captureOut};
 ghost use Rattle.archive.specs.Restoring.{inRange, fetchIs, restores, restoreIs, restoreOut};
 
-// The length in bytes of an archive that was written, or a refusal number.
-pub enum Archived {
+// The length in bytes of an archive, or of a listing, that was written; or a refusal number.
+pub enum Stored {
     Bytes(usize),
     Refused(u32),
 }
@@ -45,38 +46,38 @@ pub enum Fetched {
 }
 
 // Writes the empty archive of a home network.
-pub fn empty(home: u32, out: &mut [u8]) -> Archived
+pub fn empty(home: u32, out: &mut [u8]) -> Stored
     ensures { λ r. ⌜ r ≡ emptyIs home (length (now (out .entry))) ⌝ }
     ensures { λ _. ⌜ now (out .exit) ≡ emptyOut home (now (out .entry)) ⌝ }
 {
     if 16777216 <= home {
-        return Archived::Refused(9);
+        return Stored::Refused(9);
     }
     if out.len() < contents::HEADER {
-        return Archived::Refused(8);
+        return Stored::Refused(8);
     }
     let header = contents::header_bytes(home, 0);
-    Archived::Bytes(copying::append(out, 0, &header))
+    Stored::Bytes(copying::append(out, 0, &header))
 }
 
 // Captures a PDU of n bits: writes the archive with it to the lent buffer.
-pub fn capture(archive: &[u8], body: &[u8], n: BitCount, out: &mut [u8]) -> Archived
+pub fn capture(archive: &[u8], body: &[u8], n: BitCount, out: &mut [u8]) -> Stored
     ensures { λ r. ⌜ r ≡ captureIs (now (archive .entry)) (now (body .entry)) (n .0) (length (now (out .entry))) ⌝ }
     ensures { λ _. ⌜ now (out .exit) ≡ captureOut (now (archive .entry)) (now (body .entry)) (n .0) (now (out .entry)) ⌝ }
 {
     if !checking::check(archive) {
-        return Archived::Refused(7);
+        return Stored::Refused(7);
     }
     let filing = filing::filing_of(contents::home(archive), body, n);
     let Filing::Under(entry) = filing else {
-        return Archived::Refused(unfit(body, n));
+        return Stored::Refused(not_filed_number(body, n));
     };
     file(archive, entry, body, out)
 }
 
-// Why a PDU is not filed: its own refusal is passed on, and a legal one that no entry may hold gives 6.
-fn unfit(body: &[u8], n: BitCount) -> u32
-    ensures { λ r. ⌜ r ≡ unfitNumber (readIs (now (body .entry)) (n .0) .answer) ⌝ }
+// The number of a PDU that is not filed: its own refusal is passed on, and a legal one that no entry may hold gives 6.
+fn not_filed_number(body: &[u8], n: BitCount) -> u32
+    ensures { λ r. ⌜ r ≡ notFiledNumber (readIs (now (body .entry)) (n .0) .answer) ⌝ }
 {
     let reading = pdu::read(body, n);
     let answer = reading.answer;
@@ -87,51 +88,50 @@ fn unfit(body: &[u8], n: BitCount) -> u32
 }
 
 // Files a body under its entry, in place of what is held for its user and part.
-fn file(archive: &[u8], entry: Entry, body: &[u8], out: &mut [u8]) -> Archived
+fn file(archive: &[u8], entry: Entry, body: &[u8], out: &mut [u8]) -> Stored
     requires { ⌜ (isArchive (now archive) ≡ true) × (EntryFits entry) × (length (now body) ≡ bytesFor (entry .bits .0)) ⌝ }
     ensures { λ r. ⌜ r ≡ placed (filedIn (now (archive .entry)) entry (now (body .entry))) (length (now (out .entry))) ⌝ }
     ensures { λ r. ⌜ now (out .exit) ≡ leaves r (bytesOf (filedIn (now (archive .entry)) entry (now (body .entry)))) (now (out .entry)) ⌝ }
 {
-    let key = contents::key_of(entry.network, entry.ssi, entry.part);
+    let key = entry.key;
     let place = checking::find(archive, key);
     let count = contents::count(archive) + 1 - place.entries;
     let size = copying::spliced_length(archive, place, body.len());
     if !contents::within_limits(count, size) {
-        return Archived::Refused(8);
+        return Stored::Refused(8);
     }
     if out.len() < size {
-        return Archived::Refused(8);
+        return Stored::Refused(8);
     }
-    Archived::Bytes(copying::splice(archive, place, count, entry, body, out))
+    Stored::Bytes(copying::splice(archive, place, count, entry, body, out))
 }
 
 // Whether a user and part are in range.
-fn in_range(network: u32, ssi: u32, part: u32) -> bool
-    ensures { λ r. ⌜ r ≡ inRange network ssi part ⌝ }
+fn in_range(key: Key) -> bool
+    ensures { λ r. ⌜ r ≡ inRange key ⌝ }
 {
-    if 16777216 <= network {
+    if 16777216 <= key.network {
         return false;
     }
-    if 16777216 <= ssi {
+    if 16777216 <= key.ssi {
         return false;
     }
-    if part < 1 {
+    if key.part < 1 {
         return false;
     }
-    part <= 2
+    key.part <= 2
 }
 
 // Finds the body held for a user and part.
-pub fn fetch(archive: &[u8], network: u32, ssi: u32, part: u32) -> Fetched
-    ensures { λ r. ⌜ r ≡ fetchIs (now (archive .entry)) network ssi part ⌝ }
+pub fn fetch(archive: &[u8], key: Key) -> Fetched
+    ensures { λ r. ⌜ r ≡ fetchIs (now (archive .entry)) key ⌝ }
 {
     if !checking::check(archive) {
         return Fetched::NoArchive;
     }
-    if !in_range(network, ssi, part) {
+    if !in_range(key) {
         return Fetched::NotHeld;
     }
-    let key = contents::key_of(network, ssi, part);
     let place = checking::find(archive, key);
     if place.entries == 0 {
         return Fetched::NotHeld;
@@ -156,14 +156,14 @@ fn deliver(archive: &[u8], off: usize, n: BitCount, out: &mut [u8]) -> Restored
 }
 
 // Restores the PDU held for a user and part: writes its bytes to the lent buffer.
-pub fn restore(archive: &[u8], network: u32, ssi: u32, part: u32, out: &mut [u8]) -> Restored
-    ensures { λ r. ⌜ r ≡ restoreIs (now (archive .entry)) network ssi part (length (now (out .entry))) ⌝ }
-    ensures { λ _. ⌜ now (out .exit) ≡ restoreOut (now (archive .entry)) network ssi part (now (out .entry)) ⌝ }
+pub fn restore(archive: &[u8], key: Key, out: &mut [u8]) -> Restored
+    ensures { λ r. ⌜ r ≡ restoreIs (now (archive .entry)) key (length (now (out .entry))) ⌝ }
+    ensures { λ _. ⌜ now (out .exit) ≡ restoreOut (now (archive .entry)) key (now (out .entry)) ⌝ }
 {
-    if !in_range(network, ssi, part) {
+    if !in_range(key) {
         return Restored::Refused(9);
     }
-    let found = fetch(archive, network, ssi, part);
+    let found = fetch(archive, key);
     match found {
         Fetched::NoArchive => Restored::Refused(7),
         Fetched::NotHeld => Restored::Refused(11),

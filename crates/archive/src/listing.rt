@@ -1,4 +1,5 @@
 // The listing of an archive as text: a line for the header, then a line for each PDU held.
+use crate::Stored;
 use crate::checking;
 use crate::contents;
 use crate::contents::ENTRY;
@@ -11,21 +12,15 @@ ghost use mathlib.Core.List.{_∷_, []};
 ghost use Prim.Native.Nat.{_+_, _*_, _≤_, _<_};
 ghost use lib.ListN.{length};
 ghost use Rattle.bits.specs.Inner.{Laid};
-ghost use Rattle.archive.specs.Model.{headerWidth};
+ghost use Rattle.archive.specs.Model.{headerWidth, entryWidth};
 ghost use Rattle.archive.specs.Reading.{countOf, isArchive, reading};
-ghost use Rattle.archive.specs.Inner.{EntryFits, linesFrom};
+ghost use Rattle.archive.specs.Inner.{linesFrom};
 ghost use Rattle.archive.specs.Listing.{decimal, item, line, firstLine, listing, listIs, listOut};
-
-// The length in bytes of the text that was written, or a refusal number.
-pub enum Listed {
-    Bytes(usize),
-    Refused(u32),
-}
+ghost use Rattle.archive.specs.Listing.{refusedLine, lengthWithin, textWithin, reportIs, reportOut};
 
 // How many digits a number has.
 fn digits_of(n: usize) -> usize
-    requires { ⌜ n < 100000000 ⌝ }
-    ensures { λ r. ⌜ (r ≡ length (decimal n)) × (r ≤ 8) ⌝ }
+    ensures { λ r. ⌜ (r ≡ length (decimal n)) × (r ≤ 20) ⌝ }
 {
     let mut rest = n;
     let mut count = 1;
@@ -45,16 +40,21 @@ fn write_byte(out: &mut [u8], at: usize, byte: u8) -> usize
     at + 1
 }
 
-// Writes a number in decimal: the digits before its last one, then that one.
+// Writes a number in decimal, its last digit first.
 fn write_number(out: &mut [u8], at: usize, n: usize) -> usize
     requires { ⌜ at + length (decimal n) ≤ length (now out) ⌝ }
     ensures { λ r. ⌜ Laid (now (out .entry)) at (decimal n) (now (out .exit)) r ⌝ }
 {
-    if n < 10 {
-        return write_byte(out, at, 48 + n as u8);
+    let end = at + digits_of(n);
+    let mut rest = n;
+    let mut place = end;
+    while 10 <= rest {
+        place -= 1;
+        write_byte(out, place, 48 + (rest % 10) as u8);
+        rest /= 10;
     }
-    let last_at = write_number(out, at, n / 10);
-    write_byte(out, last_at, 48 + (n % 10) as u8)
+    write_byte(out, at, 48 + rest as u8);
+    end
 }
 
 // Writes a number and the word after it.
@@ -81,15 +81,16 @@ fn write_line(out: &mut [u8], at: usize, entry: Entry) -> usize
     requires { ⌜ at + length (line entry) ≤ length (now out) ⌝ }
     ensures { λ r. ⌜ Laid (now (out .entry)) at (line entry) (now (out .exit)) r ⌝ }
 {
-    let ssi_at = write_item(out, at, entry.network as usize, b" ");
-    let part_at = write_item(out, ssi_at, entry.ssi as usize, b" part ");
-    let bits_at = write_item(out, part_at, entry.part as usize, b" bits ");
+    let key = entry.key;
+    let ssi_at = write_item(out, at, key.network as usize, b" ");
+    let part_at = write_item(out, ssi_at, key.ssi as usize, b" part ");
+    let bits_at = write_item(out, part_at, key.part as usize, b" bits ");
     write_item(out, bits_at, entry.bits.0, b"\n")
 }
 
 // Writes the lines of all entries.
 fn write_lines(archive: &[u8], out: &mut [u8], start: usize) -> usize
-    requires { ⌜ headerWidth + 9 * countOf (now archive) ≤ length (now archive) ⌝ }
+    requires { ⌜ headerWidth + entryWidth * countOf (now archive) ≤ length (now archive) ⌝ }
     requires { ⌜ start + length (linesFrom (now archive) (countOf (now archive)) headerWidth) ≤ length (now out) ⌝ }
     ensures { λ r. ⌜ Laid (now (out .entry)) start (linesFrom (now (archive .entry)) (countOf (now (archive .entry))) headerWidth) (now (out .exit)) r ⌝ }
 {
@@ -120,11 +121,11 @@ const LINE_WORDS: usize = 14;
 
 // The length of an entry's line.
 fn line_length(entry: Entry) -> usize
-    requires { ⌜ EntryFits entry ⌝ }
-    ensures { λ r. ⌜ (r ≡ length (line entry)) × (r ≤ 46) ⌝ }
+    ensures { λ r. ⌜ (r ≡ length (line entry)) × (r ≤ 94) ⌝ }
 {
-    let user = digits_of(entry.network as usize) + digits_of(entry.ssi as usize);
-    let body = digits_of(entry.part as usize) + digits_of(entry.bits.0);
+    let key = entry.key;
+    let user = digits_of(key.network as usize) + digits_of(key.ssi as usize);
+    let body = digits_of(key.part as usize) + digits_of(entry.bits.0);
     user + body + LINE_WORDS
 }
 
@@ -146,15 +147,41 @@ fn text_length(archive: &[u8]) -> usize
 }
 
 // Lists an archive: writes the text to the lent buffer.
-pub fn list(archive: &[u8], out: &mut [u8]) -> Listed
+pub fn list(archive: &[u8], out: &mut [u8]) -> Stored
     ensures { λ r. ⌜ r ≡ listIs (now (archive .entry)) (length (now (out .entry))) ⌝ }
     ensures { λ _. ⌜ now (out .exit) ≡ listOut (now (archive .entry)) (now (out .entry)) ⌝ }
 {
     if !checking::check(archive) {
-        return Listed::Refused(7);
+        return Stored::Refused(7);
     }
     if out.len() < text_length(archive) {
-        return Listed::Refused(8);
+        return Stored::Refused(8);
     }
-    Listed::Bytes(write_text(archive, out))
+    Stored::Bytes(write_text(archive, out))
+}
+
+// Writes `refused 7` on a line, where there is room for it.
+fn write_refused(out: &mut [u8]) -> usize
+    ensures { λ r. ⌜ r ≡ lengthWithin refusedLine (length (now (out .entry))) ⌝ }
+    ensures { λ _. ⌜ now (out .exit) ≡ textWithin refusedLine (now (out .entry)) ⌝ }
+{
+    if out.len() < 10 {
+        return 0;
+    }
+    copying::append(out, 0, b"refused 7\n")
+}
+
+// What the program `contents` prints of its input: writes the listing, or `refused 7` for what is no archive, to the lent buffer. Returns
+// its length; 0 where the buffer is too short for it, and then no byte is changed.
+pub fn report(archive: &[u8], out: &mut [u8]) -> usize
+    ensures { λ r. ⌜ r ≡ reportIs (now (archive .entry)) (length (now (out .entry))) ⌝ }
+    ensures { λ _. ⌜ now (out .exit) ≡ reportOut (now (archive .entry)) (now (out .entry)) ⌝ }
+{
+    if !checking::check(archive) {
+        return write_refused(out);
+    }
+    if out.len() < text_length(archive) {
+        return 0;
+    }
+    write_text(archive, out)
 }

@@ -16,15 +16,16 @@ use Rattle.rules.specs.Rule.{ruling}
 use Rattle.rules.specs.declared.request.Destination.{Destination}
 use Rattle.rules.specs.declared.request.Destination.the-variants.{Identity, Number}
 use Rattle.rules.specs.declared.request.Request.{Request}
-use Rattle.archive.specs.Reading.{homeOf, reading, isArchive}
+use Rattle.archive.specs.Reading.{reading, isArchive}
 use Rattle.archive.specs.Restoring.{inRange, fetchIs}
 use Rattle.archive.specs.declared.Fetched.{Fetched}
 use Rattle.archive.specs.declared.Fetched.the-variants.{Body, NoArchive}
 use Rattle.archive.specs.declared.Fetched.the-variants as fetched
-use Rattle.archive.proofs.Lookup.{Right, BodyIs, fetch-right, fetch-none}
-use Rattle.archive.proofs.Capturing.{home-read}
+use Rattle.archive.proofs.Calls.Fetch.{Right, BodyIs, fetch-right, fetch-none}
+use Rattle.archive.proofs.Calls.Capture.{home-read}
 use Rattle.barring.specs.Decision.{decisionOf}
-use Rattle.barring.specs.Decide.{partFor, judgedBy, partIn, decideIs}
+use Rattle.barring.specs.Decide.{partFor, judgedBy, keyFor, partIn, decideIs}
+use Rattle.barring.specs.Inner.{rulingOfBody}
 use Rattle.barring.specs.declared.Decision.the-variants.{NotHeld, Refused}
 
 user-first : (a b c d e f : Bool) → pick {A = ℕ} (a && b && c && d && e && f) 0 9 ≡ 0 → a ≡ true
@@ -36,7 +37,7 @@ unfolding partFor
 part-ranged (Identity u) = refl
 part-ranged (Number length) = refl
 
-pub request-ranged : (q : Request) → requestRefusal q ≡ 0 → inRange (q .user .network) (q .user .ssi) (partFor (q .destination)) ≡ true
+pub request-ranged : (q : Request) → requestRefusal q ≡ 0 → inRange (keyFor q) ≡ true
 unfolding requestRefusal isUser inRange
 request-ranged q e =
     let p = both (ltb (q .user .network) 16777216) (ltb (q .user .ssi) 16777216) (user-first _ _ _ _ _ _ e) in
@@ -48,7 +49,7 @@ not-archive b q e a = rw (e, a)
 
 module _ (b : List ℕ) (q : Request) (e : requestRefusal q ≡ 0) where
   abbrev pub fetchedFor : Fetched
-  fetchedFor = fetchIs b (q .user .network) (q .user .ssi) (partFor (q .destination))
+  fetchedFor = fetchIs b (keyFor q)
 
   module _ (a : isArchive b ≡ true) where
     pub decide-held : decideIs b q ≡ judgedBy (reading b .home) q (partIn b q)
@@ -56,14 +57,14 @@ module _ (b : List ℕ) (q : Request) (e : requestRefusal q ≡ 0) where
     decide-held = rw (e, a)
 
     found : Right b fetchedFor (partIn b q)
-    found = fetch-right b _ _ _ a (request-ranged q e)
+    found = fetch-right b _ a (request-ranged q e)
 
   found-as : (f : Fetched) → fetchedFor ≡ f → (f ≡ NoArchive → ⊥) → (isArchive b ≡ true) × Right b f (partIn b q)
   found-as f h held = go (isArchive b) refl
     where
       go : (t : Bool) → isArchive b ≡ t → (isArchive b ≡ true) × Right b f (partIn b q)
       go true a = (a, subst (λ (x : Fetched). Right b x (partIn b q)) h (found a))
-      go false a = absurd (held (sym h ∙ fetch-none b _ _ _ a))
+      go false a = absurd (held (sym h ∙ fetch-none b _ a))
 
   -- the body that is fetched lies within the archive, and the rule applied to it is the decision
   module _ (at : ℕ) (n : BitCount) (f : fetchedFor ≡ Body at n) where
@@ -73,7 +74,7 @@ module _ (b : List ℕ) (q : Request) (e : requestRefusal q ≡ 0) where
     pub body-within : at + bytesFor (n .0) ≤ length b
     body-within = body .1 .inside
 
-    pub decide-body : decisionOf (ruling (homeOf b) (readIs (take (bytesFor (n .0)) (drop at b)) (n .0) .found) q) ≡ decideIs b q
+    pub decide-body : rulingOfBody b at (n .0) q ≡ decideIs b q
     decide-body =
         let k = body .1 in
         sym (decide-held (body .0) ∙ ap (judgedBy (reading b .home) q) (k .is)

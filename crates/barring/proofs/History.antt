@@ -18,10 +18,10 @@ use Rattle.archive.specs.Model.{Held}
 use Rattle.archive.specs.Reading.{isArchive}
 use Rattle.archive.specs.Keeping.{emptyIs, emptyOut}
 use Rattle.archive.specs.History.{Offer, afterAll, lastAccepted}
-use Rattle.archive.specs.declared.Archived.the-variants.{Bytes}
+use Rattle.archive.specs.declared.Stored.the-variants.{Bytes}
 use Rattle.archive.proofs.History.{Matches, kept}
 use Rattle.barring.specs.Decision.{decisionOf}
-use Rattle.barring.specs.Decide.{partFor, judgedBy, partIn, decideIs}
+use Rattle.barring.specs.Decide.{judgedBy, keyFor, partIn, decideIs}
 use Rattle.barring.specs.declared.Decision.{Decision}
 use Rattle.barring.specs.declared.Decision.the-variants.{Allowed, NotHeld, Refused}
 use Rattle.barring.proofs.Decided.{request-ranged, decide-held}
@@ -38,17 +38,17 @@ matched home q none (some o) m = absurd m
 matched home q (some h) none m = absurd m
 
 -- from an empty archive, for any offers and every well-formed request
-module _ (home : ℕ) (lent : List ℕ) (m : ℕ) (e : emptyIs home (length lent) ≡ Bytes m)
-    (os : List Offer) (q : Request) (f : requestRefusal q ≡ 0) where
+module _ (home : ℕ) (lent : List ℕ) (m : ℕ) (e : emptyIs home (length lent) ≡ Bytes m) (os : List Offer) (q : Request)
+    (f : requestRefusal q ≡ 0) where
   abbrev pub start : List ℕ
   start = take m (emptyOut home lent)
 
   abbrev pub last : Option Offer
-  last = lastAccepted (q .user .network) (q .user .ssi) (partFor (q .destination)) start none os
+  last = lastAccepted (keyFor q) start none os
 
   pub decided : decideIs (afterAll start os) q ≡ saidBy home q last
   decided =
-      let k = kept home lent m e os (q .user .network) (q .user .ssi) (partFor (q .destination)) (request-ranged q f) in
+      let k = kept home lent m e os (keyFor q) (request-ranged q f) in
       decide-held (afterAll start os) q f (k .archive)
       ∙ ap (λ (h : ℕ). judgedBy h q (partIn (afterAll start os) q)) (k .home-is)
       ∙ matched home q (partIn (afterAll start os) q) last (k .held)

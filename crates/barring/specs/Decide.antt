@@ -3,16 +3,17 @@ use Prim.Native.Nat.{ℕ}
 use mathlib.Core.List.{List}
 use mathlib.Core.Option.{Option, none, some}
 use lib.Dec.{eqb}
-use Rattle.bits.specs.Bits.{pick}
+use Rattle.bits.specs.Bits.{guard}
 use Rattle.reader.specs.Read.{readIs}
 use Rattle.rules.specs.Request.{requestRefusal}
 use Rattle.rules.specs.Rule.{ruling}
 use Rattle.rules.specs.declared.request.Destination.{Destination}
 use Rattle.rules.specs.declared.request.Destination.the-variants.{Identity, Number}
 use Rattle.rules.specs.declared.request.Request.{Request}
-use Rattle.archive.specs.Model.{Held, keyFor}
+use Rattle.archive.specs.Model.{Held}
 use Rattle.archive.specs.Reading.{reading, isArchive}
 use Rattle.archive.specs.Restoring.{lookup}
+use Rattle.archive.specs.declared.contents.Key.{Key}
 use Rattle.barring.specs.Decision.{decisionOf}
 use Rattle.barring.specs.declared.Decision.{Decision}
 use Rattle.barring.specs.declared.Decision.the-variants.{NotHeld, Refused}
@@ -27,12 +28,16 @@ abbrev pub judgedBy : ℕ → Request → Option Held → Decision
 judgedBy home q none = NotHeld
 judgedBy home q (some h) = decisionOf (ruling home (readIs (h .body) (h .entry .bits .0) .found) q)
 
--- the part of the request's user that an archive holds
+-- the request's user, and the part that judges its destination
+abbrev pub keyFor : Request → Key
+keyFor q = record { network = q .user .network; ssi = q .user .ssi; part = partFor (q .destination) }
+
+-- that part, as an archive holds it
 abbrev pub partIn : List ℕ → Request → Option Held
-partIn b q = lookup (keyFor (q .user .network) (q .user .ssi) (partFor (q .destination))) (reading b .held)
+partIn b q = lookup (keyFor q) (reading b .held)
 
 unfoldable pub decideIs : List ℕ → Request → Decision
 decideIs b q =
-    pick (eqb (requestRefusal q) 0)
-    (pick (isArchive b) (judgedBy (reading b .home) q (partIn b q)) (Refused 7))
-    (Refused (requestRefusal q))
+    guard (eqb (requestRefusal q) 0) (Refused (requestRefusal q))
+    (guard (isArchive b) (Refused 7)
+    (judgedBy (reading b .home) q (partIn b q)))

@@ -1,5 +1,6 @@
 // Whether a call is barred: the decision from an archive (document 01, "The barring rule").
 use archive::Fetched;
+use archive::Key;
 use bits::BitCount;
 use rules::Ruling;
 use rules::request::Destination;
@@ -7,13 +8,11 @@ use rules::request::Request;
 use rules::request::request_refusal;
 ghost use mathlib.Core.Path.{_≡_};
 ghost use Prim.Native.Nat.{_+_, _≤_};
-ghost use lib.ListN.{length, take, drop};
+ghost use lib.ListN.{length};
 ghost use Rattle.bits.specs.Frame.{bytesFor};
-ghost use Rattle.reader.specs.Read.{readIs};
-ghost use Rattle.rules.specs.Rule.{ruling};
-ghost use Rattle.archive.specs.Reading.{homeOf};
 ghost use Rattle.barring.specs.Decision.{decisionOf};
 ghost use Rattle.barring.specs.Decide.{partFor, decideIs};
+ghost use Rattle.barring.specs.Inner.{rulingOfBody};
 
 // The answer to a request: allowed; barred, with its cause; the part that judges it is not held; or refused, with its number.
 pub enum Decision {
@@ -44,10 +43,9 @@ fn part_for(destination: Destination) -> u32
 }
 
 // What the body of n bits at a place of the archive says of the call.
-fn judge(archive: &[u8], at: usize, n: BitCount, request: Request) -> Decision
+fn ruling_of_body(archive: &[u8], at: usize, n: BitCount, request: Request) -> Decision
     requires { ⌜ at + bytesFor (n .0) ≤ length (now archive) ⌝ }
-    ensures { λ r. ⌜ (let body = take (bytesFor (n .0)) (drop at (now (archive .entry))) in
-        r ≡ decisionOf (ruling (homeOf (now (archive .entry))) (readIs body (n .0) .found) request)) ⌝ }
+    ensures { λ r. ⌜ r ≡ rulingOfBody (now (archive .entry)) at (n .0) request ⌝ }
 {
     let end = at + n.bytes();
     let reading = pdu::read(&archive[at..end], n);
@@ -66,8 +64,13 @@ pub fn decide(archive: &[u8], request: Request) -> Decision
     let user = request.user;
     let destination = request.destination;
     let part = part_for(destination);
-    match archive::fetch(archive, user.network, user.ssi, part) {
-        Fetched::Body(at, n) => judge(archive, at, n, request),
+    let key = Key {
+        network: user.network,
+        ssi: user.ssi,
+        part,
+    };
+    match archive::fetch(archive, key) {
+        Fetched::Body(at, n) => ruling_of_body(archive, at, n, request),
         Fetched::NotHeld => Decision::NotHeld,
         Fetched::NoArchive => Decision::Refused(7),
     }

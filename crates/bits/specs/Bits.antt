@@ -10,6 +10,10 @@ abbrev pub pick : {A : Type 0} → Bool → A → A → A
 pick true a b = a
 pick false a b = b
 
+-- a refusal unless a test passes, then the rest
+abbrev pub guard : {A : Type 0} → Bool → A → A → A
+guard test refusal rest = pick test rest refusal
+
 -- a bit as a number
 abbrev pub bit : Bool → ℕ
 bit b = pick b 1 0

@@ -9,15 +9,14 @@ use Rattle.reader.specs.declared.Answer.the-variants as answer
 use Rattle.writer.specs.Write.{writtenNumber, writeIs, outIs}
 use Rattle.writer.specs.declared.Written.{Written}
 use Rattle.writer.specs.declared.Written.the-variants as written
-use Rattle.archive.specs.Keeping.{archivedNumber, emptyIs, captureIs}
+use Rattle.archive.specs.Keeping.{storedNumber, emptyIs, captureIs}
 use Rattle.archive.specs.Restoring.{restoredNumber, restoreIs}
-use Rattle.archive.specs.Listing.{listedNumber, listIs}
-use Rattle.archive.specs.declared.Archived.{Archived}
-use Rattle.archive.specs.declared.Archived.the-variants as archived
+use Rattle.archive.specs.Listing.{listIs}
+use Rattle.archive.specs.declared.contents.Key.{Key}
+use Rattle.archive.specs.declared.Stored.{Stored}
+use Rattle.archive.specs.declared.Stored.the-variants as stored
 use Rattle.archive.specs.declared.Restored.{Restored}
 use Rattle.archive.specs.declared.Restored.the-variants as restored
-use Rattle.archive.specs.declared.listing.Listed.{Listed}
-use Rattle.archive.specs.declared.listing.Listed.the-variants as listed
 use Rattle.words.specs.RecordWords.{areRecord, recordWords, recordFrom}
 use Rattle.words.specs.RequestWords.{isRequest, requestFrom}
 use Rattle.barring.specs.Decide.{decideIs}
@@ -53,23 +52,23 @@ writeOut words out = pick (areRecord (length words)) (outIs (recordFrom words) o
 unfoldable pub writeBits : List ℕ → List ℕ → ℕ → ℕ
 writeBits words out old = pick (areRecord (length words)) (writtenLength (writeIs (recordFrom words) out) old) old
 
--- ---- boc_empty and boc_capture
+-- ---- boc_empty, boc_capture and boc_contents
 
-abbrev pub archivedLength : Archived → ℕ → ℕ
-archivedLength (archived.Bytes n) old = n
-archivedLength (archived.Refused k) old = old
+abbrev pub storedLength : Stored → ℕ → ℕ
+storedLength (stored.Bytes n) old = n
+storedLength (stored.Refused k) old = old
 
 abbrev pub emptyNumber : ℕ → List ℕ → ℕ
-emptyNumber home out = archivedNumber (emptyIs home (length out))
+emptyNumber home out = storedNumber (emptyIs home (length out))
 
 abbrev pub emptyLength : ℕ → List ℕ → ℕ → ℕ
-emptyLength home out old = archivedLength (emptyIs home (length out)) old
+emptyLength home out old = storedLength (emptyIs home (length out)) old
 
 abbrev pub captureNumber : List ℕ → List ℕ → ℕ → List ℕ → ℕ
-captureNumber b s n out = archivedNumber (captureIs b s n (length out))
+captureNumber b s n out = storedNumber (captureIs b s n (length out))
 
 abbrev pub captureLength : List ℕ → List ℕ → ℕ → List ℕ → ℕ → ℕ
-captureLength b s n out old = archivedLength (captureIs b s n (length out)) old
+captureLength b s n out old = storedLength (captureIs b s n (length out)) old
 
 -- ---- boc_restore
 
@@ -77,11 +76,15 @@ abbrev pub restoredLength : Restored → ℕ → ℕ
 restoredLength (restored.Bits n) old = n .0
 restoredLength (restored.Refused k) old = old
 
+-- the user and part that the call names
+abbrev pub keyOf : ℕ → ℕ → ℕ → Key
+keyOf network ssi part = record { network = network; ssi = ssi; part = part }
+
 abbrev pub restoreNumber : List ℕ → ℕ → ℕ → ℕ → List ℕ → ℕ
-restoreNumber b network ssi part out = restoredNumber (restoreIs b network ssi part (length out))
+restoreNumber b network ssi part out = restoredNumber (restoreIs b (keyOf network ssi part) (length out))
 
 abbrev pub restoreBits : List ℕ → ℕ → ℕ → ℕ → List ℕ → ℕ → ℕ
-restoreBits b network ssi part out old = restoredLength (restoreIs b network ssi part (length out)) old
+restoreBits b network ssi part out old = restoredLength (restoreIs b (keyOf network ssi part) (length out)) old
 
 -- ---- boc_decide
 
@@ -101,12 +104,8 @@ decideDecision b words old = pick (isRequest words) (decidedVerdict (decideIs b 
 
 -- ---- boc_contents
 
-abbrev pub listedLength : Listed → ℕ → ℕ
-listedLength (listed.Bytes n) old = n
-listedLength (listed.Refused k) old = old
-
 abbrev pub contentsNumber : List ℕ → List ℕ → ℕ
-contentsNumber b out = listedNumber (listIs b (length out))
+contentsNumber b out = storedNumber (listIs b (length out))
 
 abbrev pub contentsLength : List ℕ → List ℕ → ℕ → ℕ
-contentsLength b out old = listedLength (listIs b (length out)) old
+contentsLength b out old = storedLength (listIs b (length out)) old

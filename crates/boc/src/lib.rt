@@ -1,9 +1,9 @@
 // The public calls for C: each returns 0 or the refusal number; what it answers besides goes through a pointer to one number,
 // which a refusal leaves alone. A slice of words of another length than it should have gives 9, before anything else.
-use archive::Archived;
+use archive::Key;
 use archive::Restored;
+use archive::Stored;
 use archive::listing;
-use archive::listing::Listed;
 use barring::Decision;
 use bits::BitCount;
 use pdu::Answer;
@@ -15,7 +15,7 @@ ghost use lib.ListN.{length};
 ghost use Rattle.archive.specs.Keeping.{emptyOut, captureOut};
 ghost use Rattle.archive.specs.Restoring.{restoreOut};
 ghost use Rattle.archive.specs.Listing.{listOut};
-ghost use Rattle.boc.specs.Calls.{readNumber, readWords, writeNumber, writeOut, writeBits, emptyNumber, emptyLength, captureNumber, captureLength, restoreNumber, restoreBits, decideNumber, decideDecision, contentsNumber, contentsLength};
+ghost use Rattle.boc.specs.Calls.{readNumber, readWords, writeNumber, writeOut, writeBits, emptyNumber, emptyLength, captureNumber, captureLength, keyOf, restoreNumber, restoreBits, decideNumber, decideDecision, contentsNumber, contentsLength};
 
 // Reads the PDU of `bits` bits in `pdu`; its record goes to `record`.
 #[no_mangle]
@@ -66,11 +66,11 @@ pub extern "C" fn boc_empty(home: u32, out: &mut [u8], length: &mut usize) -> u3
     ensures { λ _. ⌜ now (length .exit) ≡ emptyLength home (now (out .entry)) (now (length .entry)) ⌝ }
 {
     match archive::empty(home, out) {
-        Archived::Bytes(n) => {
+        Stored::Bytes(n) => {
             *length = n;
             0
         },
-        Archived::Refused(number) => number,
+        Stored::Refused(number) => number,
     }
 }
 
@@ -88,11 +88,11 @@ pub extern "C" fn boc_capture(
     ensures { λ _. ⌜ now (length .exit) ≡ captureLength (now (archive .entry)) (now (pdu .entry)) bits (now (out .entry)) (now (length .entry)) ⌝ }
 {
     match archive::capture(archive, pdu, BitCount(bits), out) {
-        Archived::Bytes(n) => {
+        Stored::Bytes(n) => {
             *length = n;
             0
         },
-        Archived::Refused(number) => number,
+        Stored::Refused(number) => number,
     }
 }
 
@@ -107,10 +107,11 @@ pub extern "C" fn boc_restore(
     bits: &mut usize,
 ) -> u32
     ensures { λ r. ⌜ r ≡ restoreNumber (now (archive .entry)) network ssi part (now (out .entry)) ⌝ }
-    ensures { λ _. ⌜ now (out .exit) ≡ restoreOut (now (archive .entry)) network ssi part (now (out .entry)) ⌝ }
+    ensures { λ _. ⌜ now (out .exit) ≡ restoreOut (now (archive .entry)) (keyOf network ssi part) (now (out .entry)) ⌝ }
     ensures { λ _. ⌜ now (bits .exit) ≡ restoreBits (now (archive .entry)) network ssi part (now (out .entry)) (now (bits .entry)) ⌝ }
 {
-    match archive::restore(archive, network, ssi, part, out) {
+    let key = Key { network, ssi, part };
+    match archive::restore(archive, key, out) {
         Restored::Bits(n) => {
             *bits = n.0;
             0
@@ -154,10 +155,10 @@ pub extern "C" fn boc_contents(archive: &[u8], out: &mut [u8], length: &mut usiz
     ensures { λ _. ⌜ now (length .exit) ≡ contentsLength (now (archive .entry)) (now (out .entry)) (now (length .entry)) ⌝ }
 {
     match listing::list(archive, out) {
-        Listed::Bytes(n) => {
+        Stored::Bytes(n) => {
             *length = n;
             0
         },
-        Listed::Refused(number) => number,
+        Stored::Refused(refusal) => refusal,
     }
 }

@@ -14,7 +14,8 @@ use Rattle.rules.specs.declared.request.Request.{Request}
 use Rattle.archive.specs.Keeping.{over, emptyIs, emptyOut}
 use Rattle.archive.specs.Restoring.{inRange, restoreIs, restoreOut}
 use Rattle.archive.specs.History.{Offer, afterAll, lastAccepted}
-use Rattle.archive.specs.declared.Archived.the-variants.{Bytes}
+use Rattle.archive.specs.declared.contents.Key.{Key}
+use Rattle.archive.specs.declared.Stored.the-variants.{Bytes}
 use Rattle.archive.specs.declared.Restored.the-variants.{Bits, Refused}
 use Rattle.archive.proofs.History as history
 use Rattle.barring.specs.Decision.{decisionOf}
@@ -29,10 +30,10 @@ module _ (home : ℕ) (lent : List ℕ) (m : ℕ) (e : emptyIs home (length lent
   archive = afterAll (take m (emptyOut home lent)) offers
 
   -- the last PDU accepted for a user and part
-  abbrev pub last : ℕ → ℕ → ℕ → Option Offer
-  last network ssi part = lastAccepted network ssi part (take m (emptyOut home lent)) none offers
+  abbrev pub last : Key → Option Offer
+  last k = lastAccepted k (take m (emptyOut home lent)) none offers
 
-  module _ (network ssi part : ℕ) (r : inRange network ssi part ≡ true) (out : List ℕ) where
+  module _ (k : Key) (r : inRange k ≡ true) (out : List ℕ) where
     -- Restoring gives exactly its bits, if the buffer has room for them,
     pub restores-the-last : (o : Offer) → last network ssi part ≡ some o → bytesFor (o .bits) ≤ length out
         → (restoreIs archive network ssi part (length out) ≡ Bits (record { 0 = o .bits }))
@@ -40,9 +41,9 @@ module _ (home : ℕ) (lent : List ℕ) (m : ℕ) (e : emptyIs home (length lent
     restores-the-last = history.always home lent m e offers network ssi part r out
 
     -- or "not held", and no byte changed.
-    pub restores-nothing-else : last network ssi part ≡ none
-        → (restoreIs archive network ssi part (length out) ≡ Refused 11) × (restoreOut archive network ssi part out ≡ out)
-    restores-nothing-else = history.never home lent m e offers network ssi part r out
+    pub restores-nothing-else : last k ≡ none
+        → (restoreIs archive k (length out) ≡ Refused 11) × (restoreOut archive k out ≡ out)
+    restores-nothing-else = history.never home lent m e offers k r out
 
   module _ (q : Request) (f : requestRefusal q ≡ 0) where
     -- The decision is the barring rule applied to the record of that same PDU,
@@ -51,7 +52,7 @@ module _ (home : ℕ) (lent : List ℕ) (m : ℕ) (e : emptyIs home (length lent
     decides-by-the-last o l = deciding.decided home lent m e offers q f ∙ ap (deciding.saidBy home q) l
 
     -- or "not held".
-    pub decides-by-nothing-else : last (q .user .network) (q .user .ssi) (partFor (q .destination)) ≡ none → decideIs archive q ≡ NotHeld
+    pub decides-by-nothing-else : last (keyFor q) ≡ none → decideIs archive q ≡ NotHeld
     decides-by-nothing-else l = deciding.decided home lent m e offers q f ∙ ap (deciding.saidBy home q) l
 
 -- A part that is not held never allows a call.

@@ -15,10 +15,10 @@ use Rattle.archive.specs.Filing.{entryFor}
 use Rattle.archive.specs.Reading.{reading, isArchive}
 use Rattle.archive.specs.Keeping.{leaves, with, heldFor, captured, placed, captureIs}
 use Rattle.archive.specs.Inner.{filingFor}
-use Rattle.archive.specs.declared.Archived.the-variants.{Refused}
+use Rattle.archive.specs.declared.Stored.the-variants.{Refused}
 use Rattle.archive.specs.declared.contents.Entry.{Entry}
-use Rattle.archive.proofs.Bodies.{fits, Fits}
-use Rattle.archive.proofs.Capturing.{home-read, home-fits, filed-under, offered-agrees, no-archive, not-filed, as-placed, capture-leaves}
+use Rattle.archive.proofs.Model.Bodies.{fits, Fits}
+use Rattle.archive.proofs.Calls.Capture.{home-read, home-fits, filed-under, offered-agrees, no-archive, not-filed, as-placed, capture-leaves}
 use Rattle.archive.proofs.capture.Statement.{statement}
 use Rattle.archive.proofs.capture.Tie as tie
 
@@ -46,20 +46,23 @@ out-of c = now (c .before .before .before .before .before .before .before .args 
 
 filed : (c : tie.After-filing-of) → c .filing-of .result ≡ filingFor (reading (b-of c) .home) (s-of c) (n-of c)
 filed c =
-    c .filing-of .ensures ∙ ap (λ (home : ℕ). filingFor home (s-of c) (n-of c)) (c .before .home .ensures ∙ home-read (b-of c) (ok (c .before .before)))
+    c .filing-of .ensures
+    ∙ ap (λ (home : ℕ). filingFor home (s-of c) (n-of c)) (c .before .home .ensures ∙ home-read (b-of c) (ok (c .before .before)))
 
 returns-2 : tie.Need-returns-2
 returns-2 c =
     let told = c .before in
     let f = told .before .before in
-    let e : captureIs (b-of f) (s-of f) (n-of f) (length (out-of f)) ≡ Refused (c .unfit .result) =
-    not-filed _ _ _ _ _ (ok (f .before .before)) (sym (filed f) ∙ told .enum-told .given .1) ∙ ap (λ (x : ℕ). Refused x) (sym (c .unfit .ensures))
+    let e : captureIs (b-of f) (s-of f) (n-of f) (length (out-of f)) ≡ Refused (c .not-filed-number .result) =
+    not-filed _ _ _ _ _ (ok (f .before .before)) (sym (filed f) ∙ told .enum-told .given .1)
+    ∙ ap (λ (x : ℕ). Refused x) (sym (c .not-filed-number .ensures))
     in
     (sym e, sym (capture-leaves _ _ _ (out-of f) e))
 
 -- the entry is the one that the PDU is held under
 under : (c : tie.After-filing) → let f = c .before .before in (readIs (s-of f) (n-of f) .answer ≡ Accepted)
-    × (mayHold (readIs (s-of f) (n-of f) .found) ≡ true) × (entryFor (reading (b-of f) .home) (readIs (s-of f) (n-of f) .found) (n-of f) ≡ c .filing .given .0 .0)
+    × (mayHold (readIs (s-of f) (n-of f) .found) ≡ true)
+    × (entryFor (reading (b-of f) .home) (readIs (s-of f) (n-of f) .found) (n-of f) ≡ c .filing .given .0 .0)
 under c = filed-under _ _ _ (sym (filed (c .before .before)) ∙ c .filing .given .1)
 
 fit : (c : tie.After-filing) → Fits (record { entry = c .filing .given .0 .0; body = s-of (c .before .before) })
@@ -67,7 +70,8 @@ fit c =
     let f = c .before .before in
     let home = reading (b-of f) .home in
     subst (λ (e : Entry). Fits (record { entry = e; body = s-of f })) (under c .2)
-    (fits home (heldFor home (s-of f) (n-of f)) (home-fits (b-of f) (ok (f .before .before))) (offered-agrees home (s-of f) (n-of f) (under c .0) (under c .1)))
+    (fits home (heldFor home (s-of f) (n-of f)) (home-fits (b-of f) (ok (f .before .before)))
+    (offered-agrees home (s-of f) (n-of f) (under c .0) (under c .1)))
 
 file-requires : tie.Need-file-requires
 file-requires c κs =
@@ -88,7 +92,8 @@ returns-3 c =
     ∙ sym (file .file .ensures .0 ∙ ap (λ (a : Archive). placed a (length (out-of f))) is)
     in (
       sym e,
-      file .file .ensures .1 ∙ ap (λ (a : Archive). leaves (file .file .result) (bytesOf a) (out-of f)) is ∙ sym (capture-leaves (b-of f) (s-of f) (n-of f) (out-of f) e),
+      file .file .ensures .1 ∙ ap (λ (a : Archive). leaves (file .file .result) (bytesOf a) (out-of f)) is
+          ∙ sym (capture-leaves (b-of f) (s-of f) (n-of f) (out-of f) e),
     )
 
 pub capture-spec : {M : Type 1} → statement M

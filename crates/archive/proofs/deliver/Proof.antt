@@ -8,7 +8,7 @@ use denote.Ref.{now}
 use lib.ListN.{take, drop}
 use Rattle.bits.specs.Frame.{bytesFor}
 use Rattle.archive.specs.Keeping.{over}
-use Rattle.archive.proofs.Laying.{at-front}
+use Rattle.archive.proofs.Bytes.Copied.{at-front}
 use Rattle.archive.proofs.deliver.Statement.{statement}
 use Rattle.archive.proofs.deliver.Tie as tie
 
@@ -21,7 +21,8 @@ returns-2 c =
     let test = append .before .before .before in
     let bytes = test .before in
     let a = bytes .before .before .before .args in
-    let n : a .off + bytes .bytes .result - a .off ≡ bytesFor (a .n .0) = add-sub-cancel-left (a .off) (bytes .bytes .result) ∙ bytes .bytes .ensures in (
+    let n : a .off + bytes .bytes .result - a .off ≡ bytesFor (a .n .0) =
+    add-sub-cancel-left (a .off) (bytes .bytes .result) ∙ bytes .bytes .ensures in (
       rw (← bytes .bytes .ensures, le-leb _ _ (test .if1 .left)),
       at-front (append .append .ensures) .1 ∙ ap (λ (k : ℕ). over (take k (drop (a .off) (now (a .archive)))) (now (a .out))) n,
     )

@@ -8,8 +8,8 @@ use denote.Ref.{now}
 use lib.ListN.{length}
 use Rattle.archive.specs.Model.{headerBytes}
 use Rattle.archive.specs.Keeping.{over, emptyIs, emptyOut}
-use Rattle.archive.specs.declared.Archived.the-variants.{Bytes}
-use Rattle.archive.proofs.Laying.{at-front}
+use Rattle.archive.specs.declared.Stored.the-variants.{Bytes}
+use Rattle.archive.proofs.Bytes.Copied.{at-front}
 use Rattle.archive.proofs.empty.Statement.{statement}
 use Rattle.archive.proofs.empty.Tie as tie
 

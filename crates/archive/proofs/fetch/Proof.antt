@@ -8,38 +8,38 @@ use denote.Ref.{now}
 use Rattle.bits.proofs.Tests.{said-no, said-yes}
 use Rattle.archive.specs.Reading.{isArchive}
 use Rattle.archive.specs.Restoring.{inRange, fetchIs}
-use Rattle.archive.proofs.Placing.{placeIn}
-use Rattle.archive.proofs.Lookup.{fetchedOf, fetch-none, fetch-out, fetch-place, ranged}
+use Rattle.archive.proofs.Bytes.Spliced.{placeIn}
+use Rattle.archive.proofs.Calls.Fetch.{fetchedOf, fetch-none, fetch-out, fetch-place}
+use Rattle.archive.proofs.Model.Keys.{ranged}
 use Rattle.archive.proofs.fetch.Statement.{statement}
 use Rattle.archive.proofs.fetch.Tie as tie
 
 ok : (c : tie.Else1) → isArchive (now (c .before .before .before .args .archive)) ≡ true
 ok c = said-yes (c .before .check .ensures) (c .if1 .left)
 
-within : (c : tie.Else2) → inRange (c .before .before .before .before .before .args .network) (c .before .before .before .before .before .args .ssi) (c .before .before .before .before .before .args .part) ≡ true
+within : (c : tie.Else2) → inRange (c .before .before .before .before .before .args .key) ≡ true
 within c = said-yes (c .before .in-range .ensures) (c .if2 .left)
 
 -- the answer of the place that was found
-found : (c : tie.After-find)
-    → fetchIs (now (c .before .before .before .before .before .before .before .args .archive)) (c .before .before .before .before .before .before .before .args .network) (c .before .before .before .before .before .before .before .args .ssi) (c .before .before .before .before .before .before .before .args .part)
-    ≡ fetchedOf (c .find .result)
+found : (c : tie.After-find) →
+    let a = c .before .before .before .before .before .before .args in
+    fetchIs (now (a .archive)) (a .key) ≡ fetchedOf (c .find .result)
 unfolding placeIn
 found c =
-    let test = c .before .before in
+    let test = c .before in
     let a = test .before .before .before .before .before .args in
-    fetch-place (now (a .archive)) (a .network) (a .ssi) (a .part) (ok (test .before .before)) (within test)
-    ∙ sym (ap fetchedOf (c .find .ensures ∙ ap (placeIn (now (a .archive))) (c .before .key-of .ensures)))
+    fetch-place (now (a .archive)) (a .key) (ok (test .before .before)) (within test) ∙ sym (ap fetchedOf (c .find .ensures))
 
 returns : tie.Need-returns
-returns c = sym (fetch-none _ _ _ _ (said-no (c .before .check .ensures) (c .if1 .taken)))
+returns c = sym (fetch-none _ _ (said-no (c .before .check .ensures) (c .if1 .taken)))
 
 returns-2 : tie.Need-returns-2
-returns-2 c = sym (fetch-out _ _ _ _ (ok (c .before .before)) (said-no (c .before .in-range .ensures) (c .if2 .taken)))
+returns-2 c = sym (fetch-out _ _ (ok (c .before .before)) (said-no (c .before .in-range .ensures) (c .if2 .taken)))
 
-key-of-requires : tie.Need-key-of-requires
-key-of-requires c κs =
-    let r = ranged _ _ _ (within c) in
-    (r .network, r .ssi, omega (arith, r .high))
+find-requires : tie.Need-find-requires
+find-requires c κs =
+    let r = ranged _ (within c) in
+    (ok (c .before .before), record { network = r .network; ssi = r .ssi; part = omega (arith, r .high) })
 
 returns-3 : tie.Need-returns-3
 returns-3 c = sym (found (c .before .before) ∙ rw (eq-eqb _ _ (c .if3 .taken)))
@@ -55,7 +55,6 @@ fetch-spec =
     returns
     (λ c κs. search needs)
     returns-2
-    key-of-requires
-    (λ c κs. ok (c .before .before .before))
+    find-requires
     returns-3
     returns-4)

@@ -9,44 +9,44 @@ use lib.ListN.{length}
 use Rattle.bits.proofs.Tests.{said-no, said-yes}
 use Rattle.archive.specs.Restoring.{inRange, fetchIs, restores, restoreIs}
 use Rattle.archive.specs.declared.Fetched.{Fetched}
-use Rattle.archive.proofs.Restoring.{out-of-range, none-found, not-found, found-at, found-body, restore-leaves}
+use Rattle.archive.proofs.Calls.Restore.{out-of-range, none-found, not-found, found-at, found-body, restore-leaves}
 use Rattle.archive.proofs.restore.Statement.{statement}
 use Rattle.archive.proofs.restore.Tie as tie
 
 returns : tie.Need-returns
 returns c =
     let a = c .before .before .before .before .args in
-    let e = out-of-range (now (a .archive)) (a .network) (a .ssi) (a .part) (length (now (a .out))) (said-no (c .before .in-range .ensures) (c .if1 .taken)) in
-    (sym e, sym (restore-leaves _ _ _ _ (now (a .out)) e))
+    let e = out-of-range (now (a .archive)) (a .key) (length (now (a .out))) (said-no (c .before .in-range .ensures) (c .if1 .taken)) in
+    (sym e, sym (restore-leaves _ _ (now (a .out)) e))
 
-within : (c : tie.Else1) → inRange (c .before .before .before .before .args .network) (c .before .before .before .before .args .ssi) (c .before .before .before .before .args .part) ≡ true
+within : (c : tie.Else1) → inRange (c .before .before .before .before .args .key) ≡ true
 within c = said-yes (c .before .in-range .ensures) (c .if1 .left)
 
 -- what fetch found
 found : (c : tie.After-fetch) {f : Fetched} → c .fetch .result ≡ f
-    → fetchIs (now (c .before .before .before .before .before .args .archive)) (c .before .before .before .before .before .args .network) (c .before .before .before .before .before .args .ssi) (c .before .before .before .before .before .args .part) ≡ f
+    → fetchIs (now (c .before .before .before .before .before .args .archive)) (c .before .before .before .before .before .args .key) ≡ f
 found c e = sym (c .fetch .ensures) ∙ e
 
 returns-2 : tie.Need-returns-2
 returns-2 c =
     let fetch = c .before .before in
     let a = fetch .before .before .before .before .before .args in
-    let e = none-found (now (a .archive)) (a .network) (a .ssi) (a .part) (within (fetch .before)) (length (now (a .out))) (found fetch (c .enum-told .given .1)) in
-    (sym e, sym (restore-leaves _ _ _ _ (now (a .out)) e))
+    let e = none-found (now (a .archive)) (a .key) (within (fetch .before)) (length (now (a .out))) (found fetch (c .enum-told .given .1)) in
+    (sym e, sym (restore-leaves _ _ (now (a .out)) e))
 
 returns-3 : tie.Need-returns-3
 returns-3 c =
     let fetch = c .before .before in
     let a = fetch .before .before .before .before .before .args in
-    let e = not-found (now (a .archive)) (a .network) (a .ssi) (a .part) (within (fetch .before)) (length (now (a .out))) (found fetch (c .enum-told2 .given .1)) in
-    (sym e, sym (restore-leaves _ _ _ _ (now (a .out)) e))
+    let e = not-found (now (a .archive)) (a .key) (within (fetch .before)) (length (now (a .out))) (found fetch (c .enum-told2 .given .1)) in
+    (sym e, sym (restore-leaves _ _ (now (a .out)) e))
 
 deliver-requires : tie.Need-deliver-requires
 deliver-requires c κs =
     let found-in = c .before .before in
     let fetch = found-in .before .before in
     let a = fetch .before .before .before .before .before .args in
-    found-at (now (a .archive)) (a .network) (a .ssi) (a .part) (within (fetch .before)) (found fetch (found-in .found .given .1)) .1 .inside
+    found-at (now (a .archive)) (a .key) (within (fetch .before)) (found fetch (found-in .found .given .1)) .1 .inside
 
 returns-4 : tie.Need-returns-4
 returns-4 c =
@@ -55,12 +55,12 @@ returns-4 c =
     let fetch = found-in .before .before in
     let a = fetch .before .before .before .before .before .args in
     let out = now (a .out) in
-    let r = found-body (now (a .archive)) (a .network) (a .ssi) (a .part) (within (fetch .before)) (length out) (found fetch (found-in .found .given .1)) in
-    let e : restoreIs (now (a .archive)) (a .network) (a .ssi) (a .part) (length out) ≡ deliver .deliver .result = r .0 ∙ sym (deliver .deliver .ensures .0) in (
+    let r = found-body (now (a .archive)) (a .key) (within (fetch .before)) (length out) (found fetch (found-in .found .given .1)) in
+    let e : restoreIs (now (a .archive)) (a .key) (length out) ≡ deliver .deliver .result = r .0 ∙ sym (deliver .deliver .ensures .0) in (
       sym e,
       deliver .deliver .ensures .1
           ∙ ap (λ (w : List ℕ). restores (deliver .deliver .result) w out) (sym (r .1))
-          ∙ sym (restore-leaves (now (a .archive)) (a .network) (a .ssi) (a .part) out e),
+          ∙ sym (restore-leaves (now (a .archive)) (a .key) out e),
     )
 
 pub restore-spec : {M : Type 1} → statement M

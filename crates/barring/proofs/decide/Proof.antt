@@ -1,11 +1,12 @@
 -- 9 comes before 7; then each answer of the archive is the definition's own case. Assumes nothing.
 use mathlib.Core.Path.{_≡_, sym, ap, _∙_}
+use Prim.Native.Nat.{ℕ}
 use borrow.Author.Needs.{needs}
 use borrow.Author.Tests.{ne-eqb}
 use denote.Ref.{now}
 use Rattle.rules.specs.Request.{requestRefusal}
 use Rattle.archive.specs.Restoring.{fetchIs}
-use Rattle.barring.specs.Decide.{partFor, decideIs}
+use Rattle.barring.specs.Decide.{keyFor, decideIs}
 use Rattle.barring.proofs.Decided.{body-within, decide-body, decide-missing, decide-damaged}
 use Rattle.barring.proofs.decide.Statement.{statement}
 use Rattle.barring.proofs.decide.Tie as tie
@@ -21,13 +22,16 @@ ranged c = let d = c .before .before .before in sym (d .before .request-refusal 
 -- and its part was fetched
 fetches : (c : tie.After-fetch) →
     let a = c .before .before .before .before .before .before .args in
-    fetchIs (now (a .archive)) (a .request .user .network) (a .request .user .ssi) (partFor (a .request .destination)) ≡ c .fetch .result
+    fetchIs (now (a .archive)) (keyFor (a .request)) ≡ c .fetch .result
 fetches c =
     let a = c .before .before .before .before .before .before .args in
-    sym (c .fetch .ensures ∙ ap (fetchIs (now (a .archive)) (a .request .user .network) (a .request .user .ssi)) (c .before .part-for .ensures))
+    sym
+    (c .fetch .ensures
+    ∙ ap (λ (part : ℕ). fetchIs (now (a .archive)) (record { network = a .request .user .network; ssi = a .request .user .ssi; part = part }))
+    (c .before .part-for .ensures))
 
-judge-requires : tie.Need-judge-requires
-judge-requires c κs =
+ruling-of-body-requires : tie.Need-ruling-of-body-requires
+ruling-of-body-requires c κs =
     let f = c .before .before .before in
     body-within _ _ (ranged f) _ _ (fetches f ∙ c .before .at .given .1)
 
@@ -35,7 +39,7 @@ returns-2 : tie.Need-returns-2
 returns-2 c =
     let a = c .before .before in
     let f = a .before .before in
-    c .judge .ensures ∙ decide-body _ _ (ranged f) _ _ (fetches f ∙ a .at .given .1)
+    c .ruling-of-body .ensures ∙ decide-body _ _ (ranged f) _ _ (fetches f ∙ a .at .given .1)
 
 returns-3 : tie.Need-returns-3
 returns-3 c = let f = c .before .before in decide-missing _ _ (ranged f) (fetches f ∙ c .enum-told .given .1)
@@ -52,7 +56,7 @@ decide-spec =
     (λ c κs. search needs)
     (λ c κs. search needs)
     (λ c. search needs)
-    judge-requires
+    ruling-of-body-requires
     (λ c. search needs)
     (λ c. search needs)
     returns-2

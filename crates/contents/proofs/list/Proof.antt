@@ -4,8 +4,8 @@ use native.Mathlib.Omega.{arith}
 use borrow.Author.Needs.{needs}
 use denote.Ref.{now}
 use lib.ListN.{length}
-use Rattle.archive.proofs.Lines.{listed-fits}
-use Rattle.archive.proofs.Sizes.{sizeOf, all-listed}
+use Rattle.archive.proofs.Text.Lines.{listed-fits}
+use Rattle.archive.proofs.Text.Sizes.{sizeOf, all-listed}
 use Rattle.contents.proofs.list.Statement.{statement}
 use Rattle.contents.proofs.list.Tie as tie
 

@@ -27,8 +27,15 @@ module _ (c : tie.After-read-some Inv-loop μ-loop) where
 
   fits : at-loop .loop .done + c .read-some .result .count ≤ length (at-loop .loop .buffer)
   fits =
-      omega
-      (arith, c .read-some .ensures, c .read-some .kept .0, length-take left (drop (at-loop .loop .done) (at-loop .loop .buffer)), length-drop (at-loop .loop .done) (at-loop .loop .buffer), at-loop .loop .inv .0)
+      omega (
+        arith,
+        c .read-some .ensures,
+        c .read-some .kept .0,
+        length-take left (drop (at-loop .loop .done) (at-loop .loop .buffer)),
+        length-drop
+            (at-loop .loop .done) (at-loop .loop .buffer),
+        at-loop .loop .inv .0,
+      )
 
 same-length : tie.Need-same-length Inv-loop μ-loop
 same-length c = let r = c .before .before .before in kept r ∙ r .before .before .before .loop .inv .1
@@ -46,7 +53,8 @@ loop-less : tie.Need-loop-less Inv-loop μ-loop
 loop-less c = let r = c .before .before .before .before .before .before in omega (arith, fits r, kept r)
 
 loop-again : tie.Need-loop-again Inv-loop μ-loop
-loop-again c = let r = c .before .before .before .before .before .before in (omega (arith, fits r, kept r), kept r ∙ r .before .before .before .loop .inv .1)
+loop-again c = let r =
+    c .before .before .before .before .before .before in (omega (arith, fits r, kept r), kept r ∙ r .before .before .before .loop .inv .1)
 
 pub read-all-spec : {M : Type 1} → statement M
 read-all-spec =

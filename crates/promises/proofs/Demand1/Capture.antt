@@ -17,7 +17,7 @@ use Rattle.judging.specs.Judge.{mayHold}
 use Rattle.archive.specs.Model.{Held, Archive, keyOf, lengthOf}
 use Rattle.archive.specs.Filing.{entryFor, bodyAgrees, keepsRules}
 use Rattle.archive.specs.Reading.{reading, isArchive}
-use Rattle.archive.specs.Keeping.{archivedNumber, heldFor, captured, captureIs}
+use Rattle.archive.specs.Keeping.{storedNumber, heldFor, captured, captureIs}
 use Rattle.archive.specs.Restoring.{lookup}
 use Rattle.archive.specs.declared.contents.Entry.{Entry}
 use Rattle.archive.specs.declared.Archived.the-variants.{Bytes, Refused}
@@ -164,7 +164,7 @@ module _ (b s : List ℕ) (n room : ℕ) where
   row = go (isArchive b) refl (readIs s n .answer) refl (mayHold (readIs s n .found)) refl
     where
       to : {k : ℕ} → captureIs b s n room ≡ Refused k → Both k → Both (number b s n room)
-      to e h = subst Both (sym (ap archivedNumber e)) h
+      to e h = subst Both (sym (ap storedNumber e)) h
 
       go : (p : Bool) → isArchive b ≡ p → (a : Answer) → readIs s n .answer ≡ a → (q : Bool) → mayHold (readIs s n .found) ≡ q
           → Both (number b s n room)

@@ -9,14 +9,14 @@ use lib.Dec.{ltb, leb}
 use borrow.Author.Tests.{ltb-true, ltb-false, leb-true, leb-false, lt-ltb, le-ltb, le-leb, lt-leb}
 use Rattle.bits.specs.Bits.{pick}
 use Rattle.archive.specs.Model.{headerWidth, headerBytes, bytesOf}
-use Rattle.archive.specs.Keeping.{archivedNumber, leaves, emptyOf, emptyIs, emptyOut}
-use Rattle.archive.specs.declared.Archived.{Archived}
-use Rattle.archive.specs.declared.Archived.the-variants.{Bytes, Refused}
+use Rattle.archive.specs.Keeping.{storedNumber, leaves, emptyOf, emptyIs, emptyOut}
+use Rattle.archive.specs.declared.Stored.{Stored}
+use Rattle.archive.specs.declared.Stored.the-variants.{Bytes, Refused}
 use Rattle.promises.specs.Answers.{OneOf}
 use Rattle.promises.specs.Demand1.Empty.{number, Given, success, unranged, no-room, Promise}
 use Rattle.promises.proofs.Tables.{exactly}
 
-abbrev answerBy : Bool → Bool → Archived
+abbrev answerBy : Bool → Bool → Stored
 answerBy ranged room = pick ranged (pick room (Bytes headerWidth) (Refused 8)) (Refused 9)
 
 module _ (home room : ℕ) where
@@ -27,7 +27,7 @@ module _ (home room : ℕ) where
   unfolding emptyIs
   row = go (ltb home 16777216) refl (leb headerWidth room) refl
     where
-      go : (p : Bool) → ltb home 16777216 ≡ p → (q : Bool) → leb headerWidth room ≡ q → Both (archivedNumber (answerBy p q))
+      go : (p : Bool) → ltb home 16777216 ≡ p → (q : Bool) → leb headerWidth room ≡ q → Both (storedNumber (answerBy p q))
       go true e true f = (success (ltb-true _ _ e) (leb-true _ _ f), refl)
       go true e false f = (no-room (ltb-true _ _ e) (leb-false _ _ f), refl)
       go false e q f = (unranged (ltb-false _ _ e), refl)
@@ -44,9 +44,9 @@ module _ (home room : ℕ) where
   written k (unranged h) z = absurd (omega arith)
   written k (no-room h l) z = absurd (omega arith)
 
-empty-leaves : (home : ℕ) (out : List ℕ) {r : Archived} → emptyIs home (length out) ≡ r → emptyOut home out ≡ leaves r (bytesOf (emptyOf home)) out
+empty-leaves : (home : ℕ) (out : List ℕ) {r : Stored} → emptyIs home (length out) ≡ r → emptyOut home out ≡ leaves r (bytesOf (emptyOf home)) out
 unfolding emptyOut
-empty-leaves home out e = ap (λ (r : Archived). leaves r (bytesOf (emptyOf home)) out) e
+empty-leaves home out e = ap (λ (r : Stored). leaves r (bytesOf (emptyOf home)) out) e
 
 pub promise : Promise
 unfolding headerBytes

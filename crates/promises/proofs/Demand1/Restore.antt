@@ -16,7 +16,7 @@ use Rattle.archive.specs.Keeping.{over}
 use Rattle.archive.specs.Restoring.{restoredNumber, inRange, lookup, delivered, bodyOf, restoreIs, restoreOut}
 use Rattle.archive.specs.declared.Restored.{Restored}
 use Rattle.archive.specs.declared.Restored.the-variants.{Bits, Refused}
-use Rattle.archive.proofs.Restoring.{out-of-range, no-archive, as-delivered, restore-leaves}
+use Rattle.archive.proofs.Calls.Restore.{out-of-range, no-archive, as-delivered, restore-leaves}
 use Rattle.promises.specs.Answers.{OneOf}
 use Rattle.promises.specs.Archive as archive
 use Rattle.promises.specs.Archive.{IsArchive, Ranged, HeldFor}
@@ -48,7 +48,7 @@ module _ (b : List ℕ) (network ssi part : ℕ) where
 
   module _ (room : ℕ) where
     abbrev Both : ℕ → Type 0
-    Both k = Given b network ssi part room k × OneOf (0 ∷ 9 ∷ 7 ∷ 11 ∷ 8 ∷ []) k
+    Both k = Given b key room k × OneOf (0 ∷ 9 ∷ 7 ∷ 11 ∷ 8 ∷ []) k
 
     asked : Ranged network ssi part → IsArchive b → (l : Option Held) → held ≡ l → restoreIs b network ssi part room ≡ delivered l room
     asked r k l e = as-delivered b network ssi part room (ranged r) (archives.is-archive b .1 k) ∙ ap (λ (x : Option Held). delivered x room) e
@@ -56,7 +56,7 @@ module _ (b : List ℕ) (network ssi part : ℕ) where
     row : Both (number b network ssi part room)
     row = go (inRange network ssi part) refl (isArchive b) refl held refl
       where
-        to : {r : Restored} → restoreIs b network ssi part room ≡ r → Both (restoredNumber r) → Both (number b network ssi part room)
+        to : {r : Restored} → restoreIs b key room ≡ r → Both (restoredNumber r) → Both (number b key room)
         to e h = subst Both (sym (ap restoredNumber e)) h
 
         by : (h : Held) → Ranged network ssi part → (k : IsArchive b) → Holds b network ssi part k h → (t : Bool) → leb (bodySize h) room ≡ t
@@ -106,8 +106,8 @@ module _ (b : List ℕ) (network ssi part : ℕ) where
 
 pub promise : Promise
 promise = record {
-  table = λ b network ssi part room.
-      exactly (Given b network ssi part room) (row b network ssi part room .0) (row b network ssi part room .1) (back b network ssi part room);
-  success = λ b network ssi part out e. succeeds b network ssi part out (number b network ssi part (length out)) (row b network ssi part (length out) .0) e;
-  refusal = λ b network ssi part out k e. restore-leaves b network ssi part out e;
+  table = λ b key room.
+      exactly (Given b key room) (row b key room .0) (row b key room .1) (back b key room);
+  success = λ b key out e. succeeds b key out (number b key (length out)) (row b key (length out) .0) e;
+  refusal = λ b key out k e. restore-leaves b key out e;
 }

@@ -10,7 +10,7 @@ pub capture-determined : Determined archive.capture.Kinds.ps archive.capture.Kin
 capture-determined = by-equations (λ κs a x v p. (p .0, λ i. (tt, (tt, (tt, (p .1 i, tt))))))
 
 pub restore-determined : Determined archive.restore.Kinds.ps archive.restore.Kinds.r archive.restore.Reads.Learnt
-restore-determined = by-equations (λ κs a x v p. (p .0, λ i. (tt, (tt, (tt, (tt, (p .1 i, tt)))))))
+restore-determined = by-equations (λ κs a x v p. (p .0, λ i. (tt, (tt, (p .1 i, tt)))))
 
 pub list-determined : Determined archive.listing.list.Kinds.ps archive.listing.list.Kinds.r archive.listing.list.Reads.Learnt
 list-determined = by-equations (λ κs a x v p. (p .0, λ i. (tt, (p .1 i, tt))))

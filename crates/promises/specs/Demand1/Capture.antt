@@ -16,7 +16,7 @@ use Rattle.promises.specs.Archive.{Agrees, IsArchive, HeldFor}
 use Rattle.promises.specs.Demand1.Reading as read
 
 abbrev pub number : List ℕ → List ℕ → ℕ → ℕ → ℕ
-number b s n room = archivedNumber (captureIs b s n room)
+number b s n room = storedNumber (captureIs b s n room)
 
 -- an archive, and a legal PDU that it may hold
 pub record Offered (b s : List ℕ) (n : ℕ) : Type 0 where

@@ -8,7 +8,7 @@ use Rattle.archive.specs.declared.Archived.the-variants.{Bytes, Refused}
 use Rattle.promises.specs.Answers.{Exactly}
 
 abbrev pub number : ℕ → ℕ → ℕ
-number home room = archivedNumber (emptyIs home room)
+number home room = storedNumber (emptyIs home room)
 
 -- the home network in three bytes, the most significant first, and the entry count 0 in two
 abbrev pub header : ℕ → List ℕ

@@ -6,12 +6,12 @@ use lib.ListN.{length, replicate}
 use Rattle.archive.specs.Keeping.{over}
 use Rattle.archive.specs.Listing.{digits, decimal, item, firstLine, lines, listing, listIs, listOut, listedNumber}
 use Rattle.archive.specs.Examples.{calls}
-use Rattle.archive.specs.declared.listing.Listed.the-variants.{Bytes, Refused}
+use Rattle.archive.specs.declared.Stored.the-variants.{Bytes, Refused}
 use Rattle.promises.specs.Answers.{Exactly}
 use Rattle.promises.specs.Archive.{IsArchive}
 
 abbrev pub number : List ℕ → ℕ → ℕ
-number b room = listedNumber (listIs b room)
+number b room = storedNumber (listIs b room)
 
 -- the table of refusals, as far as the listing goes
 pub data Given (b : List ℕ) (room : ℕ) : ℕ → Type 0 where

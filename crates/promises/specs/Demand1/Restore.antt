@@ -12,8 +12,8 @@ use Rattle.archive.specs.declared.Restored.the-variants.{Bits, Refused}
 use Rattle.promises.specs.Answers.{Exactly}
 use Rattle.promises.specs.Archive.{IsArchive, Ranged, HeldFor}
 
-abbrev pub number : List ℕ → ℕ → ℕ → ℕ → ℕ → ℕ
-number b network ssi part room = restoredNumber (restoreIs b network ssi part room)
+abbrev pub number : List ℕ → Key → ℕ → ℕ
+number b k room = restoredNumber (restoreIs b k room)
 
 module _ (b : List ℕ) (network ssi part : ℕ) where
   -- an archive holds this PDU for the user and part

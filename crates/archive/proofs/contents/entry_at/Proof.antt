@@ -9,8 +9,8 @@ returns c =
     let ssi = c .before .before .three2 .ensures in
     let part = c .before .byte .ensures in
     let bits = c .two .ensures in (
-      (λ i. record { network = network .0 i; ssi = ssi .0 i; part = part .0 i; bits = record { 0 = bits .0 i } }),
-      record { network = network .1; ssi = ssi .1; part = part .1; bits = bits .1 },
+      (λ i. record { key = record { network = network .0 i; ssi = ssi .0 i; part = part .0 i }; bits = record { 0 = bits .0 i } }),
+      record { key = record { network = network .1; ssi = ssi .1; part = part .1 }; bits = bits .1 },
     )
 
 pub entry-at-spec : {M : Type 1} → statement M

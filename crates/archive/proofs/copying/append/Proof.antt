@@ -1,7 +1,7 @@
 -- What the writer leaves in the part that is lent on is the bytes, and all around it stays. Assumes nothing.
 use borrow.Author.Needs.{needs}
 use denote.Ref.{now}
-use Rattle.archive.proofs.Laying.{lent}
+use Rattle.archive.proofs.Bytes.Copied.{lent}
 use Rattle.archive.proofs.copying.append.Statement.{statement}
 use Rattle.archive.proofs.copying.append.Tie as tie
 

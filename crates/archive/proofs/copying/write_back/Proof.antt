@@ -13,7 +13,8 @@ use Rattle.archive.proofs.copying.write_back.Tie as tie
 
 -- the length of the first part
 middle : (c : tie.After-next-of)
-    → length (take (c .before .before .before .before .args .place .off - c .next-of .result) (drop (c .next-of .result) (now (c .before .before .before .before .args .archive))))
+    → length (take (c .before .before .before .before .args .place .off - c .next-of .result)
+    (drop (c .next-of .result) (now (c .before .before .before .before .args .archive))))
     ≡ c .before .before .before .before .args .place .off - nextAt (c .before .before .before .before .args .place)
 middle c =
     let a = c .before .before .before .before .args in
@@ -33,8 +34,20 @@ append-requires-3 c κs =
     let first = second .before .before .before .before in
     let rest = first .before .before .before in
     let start = rest .before .before .before .before .before in
-    let l = length-part (now (start .args .archive)) (rest .rest-of .result) (length (now (start .args .archive)) - rest .rest-of .result) (omega (arith, rest .rest-of .ensures, start .pre .0 .bodies)) in
-    omega (arith, l, middle (rest .before), first .append .ensures .ends, first .append .kept .0, second .append2 .ensures .ends, second .append2 .kept .0, start .pre .1, rest .rest-of .ensures)
+    let l = length-part (now (start .args .archive)) (rest .rest-of .result) (length (now (start .args .archive)) - rest .rest-of .result)
+    (omega (arith, rest .rest-of .ensures, start .pre .0 .bodies)) in
+    omega (
+      arith,
+      l,
+      middle
+          (rest .before),
+      first .append .ensures .ends,
+      first .append .kept .0,
+      second .append2 .ensures .ends,
+      second .append2 .kept .0,
+      start .pre .1,
+      rest .rest-of .ensures,
+    )
 
 returns : tie.Need-returns
 unfolding backOf

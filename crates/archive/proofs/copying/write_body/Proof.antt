@@ -5,7 +5,7 @@ use Prim.Native.Nat.{_≤_, _-_}
 use native.Mathlib.Omega.{arith}
 use denote.Ref.{now}
 use lib.ListN.{length, take, drop, length-set}
-use Rattle.archive.proofs.Laying.{copied-one, copied-all}
+use Rattle.archive.proofs.Bytes.Copied.{copied-one, copied-all}
 use Rattle.archive.proofs.copying.write_body.Statement.{statement}
 use Rattle.archive.proofs.copying.write_body.Tie as tie
 

@@ -8,7 +8,7 @@ use Rattle.bits.proofs.Laying.{then}
 use Rattle.archive.specs.Model.{headerBytes}
 use Rattle.archive.specs.Reading.{homeOf}
 use Rattle.archive.specs.Inner.{frontOf}
-use Rattle.archive.proofs.Walks.{home-small}
+use Rattle.archive.proofs.Bytes.Walking.{home-small}
 use Rattle.archive.proofs.copying.write_front.Statement.{statement}
 use Rattle.archive.proofs.copying.write_front.Tie as tie
 
@@ -25,8 +25,10 @@ returns c =
     let first = second .before .before .before .before .before in
     let row = first .before .before .before in
     let header = row .before in
-    let h : header .header-bytes .result ≡ headerBytes (homeOf (now (header .before .before .before .before .args .archive))) (header .before .before .before .before .args .count) =
-    header .header-bytes .ensures ∙ ap (λ (x : ℕ). headerBytes x (header .before .before .before .before .args .count)) (header .before .home .ensures)
+    let h : header .header-bytes .result
+    ≡ headerBytes (homeOf (now (header .before .before .before .before .args .archive))) (header .before .before .before .before .args .count) =
+    header .header-bytes .ensures
+    ∙ ap (λ (x : ℕ). headerBytes x (header .before .before .before .before .args .count)) (header .before .home .ensures)
     in
     rw (h, row .entry-bytes .ensures) at
     (then (omega arith) (then (omega arith) (first .append .ensures) (second .append2 .ensures)) (third .append3 .ensures))

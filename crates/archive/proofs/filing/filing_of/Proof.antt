@@ -1,7 +1,7 @@
 -- What judging says of the PDU is what is filed. Assumes nothing.
 use mathlib.Core.Path.{sym, _∙_}
 use borrow.Author.Needs.{needs}
-use Rattle.archive.proofs.Bodies.{filing-other, filing-part}
+use Rattle.archive.proofs.Model.Bodies.{filing-other, filing-part}
 use Rattle.archive.proofs.filing.filing_of.Statement.{statement}
 use Rattle.archive.proofs.filing.filing_of.Tie as tie
 

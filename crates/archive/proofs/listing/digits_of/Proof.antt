@@ -4,12 +4,12 @@ use Prim.Native.Nat.{_+_, _≤_, _<_}
 use native.Mathlib.Omega.{arith}
 use lib.ListN.{length}
 use Rattle.archive.specs.Listing.{decimal}
-use Rattle.archive.proofs.Decimal.{decimal-one, length-more, within}
+use Rattle.archive.proofs.Text.Decimal.{decimal-one, length-more, within}
 use Rattle.archive.proofs.listing.digits_of.Statement.{statement}
 use Rattle.archive.proofs.listing.digits_of.Tie as tie
 
 abbrev Inv-loop : tie.InvT-loop
-Inv-loop n rest₀ count₀ rest count = (count + length (decimal rest) ≡ length (decimal n) + 1) × (length (decimal n) ≤ 8) × (rest < 100000000)
+Inv-loop n rest₀ count₀ rest count = (count + length (decimal rest) ≡ length (decimal n) + 1) × (length (decimal n) ≤ 20) × (rest ≤ n)
 
 abbrev μ-loop : tie.MeasureT-loop
 μ-loop n rest₀ count₀ rest count = rest
@@ -26,7 +26,7 @@ digits-of-spec =
     (tie.spec
     Inv-loop
     μ-loop
-    (λ c. (omega arith, within 7 _ (c .pre), c .pre))
+    (λ c. (omega arith, within 19 _ (omega arith), omega arith))
     (λ c. omega arith)
     (λ c. omega arith)
     loop-again

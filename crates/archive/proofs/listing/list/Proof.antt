@@ -11,8 +11,8 @@ use lib.Dec.{leb}
 use Rattle.bits.proofs.Tests.{said-no, said-yes}
 use Rattle.archive.specs.Reading.{reading, isArchive}
 use Rattle.archive.specs.Listing.{listing, listIs, listOut}
-use Rattle.archive.specs.declared.listing.Listed.the-variants.{Bytes}
-use Rattle.archive.proofs.Laying.{at-front}
+use Rattle.archive.specs.declared.Stored.the-variants.{Bytes}
+use Rattle.archive.proofs.Bytes.Copied.{at-front}
 use Rattle.archive.proofs.listing.list.Statement.{statement}
 use Rattle.archive.proofs.listing.list.Tie as tie
 
@@ -31,7 +31,8 @@ unfolding listIs listOut
 returns-2 c =
     let size = c .before in
     let a = size .before .before .before .before .before .args in
-    let k : leb (length (listing (reading (now (a .archive))))) (length (now (a .out))) ≡ false = lt-leb (length (listing (reading (now (a .archive))))) (length (now (a .out))) (omega (arith, size .text-length .ensures)) in
+    let k : leb (length (listing (reading (now (a .archive))))) (length (now (a .out))) ≡ false =
+    lt-leb (length (listing (reading (now (a .archive))))) (length (now (a .out))) (omega (arith, size .text-length .ensures)) in
     (rw (ok (size .before), k), rw (ok (size .before), k))
 
 write-text-requires : tie.Need-write-text-requires
@@ -45,7 +46,8 @@ returns-3 c =
     let text = c .before .before in
     let size = text .before .before .before in
     let a = size .before .before .before .before .before .args in
-    let k : leb (length (listing (reading (now (a .archive))))) (length (now (a .out))) ≡ true = le-leb (length (listing (reading (now (a .archive))))) (length (now (a .out))) (omega (arith, size .text-length .ensures)) in
+    let k : leb (length (listing (reading (now (a .archive))))) (length (now (a .out))) ≡ true =
+    le-leb (length (listing (reading (now (a .archive))))) (length (now (a .out))) (omega (arith, size .text-length .ensures)) in
     let w = at-front (text .write-text .ensures) in (
       rw (ok (size .before), k) (ap (λ (n : ℕ). Bytes n) (w .0)),
       rw (ok (size .before), k) (w .1),

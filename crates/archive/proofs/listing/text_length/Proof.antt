@@ -6,27 +6,23 @@ use native.Mathlib.Omega.{arith}
 use borrow.Author.Needs.{needs}
 use denote.Ref.{now}
 use lib.ListN.{length, length-append}
+use Rattle.archive.specs.Model.{headerWidth, entryWidth}
 use Rattle.archive.specs.Reading.{homeOf, countOf, reading}
 use Rattle.archive.specs.Listing.{decimal, firstLine, line, listing}
 use Rattle.archive.specs.Inner.{linesFrom}
 use Rattle.archive.specs.declared.contents.Entry.{Entry}
-use Rattle.archive.proofs.Walks.{home-small}
-use Rattle.archive.proofs.Checks.{sound}
-use Rattle.archive.proofs.Lines.{length-first, linesFrom-next, linesFrom-none, listing-read}
+use Rattle.archive.proofs.Bytes.Checking.{sound}
+use Rattle.archive.proofs.Text.Lines.{length-first, linesFrom-next, linesFrom-none, listing-read}
 use Rattle.archive.proofs.listing.text_length.Statement.{statement}
 use Rattle.archive.proofs.listing.text_length.Tie as tie
 
 abbrev Inv-loop : tie.InvT-loop
 Inv-loop archive left₀ home size₀ at₀ left size at =
-    (at + 9 * left ≤ length archive) × (size + 46 * left ≤ 23583) × (size + length (linesFrom archive left at) ≡ length (listing (reading archive)))
+    (at + entryWidth * left ≤ length archive) × (size + 94 * left ≤ 48183)
+    × (size + length (linesFrom archive left at) ≡ length (listing (reading archive)))
 
 abbrev μ-loop : tie.MeasureT-loop
 μ-loop archive left₀ home size₀ at₀ left size at = left
-
-digits-of-requires : tie.Need-digits-of-requires Inv-loop μ-loop
-digits-of-requires c κs =
-    let known = c .before .before in
-    omega (arith, c .home .ensures, home-small (now (known .before .args .archive)) (λ i. known .shared-slice-known .given i .fits))
 
 loop-holds : tie.Need-loop-holds Inv-loop μ-loop
 loop-holds c =
@@ -35,12 +31,13 @@ loop-holds c =
     let b = now (count .before .before .args .archive) in
     let s = sound b (count .before .before .pre) in
     let n = count .count .ensures .0 in
-    let lines : length (linesFrom b (count .count .result) 5) ≡ length (linesFrom b (countOf b) 5) = ap (λ (k : ℕ). length (linesFrom b k 5)) n in
+    let lines : length (linesFrom b (count .count .result) headerWidth) ≡ length (linesFrom b (countOf b) headerWidth) =
+    ap (λ (k : ℕ). length (linesFrom b k headerWidth)) n in
     let first : length (firstLine (homeOf b) (countOf b)) ≡ length (decimal (home .home .result)) + length (decimal (count .count .result)) + 15 =
     (λ i. length (firstLine (sym (home .home .ensures) i) (sym n i))) ∙ length-first (home .home .result) (count .count .result)
     in
-    let whole : length (listing (reading b)) ≡ length (firstLine (homeOf b) (countOf b)) + length (linesFrom b (countOf b) 5) =
-    ap length (listing-read b (omega (arith, s .whole))) ∙ length-append (firstLine (homeOf b) (countOf b)) (linesFrom b (countOf b) 5)
+    let whole : length (listing (reading b)) ≡ length (firstLine (homeOf b) (countOf b)) + length (linesFrom b (countOf b) headerWidth) =
+    ap length (listing-read b (omega (arith, s .whole))) ∙ length-append (firstLine (homeOf b) (countOf b)) (linesFrom b (countOf b) headerWidth)
     in
     (omega (arith, s .whole), omega (arith, s .few), omega (arith, c .before .digits-of .ensures .0, c .digits-of2 .ensures .0))
 
@@ -50,9 +47,10 @@ loop-again c =
     let loop = entry .before .before in
     let b = now (loop .before .before .before .before .before .before .args .archive) in
     let l = loop .loop in
-    let others = linesFrom b (l .left - 1) (l .at + 9) in
+    let others = linesFrom b (l .left - 1) (l .at + entryWidth) in
     let next : length (linesFrom b (l .left) (l .at)) ≡ length (line (entry .entry-at .result)) + length others =
-    ap length (linesFrom-next b (l .left) (l .at) (entry .before .loop-test .taken) ∙ ap (λ (e : Entry). line e ++ others) (sym (entry .entry-at .ensures .0)))
+    ap length (linesFrom-next b (l .left) (l .at) (entry .before .loop-test .taken)
+    ∙ ap (λ (e : Entry). line e ++ others) (sym (entry .entry-at .ensures .0)))
     ∙ length-append (line (entry .entry-at .result)) others
     in
     (omega arith, omega arith, omega arith)
@@ -72,13 +70,13 @@ text-length-spec =
     (λ c κs. omega (arith, sound _ (c .before .pre) .whole))
     (λ c κs. search needs)
     (λ c. search needs)
-    digits-of-requires
-    (λ c κs. omega arith)
+    (λ c κs. search needs)
+    (λ c κs. search needs)
     (λ c. omega arith)
     (λ c. omega arith)
     loop-holds
     (λ c κs. omega arith)
-    (λ c κs. c .entry-at .ensures .1)
+    (λ c κs. search needs)
     (λ c. omega arith)
     (λ c. omega arith)
     (λ c. omega arith)

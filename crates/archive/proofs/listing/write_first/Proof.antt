@@ -7,7 +7,7 @@ use denote.Ref.{now}
 use lib.ListN.{length}
 use Rattle.bits.proofs.Laying.{then, first-fits, rest-fits}
 use Rattle.archive.specs.Listing.{homeWord, entriesWord, lineEnd, item, firstLine}
-use Rattle.archive.proofs.Lines.{length-first}
+use Rattle.archive.proofs.Text.Lines.{length-first}
 use Rattle.archive.proofs.listing.write_first.Statement.{statement}
 use Rattle.archive.proofs.listing.write_first.Tie as tie
 
@@ -17,7 +17,8 @@ unfolding firstLine
 whole c = omega (arith, c .pre)
 
 after-word : (c : tie.After-append)
-    → c .append .result + length (item (c .before .before .before .before .args .home) entriesWord ++ item (c .before .before .before .before .args .count) lineEnd) ≤ length (c .append .last .0)
+    → c .append .result + length (item (c .before .before .before .before .args .home) entriesWord ++ item
+    (c .before .before .before .before .args .count) lineEnd) ≤ length (c .append .last .0)
 after-word c =
     let start = c .before .before .before .before in
     rest-fits (item (start .args .home) entriesWord ++ item (start .args .count) lineEnd) (whole start) (c .append .ensures)

@@ -12,18 +12,18 @@ use Rattle.archive.proofs.listing.write_line.Tie as tie
 
 -- a line's items, from the second and from the third on
 abbrev from-part : Entry → List ℕ
-from-part e = item (e .part) bitsWord ++ item (e .bits .0) lineEnd
+from-part e = item (e .key .part) bitsWord ++ item (e .bits .0) lineEnd
 
 abbrev from-ssi : Entry → List ℕ
-from-ssi e = item (e .ssi) partWord ++ from-part e
+from-ssi e = item (e .key .ssi) partWord ++ from-part e
 
 -- the entry, and the room for them
 abbrev entry-of : tie.After-write-item → Entry
-entry-of c = c .before .before .before .before .before .args .entry
+entry-of c = c .before .before .before .before .before .before .args .entry
 
 room-ssi : (c : tie.After-write-item) → c .write-item .result + length (from-ssi (entry-of c)) ≤ length (c .write-item .last .0)
 unfolding line
-room-ssi c = rest-fits (from-ssi (entry-of c)) (c .before .before .before .before .before .pre) (c .write-item .ensures)
+room-ssi c = rest-fits (from-ssi (entry-of c)) (c .before .before .before .before .before .before .pre) (c .write-item .ensures)
 
 abbrev first-of : tie.After-write-item2 → tie.After-write-item
 first-of c = c .before .before .before .before .before .before
@@ -34,20 +34,20 @@ room-part c = rest-fits (from-part (entry-of (first-of c))) (room-ssi (first-of 
 write-item-requires : tie.Need-write-item-requires
 unfolding line
 write-item-requires c κs =
-    let start = c .before .before .before .before in
-    first-fits (item (start .args .entry .network) space) (from-ssi (start .args .entry)) (start .args .at) (start .pre)
+    let start = c .before .before .before .before .before in
+    first-fits (item (start .args .entry .key .network) space) (from-ssi (start .args .entry)) (start .args .at) (start .pre)
 
 write-item-requires-2 : tie.Need-write-item-requires-2
 write-item-requires-2 c κs =
     let first = c .before .before .before .before .before in
     let e = entry-of first in
-    first-fits (item (e .ssi) partWord) (from-part e) (first .write-item .result) (room-ssi first)
+    first-fits (item (e .key .ssi) partWord) (from-part e) (first .write-item .result) (room-ssi first)
 
 write-item-requires-3 : tie.Need-write-item-requires-3
 write-item-requires-3 c κs =
     let second = c .before .before .before .before .before in
     let e = entry-of (first-of second) in
-    first-fits (item (e .part) bitsWord) (item (e .bits .0) lineEnd) (second .write-item2 .result) (room-part second)
+    first-fits (item (e .key .part) bitsWord) (item (e .bits .0) lineEnd) (second .write-item2 .result) (room-part second)
 
 write-item-requires-4 : tie.Need-write-item-requires-4
 write-item-requires-4 c κs =
@@ -62,7 +62,7 @@ returns c =
     let third = fourth .before .before .before .before .before in
     let second = third .before .before .before .before .before .before in
     let first = first-of second in
-    then (omega (arith, first .before .before .before .before .before .pre)) (first .write-item .ensures)
+    then (omega (arith, first .before .before .before .before .before .before .pre)) (first .write-item .ensures)
     (then (omega (arith, room-ssi first)) (second .write-item2 .ensures)
     (then (omega (arith, room-part second)) (third .write-item3 .ensures) (fourth .write-item4 .ensures)))
 

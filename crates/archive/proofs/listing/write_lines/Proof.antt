@@ -7,18 +7,20 @@ use denote.Ref.{now}
 use lib.ListN.{length}
 use Rattle.bits.specs.Inner.{Laid}
 use Rattle.bits.proofs.Laying.{then, none, first-fits, rest-fits}
+use Rattle.archive.specs.Model.{headerWidth, entryWidth}
 use Rattle.archive.specs.Reading.{countOf}
 use Rattle.archive.specs.Inner.{linesFrom}
 use Rattle.archive.specs.Listing.{line}
 use Rattle.archive.specs.declared.contents.Entry.{Entry}
-use Rattle.archive.proofs.Lines.{linesFrom-next, linesFrom-none}
+use Rattle.archive.proofs.Text.Lines.{linesFrom-next, linesFrom-none}
 use Rattle.archive.proofs.listing.write_lines.Statement.{statement}
 use Rattle.archive.proofs.listing.write_lines.Tie as tie
 
 abbrev Inv-loop : tie.InvT-loop
 Inv-loop archive out₀ start left₀ entry-at₀ at₀ out left entry-at at =
-    (entry-at + 9 * left ≤ length archive) × (length out ≡ length out₀) × (at + length (linesFrom archive left entry-at) ≤ length out)
-    × ((out′ : List ℕ) (end : ℕ) → Laid out at (linesFrom archive left entry-at) out′ end → Laid out₀ start (linesFrom archive (countOf archive) 5) out′ end)
+    (entry-at + entryWidth * left ≤ length archive) × (length out ≡ length out₀) × (at + length (linesFrom archive left entry-at) ≤ length out)
+    × ((out′ : List ℕ) (end : ℕ) → Laid out at (linesFrom archive left entry-at) out′ end
+    → Laid out₀ start (linesFrom archive (countOf archive) headerWidth) out′ end)
 
 abbrev μ-loop : tie.MeasureT-loop
 μ-loop archive out₀ start left₀ entry-at₀ at₀ out left entry-at at = left
@@ -33,7 +35,7 @@ abbrev b-of : tie.At-loop Inv-loop μ-loop → List ℕ
 b-of c = now (c .before .before .before .before .args .archive)
 
 abbrev others : tie.At-loop Inv-loop μ-loop → List ℕ
-others c = linesFrom (b-of c) (c .loop .left - 1) (c .loop .entry-at + 9)
+others c = linesFrom (b-of c) (c .loop .left - 1) (c .loop .entry-at + entryWidth)
 
 turn : (c : tie.After-entry-at Inv-loop μ-loop)
     → linesFrom (b-of (c .before .before .before)) (c .before .before .before .loop .left) (c .before .before .before .loop .entry-at)
@@ -44,7 +46,8 @@ turn c =
     ∙ ap (λ (e : Entry). line e ++ others loop) (sym (c .entry-at .ensures .0))
 
 room : (c : tie.After-entry-at Inv-loop μ-loop)
-    → c .before .before .before .loop .at + length (line (c .entry-at .result) ++ others (c .before .before .before)) ≤ length (c .before .before .before .loop .out)
+    → c .before .before .before .loop .at + length (line (c .entry-at .result) ++ others (c .before .before .before)) ≤ length
+    (c .before .before .before .loop .out)
 room c =
     let l = c .before .before .before .loop in
     subst (λ (s : List ℕ). l .at + length s ≤ length (l .out)) (turn c) (l .inv .2)
@@ -65,7 +68,8 @@ loop-again c =
       rest-fits (others loop) (room entry) (laid .write-line .ensures),
       λ out′ end rest.
           l .inv .3 out′ end
-          (subst (λ (s : List ℕ). Laid (l .out) (l .at) s out′ end) (sym (turn entry)) (then (omega (arith, room entry)) (laid .write-line .ensures) rest)),
+          (subst (λ (s : List ℕ). Laid (l .out) (l .at) s out′ end) (sym (turn entry))
+          (then (omega (arith, room entry)) (laid .write-line .ensures) rest)),
     )
 
 same-length : tie.Need-same-length Inv-loop μ-loop
@@ -75,7 +79,8 @@ returns : tie.Need-returns Inv-loop μ-loop
 returns c =
     let l = c .before .loop in
     l .inv .3 (l .out) (l .at)
-    (subst (λ (s : List ℕ). Laid (l .out) (l .at) s (l .out) (l .at)) (sym (linesFrom-none (b-of (c .before)) (l .left) (l .entry-at) (c .loop-test .left))) (none (l .out) (l .at)))
+    (subst (λ (s : List ℕ). Laid (l .out) (l .at) s (l .out) (l .at))
+    (sym (linesFrom-none (b-of (c .before)) (l .left) (l .entry-at) (c .loop-test .left))) (none (l .out) (l .at)))
 
 pub write-lines-spec : {M : Type 1} → statement M
 write-lines-spec =

@@ -7,11 +7,12 @@ use borrow.Author.Needs.{needs}
 use denote.Ref.{now}
 use lib.ListN.{length}
 use Rattle.bits.proofs.Laying.{then, first-fits, rest-fits}
+use Rattle.archive.specs.Model.{headerWidth}
 use Rattle.archive.specs.Reading.{countOf, reading}
 use Rattle.archive.specs.Listing.{firstLine, listing}
 use Rattle.archive.specs.Inner.{linesFrom}
-use Rattle.archive.proofs.Checks.{sound}
-use Rattle.archive.proofs.Lines.{listing-read}
+use Rattle.archive.proofs.Bytes.Checking.{sound}
+use Rattle.archive.proofs.Text.Lines.{listing-read}
 use Rattle.archive.proofs.listing.write_text.Statement.{statement}
 use Rattle.archive.proofs.listing.write_text.Tie as tie
 
@@ -23,7 +24,7 @@ abbrev first : tie.After-count → List ℕ
 first c = firstLine (c .before .home .result) (c .count .result)
 
 abbrev rest : tie.After-count → List ℕ
-rest c = linesFrom (b-of c) (countOf (b-of c)) 5
+rest c = linesFrom (b-of c) (countOf (b-of c)) headerWidth
 
 parts : (c : tie.After-count) → listing (reading (b-of c)) ≡ first c ++ rest c
 parts c =

@@ -1,0 +1,97 @@
+-- What capture answers, case by case, and that what it files keeps the rules. Assumes nothing.
+use mathlib.Core.Path.{_≡_, refl, ap, sym}
+use mathlib.Core.Bool.{Bool, true, false, _&&_}
+use mathlib.Core.List.{List}
+use Prim.Native.Nat.{ℕ, _<_, _≤_}
+use native.Mathlib.Omega.{arith}
+use lib.ListN.{length}
+use Rattle.bits.specs.Bits.{pick}
+use Rattle.bits.proofs.Tests.{never, and-false, both⁻¹, picked}
+use Rattle.reader.specs.Read.{readIs}
+use Rattle.reader.specs.declared.Answer.{Answer}
+use Rattle.reader.specs.declared.Answer.the-variants as reader
+use Rattle.judging.specs.Judge.{isAccepted, mayHold}
+use Rattle.archive.specs.Model.{bytesOf, Archive, lengthOf, withinLimits}
+use Rattle.archive.specs.Filing.{entryFor, filingOf}
+use Rattle.archive.specs.Reading.{homeOf, reading, isArchive}
+use Rattle.archive.specs.Keeping.{leaves, heldFor, captured, ifAccepted, placed, captureIs, captureOut}
+use Rattle.archive.specs.Inner.{filingFor, notFiledNumber}
+use Rattle.archive.specs.declared.Stored.{Stored}
+use Rattle.archive.specs.declared.Stored.the-variants.{Bytes, Refused}
+use Rattle.archive.specs.declared.contents.Entry.{Entry}
+use Rattle.archive.specs.declared.filing.Filing.the-variants.{Under, Nowhere}
+use Rattle.archive.proofs.Model.Bodies.{Agrees, was-accepted}
+use Rattle.archive.proofs.Bytes.Walking.{home-is}
+use Rattle.archive.proofs.Bytes.Checking.{sound}
+use lib.Dec.{leb}
+use borrow.Author.Tests.{le-leb, lt-leb}
+
+-- the home network of an archive
+pub home-read : (b : List ℕ) → isArchive b ≡ true → homeOf b ≡ reading b .home
+unfolding reading
+home-read b ok = home-is b (omega (arith, sound b ok .whole))
+
+pub home-fits : (b : List ℕ) → isArchive b ≡ true → reading b .home < 16777216
+unfolding reading
+home-fits b ok = sound b ok .home
+
+-- ---- filing
+
+pub filed-under : (home : ℕ) (s : List ℕ) (n : ℕ) {e : Entry} → filingFor home s n ≡ Under e
+    → (readIs s n .answer ≡ reader.Accepted) × (mayHold (readIs s n .found) ≡ true) × (entryFor home (readIs s n .found) n ≡ e)
+unfolding filingFor filingOf
+filed-under home s n f =
+    let a = picked (isAccepted (readIs s n .answer)) f (λ x. never cc) in
+    let m = picked (mayHold (readIs s n .found)) (a .1) (λ x. never cc) in
+    (was-accepted (readIs s n .answer) (a .0), m .0, cc (m .1))
+
+-- a PDU that is filed agrees with its entry
+pub offered-agrees : (home : ℕ) (s : List ℕ) (n : ℕ) → readIs s n .answer ≡ reader.Accepted → mayHold (readIs s n .found) ≡ true
+    → Agrees home (heldFor home s n)
+offered-agrees home s n a m = record { accepted = a; may = m; entry = refl }
+
+-- ---- the answer
+
+module _ (b s : List ℕ) (n room : ℕ) where
+  pub no-archive : isArchive b ≡ false → captureIs b s n room ≡ Refused 7
+  unfolding captureIs
+  no-archive e = rw e
+
+  pub not-filed : (home : ℕ) → isArchive b ≡ true → filingFor home s n ≡ Nowhere
+      → captureIs b s n room ≡ Refused (notFiledNumber (readIs s n .answer))
+  unfolding captureIs filingFor filingOf
+  not-filed home e = rw e (go (readIs s n .answer) (mayHold (readIs s n .found)))
+    where
+      go : (a : Answer) (m : Bool) → pick (isAccepted a) (pick m (Under (entryFor home (readIs s n .found) n)) Nowhere) Nowhere ≡ Nowhere
+          → ifAccepted a (pick m (placed (captured b s n) room) (Refused 6)) ≡ Refused (notFiledNumber a)
+      go reader.Accepted true f = never cc
+      go reader.Accepted false f = refl
+      go (reader.Refused k) m f = refl
+
+  pub as-placed : isArchive b ≡ true → readIs s n .answer ≡ reader.Accepted → mayHold (readIs s n .found) ≡ true
+      → captureIs b s n room ≡ placed (captured b s n) room
+  unfolding captureIs
+  as-placed e f g = rw (e, f, g)
+
+-- ---- what placing answers
+
+module _ (a : Archive) (room : ℕ) where
+  pub placed-over : withinLimits (length (a .held)) (lengthOf a) ≡ false → Refused 8 ≡ placed a room
+  unfolding placed
+  placed-over e = sym (ap (λ (p : Bool). pick (p && leb (lengthOf a) room) (Bytes (lengthOf a)) (Refused 8)) e)
+
+  pub placed-short : room < lengthOf a → Refused 8 ≡ placed a room
+  unfolding placed
+  placed-short h =
+      sym (ap (λ (p : Bool). pick p (Bytes (lengthOf a)) (Refused 8))
+      (and-false (withinLimits (length (a .held)) (lengthOf a)) (lt-leb (lengthOf a) room h)))
+
+  pub placed-whole : withinLimits (length (a .held)) (lengthOf a) ≡ true → lengthOf a ≤ room → Bytes (lengthOf a) ≡ placed a room
+  unfolding placed
+  placed-whole e h = sym (ap (λ (p : Bool). pick p (Bytes (lengthOf a)) (Refused 8)) (both⁻¹ e (le-leb (lengthOf a) room h)))
+
+-- what is left in the lent buffer goes by the answer
+pub capture-leaves : (b s : List ℕ) (n : ℕ) (out : List ℕ) {r : Stored} → captureIs b s n (length out) ≡ r
+    → captureOut b s n out ≡ leaves r (bytesOf (captured b s n)) out
+unfolding captureOut
+capture-leaves b s n out e = ap (λ (r : Stored). leaves r (bytesOf (captured b s n)) out) e

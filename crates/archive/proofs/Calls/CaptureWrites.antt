@@ -1,0 +1,90 @@
+-- An accepted capture: the archive with the PDU is well-formed, it is what was written, and it reads so. Assumes nothing.
+use mathlib.Core.Path.{_≡_, refl, sym, ap, _∙_}
+use mathlib.Core.Bool.{true, _&&_}
+use mathlib.Core.List.{List}
+use Prim.Native.Nat.{ℕ, _≤_}
+use native.Mathlib.Omega.{arith}
+use lib.ListN.{length, take, drop}
+use lib.Seq.{take-at}
+use lib.Dec.{leb}
+use borrow.Author.Tests.{leb-true}
+use Rattle.bits.proofs.Tests.{never, both, picked}
+use Rattle.reader.specs.Read.{readIs}
+use Rattle.reader.specs.declared.Answer.{Answer}
+use Rattle.reader.specs.declared.Answer.the-variants as reader
+use Rattle.judging.specs.Judge.{mayHold}
+use Rattle.archive.specs.Model.{Archive, bytesOf, lengthOf, withinLimits}
+use Rattle.archive.specs.Filing.{wellFormed}
+use Rattle.archive.specs.Reading.{reading, isArchive}
+use Rattle.archive.specs.Keeping.{heldFor, captured, ifAccepted, placed, captureIs, captureOut}
+use Rattle.archive.specs.declared.Stored.{Stored}
+use Rattle.archive.specs.declared.Stored.the-variants.{Bytes, Refused}
+use Rattle.archive.proofs.Model.Bodies.{agrees-is, part-is}
+use Rattle.archive.proofs.Model.Rules.{archive-formed, is-formed}
+use Rattle.archive.proofs.Bytes.AsWritten.{length-written, read-as-written, passes}
+use Rattle.archive.proofs.Model.Put.{rules-put}
+use Rattle.archive.proofs.Calls.Capture.{offered-agrees, capture-leaves}
+
+-- what an accepted capture says
+pub record Taken (b s : List ℕ) (n room m : ℕ) : Type 0 where
+  pub archive : isArchive b ≡ true
+  pub accepted : readIs s n .answer ≡ reader.Accepted
+  pub may : mayHold (readIs s n .found) ≡ true
+  pub limits : withinLimits (length (captured b s n .held)) (lengthOf (captured b s n)) ≡ true
+  pub fits : lengthOf (captured b s n) ≤ room
+  pub size : m ≡ lengthOf (captured b s n)
+
+was-placed : (a : Archive) (room m : ℕ) → placed a room ≡ Bytes m
+    → (withinLimits (length (a .held)) (lengthOf a) ≡ true) × (lengthOf a ≤ room) × (m ≡ lengthOf a)
+unfolding placed
+was-placed a room m e =
+    let within = withinLimits (length (a .held)) (lengthOf a) in
+    let p = picked (within && leb (lengthOf a) room) e (λ x. never cc) in
+    let q = both within (leb (lengthOf a) room) (p .0) in
+    (q .0, leb-true (lengthOf a) room (q .1), cc (p .1))
+
+if-accepted : (a : Answer) {r : Stored} {m : ℕ} → ifAccepted a r ≡ Bytes m → (a ≡ reader.Accepted) × (r ≡ Bytes m)
+if-accepted reader.Accepted e = (refl, e)
+if-accepted (reader.Refused k) e = never cc
+
+pub taken : (b s : List ℕ) (n room m : ℕ) → captureIs b s n room ≡ Bytes m → Taken b s n room m
+unfolding captureIs
+taken b s n room m e =
+    let p = picked (isArchive b) e (λ x. never cc) in
+    let a = if-accepted (readIs s n .answer) (p .1) in
+    let q = picked (mayHold (readIs s n .found)) (a .1) (λ x. never cc) in
+    let r = was-placed (captured b s n) room m (q .1) in
+    record { archive = p .0; accepted = a .0; may = q .0; limits = r .0; fits = r .1; size = r .2 }
+
+module _ (b s : List ℕ) (n room m : ℕ) (t : Taken b s n room m) where
+  pub captured-formed : wellFormed (captured b s n) ≡ true
+  unfolding captured
+  captured-formed =
+      let home = reading b .home in
+      let h = heldFor home s n in
+      let f = archive-formed b (t .archive) in
+      let a = agrees-is home h (offered-agrees home s n (t .accepted) (t .may)) in
+      let l = both (leb (length (captured b s n .held)) 512) (leb (lengthOf (captured b s n)) 65536) (t .limits) in
+      let part = part-is (readIs s n .found) (t .may) in
+      is-formed (captured b s n)
+      (record {
+        home = f .home;
+        few = leb-true _ _ (l .0);
+        small = leb-true _ _ (l .1);
+        rules = rules-put home 0 h (reading b .held) a (omega (arith, part .0)) (f .rules);
+      })
+
+  pub captured-archive : isArchive (bytesOf (captured b s n)) ≡ true
+  captured-archive = passes (captured b s n) captured-formed
+
+  pub captured-reads : reading (bytesOf (captured b s n)) ≡ captured b s n
+  captured-reads = read-as-written (captured b s n) captured-formed
+
+-- the written part of the lent buffer is the archive with the PDU
+pub written : (b s : List ℕ) (n m : ℕ) (out : List ℕ) → captureIs b s n (length out) ≡ Bytes m
+    → take m (captureOut b s n out) ≡ bytesOf (captured b s n)
+written b s n m out e =
+    let t = taken b s n (length out) m e in
+    let w = bytesOf (captured b s n) in
+    ap (take m) (capture-leaves b s n out e)
+    ∙ take-at w (drop (length w) out) m (length-written (captured b s n) (captured-formed b s n (length out) m t) ∙ sym (t .size))

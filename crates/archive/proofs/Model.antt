@@ -1,0 +1,5 @@
+-- The archive as a model: keys, a body and its entry, the rules, a PDU put in its place.
+pub mod Keys
+pub mod Bodies
+pub mod Rules
+pub mod Put
