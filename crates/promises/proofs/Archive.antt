@@ -7,10 +7,10 @@ use Rattle.bits.proofs.Tests.{differ, false-unless}
 use Rattle.reader.specs.Read.{readIs}
 use Rattle.judging.specs.Judge.{mayHold}
 use Rattle.archive.specs.Filing.{entryFor}
-use Rattle.archive.proofs.Bodies as bodies
-use Rattle.archive.proofs.Writing as writing
-use Rattle.archive.proofs.Counts.{counted}
-use Rattle.archive.proofs.Capturing.{offered-agrees}
+use Rattle.archive.proofs.Model.Bodies as bodies
+use Rattle.archive.proofs.Bytes.AsWritten as writing
+use Rattle.archive.proofs.Calls.Limits.{counted}
+use Rattle.archive.proofs.Calls.Capture.{offered-agrees}
 use Rattle.promises.specs.Archive.{Promise}
 use Rattle.promises.proofs.Archive.Agreeing.{legal, agrees-says, agrees-is}
 use Rattle.promises.proofs.Archive.Forming.{formed-says, formed-is}
@@ -31,9 +31,9 @@ promise = record {
   archive-bytes = archive-bytes;
   one-archive = λ a a′ w w′. writing.one-reading a a′ (formed-is a w) (formed-is a′ w′);
   counts = counted;
-  in-range = λ network ssi part. (ranged-says network ssi part, ranged-is network ssi part);
-  found = λ b ok network ssi part r. found network ssi part b ok r;
-  not-found = λ b ok network ssi part r. not-found network ssi part b ok r;
+  in-range = λ k. (ranged-says k, ranged-is k);
+  found = λ b ok k r. found k b ok r;
+  not-found = λ b ok k r. not-found k b ok r;
   no-entry = λ s n a. (
     λ m home e l. false-unless _ (λ x.
         differ (sym (subst (λ (k : ℕ). mayHold (readIs s k .found) ≡ true) l (bodies.agrees-says home (record { entry = e; body = s }) x .may)) ∙ m)),

@@ -21,21 +21,19 @@ use Rattle.barring.specs.declared.Decision.{Decision}
 use Rattle.barring.specs.declared.Decision.the-variants as decided
 use Rattle.archive.specs.Model.{headerWidth, bytesOf}
 use Rattle.archive.specs.Reading.{isArchive}
-use Rattle.archive.specs.Keeping.{archivedNumber, emptyIs, captureIs, captured}
+use Rattle.archive.specs.Keeping.{storedNumber, emptyIs, captureIs, captured}
 use Rattle.archive.specs.Restoring.{restoredNumber, restoreIs}
-use Rattle.archive.specs.Listing.{listedNumber, listIs}
-use Rattle.archive.specs.declared.Archived.{Archived}
-use Rattle.archive.specs.declared.Archived.the-variants as archived
+use Rattle.archive.specs.Listing.{listIs}
+use Rattle.archive.specs.declared.Stored.{Stored}
+use Rattle.archive.specs.declared.Stored.the-variants as stored
 use Rattle.archive.specs.declared.Restored.{Restored}
 use Rattle.archive.specs.declared.Restored.the-variants as restored
-use Rattle.archive.specs.declared.listing.Listed.{Listed}
-use Rattle.archive.specs.declared.listing.Listed.the-variants as listed
 use Rattle.words.specs.RecordWords.{word, recordWords, recordFrom}
 use Rattle.words.specs.RequestWords.{areDestination, areGroup, areRequest, isRequest, requestFrom}
 use Rattle.barring.specs.Decide.{partIn, decideIs}
 use Rattle.barring.specs.Decision.{decidedNumber, verdictOf}
-use Rattle.boc.specs.Calls.{ifAccepted, readNumber, readWords, writtenLength, writeNumber, writeOut, writeBits, archivedLength, emptyNumber}
-use Rattle.boc.specs.Calls.{captureNumber, restoredLength, restoreNumber, decidedVerdict, decideNumber, decideDecision, listedLength}
+use Rattle.boc.specs.Calls.{ifAccepted, readNumber, readWords, writtenLength, writeNumber, writeOut, writeBits, storedLength, emptyNumber}
+use Rattle.boc.specs.Calls.{captureNumber, restoredLength, keyOf, restoreNumber, decidedVerdict, decideNumber, decideDecision}
 use Rattle.boc.specs.Calls.{contentsNumber}
 use Rattle.promises.specs.Answers.{OneOf, Exactly}
 use Rattle.promises.specs.Calls.{Checked, wrong, right, OfRecord, OfDestination, identity, number, OfGroup, given, not-given, OfRequest}
@@ -122,17 +120,13 @@ module _ (w : List ℕ) where
 
 -- ---- answers that are refusals
 
-archived-refusal : (a : Archived) → (archivedNumber a ≡ 0 → ⊥) → (k : ℕ) × (a ≡ archived.Refused k)
-archived-refusal (archived.Bytes n) h = absurd (h refl)
-archived-refusal (archived.Refused k) h = (k, refl)
+stored-refusal : (a : Stored) → (storedNumber a ≡ 0 → ⊥) → (k : ℕ) × (a ≡ stored.Refused k)
+stored-refusal (stored.Bytes n) h = absurd (h refl)
+stored-refusal (stored.Refused k) h = (k, refl)
 
 restored-refusal : (a : Restored) → (restoredNumber a ≡ 0 → ⊥) → (k : ℕ) × (a ≡ restored.Refused k)
 restored-refusal (restored.Bits n) h = absurd (h refl)
 restored-refusal (restored.Refused k) h = (k, refl)
-
-listed-refusal : (a : Listed) → (listedNumber a ≡ 0 → ⊥) → (k : ℕ) × (a ≡ listed.Refused k)
-listed-refusal (listed.Bytes n) h = absurd (h refl)
-listed-refusal (listed.Refused k) h = (k, refl)
 
 written-refusal : (a : Written) → (writtenNumber a ≡ 0 → ⊥) → (k : ℕ) × (a ≡ written.Refused k)
 written-refusal (written.Bits n) h = absurd (h refl)
@@ -186,23 +180,13 @@ module _ (w out : List ℕ) (old : ℕ) where
 -- ---- the archive's
 
 module _ (home : ℕ) (out : List ℕ) (old : ℕ) where
-  header : emptyNumber home out ≡ 0 → emptyIs home (length out) ≡ archived.Bytes 5
-  unfolding emptyIs
-  header = go (ltb home 16777216) (leb headerWidth (length out))
-    where
-      go : (p q : Bool) → archivedNumber (pick p (pick q (archived.Bytes 5) (archived.Refused 8)) (archived.Refused 9)) ≡ 0
-          → pick p (pick q (archived.Bytes 5) (archived.Refused 8)) (archived.Refused 9) ≡ archived.Bytes 5
-      go true true e = refl
-      go true false e = absurd (omega arith)
-      go false q e = absurd (omega arith)
-
   pub empty-kept : Empty home out old
   empty-kept = record {
     table = empty.promise .table home (length out);
-    success = λ e. (empty.promise .success home out e .1, ap (λ (x : Archived). archivedLength x old) (header e));
+    success = λ e. let p = empty.promise .success home out e in (p .1, ap (λ (x : Stored). storedLength x old) (p .0));
     refusal = λ h.
-        let r = archived-refusal (emptyIs home (length out)) h in
-        (empty.promise .refusal home out (r .0) (r .1), ap (λ (x : Archived). archivedLength x old) (r .1));
+        let r = stored-refusal (emptyIs home (length out)) h in
+        (empty.promise .refusal home out (r .0) (r .1), ap (λ (x : Stored). storedLength x old) (r .1));
   }
 
 module _ (b s : List ℕ) (n : ℕ) (out : List ℕ) (old : ℕ) where
@@ -211,32 +195,32 @@ module _ (b s : List ℕ) (n : ℕ) (out : List ℕ) (old : ℕ) where
     table = capture.promise .table b s n (length out);
     success = λ e.
         let p = capture.promise .success b s n out e in
-        (p .1, ap (λ (x : Archived). archivedLength x old) (p .0));
+        (p .1, ap (λ (x : Stored). storedLength x old) (p .0));
     refusal = λ h.
-        let r = archived-refusal (captureIs b s n (length out)) h in
-        (capture.promise .refusal b s n out (r .0) (r .1), ap (λ (x : Archived). archivedLength x old) (r .1));
+        let r = stored-refusal (captureIs b s n (length out)) h in
+        (capture.promise .refusal b s n out (r .0) (r .1), ap (λ (x : Stored). storedLength x old) (r .1));
   }
 
 module _ (b : List ℕ) (network ssi part : ℕ) (out : List ℕ) (old : ℕ) where
   pub restore-kept : Restore b network ssi part out old
   restore-kept = record {
-    table = restore.promise .table b network ssi part (length out);
+    table = restore.promise .table b (keyOf network ssi part) (length out);
     success = λ e.
-        let p = restore.promise .success b network ssi part out e in
-        (p .0, p .3, ap (λ (x : Restored). restoredLength x old) (p .2));
+        let p = restore.promise .success b (keyOf network ssi part) out e in
+        (p .0, p .1, p .2, p .4, ap (λ (x : Restored). restoredLength x old) (p .3));
     refusal = λ h.
-        let r = restored-refusal (restoreIs b network ssi part (length out)) h in
-        (restore.promise .refusal b network ssi part out (r .0) (r .1), ap (λ (x : Restored). restoredLength x old) (r .1));
+        let r = restored-refusal (restoreIs b (keyOf network ssi part) (length out)) h in
+        (restore.promise .refusal b (keyOf network ssi part) out (r .0) (r .1), ap (λ (x : Restored). restoredLength x old) (r .1));
   }
 
 module _ (b out : List ℕ) (old : ℕ) where
   pub contents-kept : Contents b out old
   contents-kept = record {
     table = listing.promise .table b (length out);
-    success = λ e. let p = listing.promise .success b out e in (p .1, ap (λ (x : Listed). listedLength x old) (p .0));
+    success = λ e. let p = listing.promise .success b out e in (p .0, p .2, ap (λ (x : Stored). storedLength x old) (p .1));
     refusal = λ h.
-        let r = listed-refusal (listIs b (length out)) h in
-        (listing.promise .refusal b out (r .0) (r .1), ap (λ (x : Listed). listedLength x old) (r .1));
+        let r = stored-refusal (listIs b (length out)) h in
+        (listing.promise .refusal b out (r .0) (r .1), ap (λ (x : Stored). storedLength x old) (r .1));
   }
 
 -- ---- boc_decide

@@ -17,19 +17,20 @@ use Rattle.rules.specs.Rule.{ruling}
 use Rattle.barring.specs.declared.Decision.{Decision}
 use Rattle.barring.specs.declared.Decision.the-variants as decided
 use Rattle.rules.specs.declared.request.Request.{Request}
-use Rattle.archive.specs.Model.{bytesOf}
 use Rattle.archive.specs.Reading.{reading, isArchive}
 use Rattle.archive.specs.Filing.{names}
-use Rattle.archive.specs.Keeping.{archivedNumber, over, emptyOf, emptyIs, emptyOut, captureOut}
+use Rattle.archive.specs.Keeping.{storedNumber, over, emptyIs, emptyOut, captureOut}
 use Rattle.archive.specs.Restoring.{inRange, restoredNumber, restoreOut}
 use Rattle.archive.specs.History.{Offer, keptOf, answerTo, after, afterAll, entryOf, latest, lastAccepted}
-use Rattle.archive.specs.declared.Archived.{Archived}
-use Rattle.archive.specs.declared.Archived.the-variants.{Bytes, Refused}
+use Rattle.archive.specs.declared.contents.Key.{Key}
+use Rattle.archive.specs.declared.Stored.{Stored}
+use Rattle.archive.specs.declared.Stored.the-variants.{Bytes, Refused}
 use Rattle.archive.specs.declared.Restored.{Restored}
+use Rattle.archive.proofs.Model.Keys.{in-range}
 use Rattle.words.specs.RequestWords.{isRequest, requestFrom}
-use Rattle.barring.specs.Decide.{partFor, partIn, judgedBy, decideIs}
-use Rattle.barring.specs.Decision.{decidedNumber, verdictOf}
-use Rattle.boc.specs.Calls.{archivedLength, emptyNumber, restoredLength, restoreNumber, restoreBits, decideNumber, decideDecision}
+use Rattle.barring.specs.Decide.{keyFor, partIn, judgedBy, decideIs}
+use Rattle.barring.specs.Decision.{decisionOf, decidedNumber, verdictOf}
+use Rattle.boc.specs.Calls.{storedLength, emptyNumber, restoredLength, keyOf, restoreNumber, restoreBits, decideNumber, decideDecision}
 use Rattle.promises.specs.Sequences.{Call, returned, goneOn, goneOnAll, lastZero, begun, Promise}
 use Rattle.promises.specs.Demand1.Decision.{Verdict, outside-group, restricted-service, restricted-address, allowed, not-held}
 use Rattle.promises.specs.Demand3 as demand3
@@ -42,20 +43,20 @@ use Rattle.promises.proofs.Demand1.Capture as capture
 -- no capture is refused with 0
 zero-taken : (b : List ℕ) (o : Offer) → answerTo b o ≡ Refused 0 → ⊥
 zero-taken b o e =
-    let w = capture.promise .success b (o .pdu) (o .bits) (o .lent) (ap archivedNumber e) .0 in
+    let w = capture.promise .success b (o .pdu) (o .bits) (o .lent) (ap storedNumber e) .0 in
     never cc
 
 not-zero : (k : ℕ) → eqb (suc k) 0 ≡ false
 not-zero k = false-unless (eqb (suc k) 0) (λ t. absurd (omega (arith, eqb-true (suc k) 0 t)))
 
-goes : (a : Archived) (b out : List ℕ) (old : ℕ) → (a ≡ Refused 0 → ⊥)
-    → pick (eqb (archivedNumber a) 0) (take (archivedLength a old) out) b ≡ keptOf a b out
+goes : (a : Stored) (b out : List ℕ) (old : ℕ) → (a ≡ Refused 0 → ⊥)
+    → pick (eqb (storedNumber a) 0) (take (storedLength a old) out) b ≡ keptOf a b out
 goes (Bytes n) b out old h = refl
 goes (Refused zero) b out old h = absurd (h refl)
 goes (Refused (suc k)) b out old h = rw (not-zero k)
 
-counts : (a : Archived) (same : Bool) (o : Offer) (last : Option Offer) → (a ≡ Refused 0 → ⊥)
-    → pick (eqb (archivedNumber a) 0 && same) (some o) last ≡ latest a same o last
+counts : (a : Stored) (same : Bool) (o : Offer) (last : Option Offer) → (a ≡ Refused 0 → ⊥)
+    → pick (eqb (storedNumber a) 0 && same) (some o) last ≡ latest a same o last
 counts (Bytes n) true o last h = refl
 counts (Bytes n) false o last h = refl
 counts (Refused zero) same o last h = absurd (h refl)
@@ -74,22 +75,17 @@ unfolding goneOnAll afterAll offers
 gone-on-all b [] = refl
 gone-on-all b (c ∷ cs) = gone-on-all (goneOn b c) cs ∙ ap (λ (x : List ℕ). afterAll x (offers cs)) (gone-on b c)
 
-module _ (network ssi part : ℕ) where
-  last-zero : (b : List ℕ) (last : Option Offer) (cs : List Call)
-      → lastZero network ssi part b last cs ≡ lastAccepted network ssi part b last (offers cs)
+module _ (k : Key) where
+  last-zero : (b : List ℕ) (last : Option Offer) (cs : List Call) → lastZero k b last cs ≡ lastAccepted k b last (offers cs)
   unfolding lastZero lastAccepted offers
   last-zero b last [] = refl
   last-zero b last (c ∷ cs) =
       let o = c .offer in
-      last-zero (goneOn b c) (pick (eqb (returned b c) 0 && names (entryOf b o) network ssi part) (some o) last) cs
-      ∙ ap₂ (λ (x : List ℕ) (l : Option Offer). lastAccepted network ssi part x l (offers cs)) (gone-on b c)
-      (counts (answerTo b o) (names (entryOf b o) network ssi part) o last (zero-taken b o))
+      last-zero (goneOn b c) (pick (eqb (returned b c) 0 && names (entryOf b o) k) (some o) last) cs
+      ∙ ap₂ (λ (x : List ℕ) (l : Option Offer). lastAccepted k x l (offers cs)) (gone-on b c)
+      (counts (answerTo b o) (names (entryOf b o) k) o last (zero-taken b o))
 
 -- ---- restore and decide
-
-in-range : (network ssi part : ℕ) → network < 16777216 → ssi < 16777216 → 1 ≤ part → part ≤ 2 → inRange network ssi part ≡ true
-unfolding inRange
-in-range network ssi part n s l h = both⁻¹ (lt-ltb _ _ n) (both⁻¹ (lt-ltb _ _ s) (both⁻¹ (le-leb _ _ l) (le-leb _ _ h)))
 
 -- a request that is decided is in its range
 request-zero : (b : List ℕ) (q : Request) → decidedNumber (decideIs b q) ≡ 0 → requestRefusal q ≡ 0
@@ -119,7 +115,7 @@ in-its-range b w e = request-zero b (requestFrom w) (picked (isRequest w) e (λ 
 
 module _ (home : ℕ) (lent : List ℕ) (old : ℕ) (calls : List Call) (e : emptyNumber home lent ≡ 0) where
   abbrev m : ℕ
-  m = length (bytesOf (emptyOf home))
+  m = 5
 
   written : emptyIs home (length lent) ≡ Bytes m
   written = empty.promise .success home lent e .0
@@ -130,35 +126,34 @@ module _ (home : ℕ) (lent : List ℕ) (old : ℕ) (calls : List Call) (e : emp
   abbrev b : List ℕ
   b = goneOnAll (begun home lent old) calls
 
-  abbrev last : ℕ → ℕ → ℕ → Option Offer
-  last network ssi part = lastZero network ssi part (begun home lent old) none calls
+  abbrev last : Key → Option Offer
+  last k = lastZero k (begun home lent old) none calls
 
   begun-is : begun home lent old ≡ start
-  begun-is = ap (λ (a : Archived). take (archivedLength a old) (emptyOut home lent)) written
+  begun-is = ap (λ (a : Stored). take (storedLength a old) (emptyOut home lent)) written
 
   archive-is : afterAll start (offers calls) ≡ b
   archive-is = sym (gone-on-all (begun home lent old) calls ∙ ap (λ (x : List ℕ). afterAll x (offers calls)) begun-is)
 
-  last-is : (network ssi part : ℕ) → lastAccepted network ssi part start none (offers calls) ≡ last network ssi part
-  last-is network ssi part =
+  last-is : (k : Key) → lastAccepted k start none (offers calls) ≡ last k
+  last-is k =
       sym
-      (last-zero network ssi part (begun home lent old) none calls
-      ∙ ap (λ (x : List ℕ). lastAccepted network ssi part x none (offers calls)) begun-is)
+      (last-zero k (begun home lent old) none calls ∙ ap (λ (x : List ℕ). lastAccepted k x none (offers calls)) begun-is)
 
-  module _ (network ssi part : ℕ) (r : inRange network ssi part ≡ true) (out : List ℕ) (bits : ℕ) where
+  module _ (network ssi part : ℕ) (r : inRange (keyOf network ssi part) ≡ true) (out : List ℕ) (bits : ℕ) where
     abbrev Gives : ℕ → ℕ → List ℕ → List ℕ → Type 0
     Gives k n left b =
-        (restoreNumber b network ssi part out ≡ k) × (restoreBits b network ssi part out bits ≡ n) × (restoreOut b network ssi part out ≡ left)
+        (restoreNumber b network ssi part out ≡ k) × (restoreBits b network ssi part out bits ≡ n) × (restoreOut b (keyOf network ssi part) out ≡ left)
 
-    restored : (o : Offer) → last network ssi part ≡ some o → bytesFor (o .bits) ≤ length out → Gives 0 (o .bits) (over (o .pdu) out) b
+    restored : (o : Offer) → last (keyOf network ssi part) ≡ some o → bytesFor (o .bits) ≤ length out → Gives 0 (o .bits) (over (o .pdu) out) b
     restored o l h =
-        let p = demand3.restores-the-last home lent m written (offers calls) network ssi part r out o (last-is network ssi part ∙ l) h in
+        let p = demand3.restores-the-last home lent m written (offers calls) (keyOf network ssi part) r out o (last-is (keyOf network ssi part) ∙ l) h in
         subst (Gives 0 (o .bits) (over (o .pdu) out)) archive-is
         (ap restoredNumber (p .0), ap (λ (x : Restored). restoredLength x bits) (p .0), p .1)
 
-    none-held : last network ssi part ≡ none → Gives 11 bits out b
+    none-held : last (keyOf network ssi part) ≡ none → Gives 11 bits out b
     none-held l =
-        let p = demand3.restores-nothing-else home lent m written (offers calls) network ssi part r out (last-is network ssi part ∙ l) in
+        let p = demand3.restores-nothing-else home lent m written (offers calls) (keyOf network ssi part) r out (last-is (keyOf network ssi part) ∙ l) in
         subst (Gives 11 bits out) archive-is (ap restoredNumber (p .0), ap (λ (x : Restored). restoredLength x bits) (p .0), p .1)
 
   module _ (w : List ℕ) (before : ℕ) (d : decideNumber b w ≡ 0) where
@@ -166,16 +161,16 @@ module _ (home : ℕ) (lent : List ℕ) (old : ℕ) (calls : List Call) (e : emp
     q = requestFrom w
 
     abbrev lastFor : Option Offer
-    lastFor = last (q .user .network) (q .user .ssi) (partFor (q .destination))
+    lastFor = last (keyFor q)
 
-    lastFor-is : lastAccepted (q .user .network) (q .user .ssi) (partFor (q .destination)) start none (offers calls) ≡ lastFor
-    lastFor-is = last-is (q .user .network) (q .user .ssi) (partFor (q .destination))
+    lastFor-is : lastAccepted (keyFor q) start none (offers calls) ≡ lastFor
+    lastFor-is = last-is (keyFor q)
 
     -- what is told, once the decision is known
     told : {x : Decision} → decideIs (afterAll start (offers calls)) q ≡ x → decideDecision b w before ≡ verdictOf x
     told {x} k = decision-is b w before d ∙ ap verdictOf (subst (λ (s : List ℕ). decideIs s q ≡ x) archive-is k)
 
-    by-the-last : (o : Offer) → lastFor ≡ some o → decideDecision b w before ≡ verdictOf (ruling home (readIs (o .pdu) (o .bits) .found) q)
+    by-the-last : (o : Offer) → lastFor ≡ some o → decideDecision b w before ≡ verdictOf (decisionOf (ruling home (readIs (o .pdu) (o .bits) .found) q))
     by-the-last o l = told (demand3.decides-by-the-last home lent m written (offers calls) q (in-its-range b w d) o (lastFor-is ∙ l))
 
     by-nothing : lastFor ≡ none → decideDecision b w before ≡ 4
@@ -183,8 +178,8 @@ module _ (home : ℕ) (lent : List ℕ) (old : ℕ) (calls : List Call) (e : emp
 
 pub promise : (home : ℕ) (lent : List ℕ) (old : ℕ) (calls : List Call) → Promise home lent old calls
 promise home lent old calls = record {
-  restores-the-last = λ e network ssi part n s l h. restored home lent old calls e network ssi part (in-range network ssi part n s l h);
-  restores-nothing-else = λ e network ssi part n s l h. none-held home lent old calls e network ssi part (in-range network ssi part n s l h);
+  restores-the-last = λ e network ssi part n s l h. restored home lent old calls e network ssi part (in-range (keyOf network ssi part) n s l h);
+  restores-nothing-else = λ e network ssi part n s l h. none-held home lent old calls e network ssi part (in-range (keyOf network ssi part) n s l h);
   decides-by-the-last = by-the-last home lent old calls;
   decides-by-nothing-else = by-nothing home lent old calls;
 }

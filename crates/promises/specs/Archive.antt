@@ -18,25 +18,26 @@ use Rattle.reader.specs.Read.{readIs}
 use Rattle.pdu.specs.Accepted.{acceptedAs}
 use Rattle.reader.specs.declared.Answer.the-variants.{Accepted}
 use Rattle.judging.specs.Judge.{mayHold}
-use Rattle.archive.specs.Model.{Held, Archive, keyFor, bytesOf}
+use Rattle.archive.specs.Model.{Held, Archive, bytesOf}
 use Rattle.archive.specs.Filing.{bodyAgrees, wellFormed}
 use Rattle.archive.specs.Reading.{reading, isArchive, Counted}
 use Rattle.archive.specs.Restoring.{inRange, lookup}
+use Rattle.archive.specs.declared.contents.Key.{Key}
 use Rattle.archive.specs.declared.contents.Entry.{Entry}
 use Rattle.promises.specs.Held.{Holdable}
 
 -- ---- "entries rise strictly by network, then SSI, then part"
 
-pub data Before (e f : Entry) : Type 0 where
-  by-network : e .network < f .network → Before e f
-  by-ssi : e .network ≡ f .network → e .ssi < f .ssi → Before e f
-  by-part : e .network ≡ f .network → e .ssi ≡ f .ssi → e .part < f .part → Before e f
+pub data Before (k l : Key) : Type 0 where
+  by-network : k .network < l .network → Before k l
+  by-ssi : k .network ≡ l .network → k .ssi < l .ssi → Before k l
+  by-part : k .network ≡ l .network → k .ssi ≡ l .ssi → k .part < l .part → Before k l
 
 -- each before the next
 abbrev pub Rising : List Held → Type 0
 Rising [] = Unit
 Rising (h ∷ []) = Unit
-Rising (h ∷ g ∷ hs) = Before (h .entry) (g .entry) × Rising (g ∷ hs)
+Rising (h ∷ g ∷ hs) = Before (h .entry .key) (g .entry .key) × Rising (g ∷ hs)
 
 -- ---- "each body is a legal accepted INTERROGATE ACK with affected range type 1; its part agrees, its SSI agrees, and its network .."
 
@@ -58,9 +59,9 @@ affectedUser r = getD (r .affected .entries) 0 zeroIdentity
 pub record Agrees (home : ℕ) (h : Held) (r : Record) : Type 0 where
   pub body : LegalPdu (h .body) (h .entry .bits .0) r
   pub accepting : Holdable r
-  pub part : h .entry .part ≡ r .result
-  pub ssi : h .entry .ssi ≡ affectedUser r .ssi
-  pub network : NetworkOf home (affectedUser r) (h .entry .network)
+  pub part : h .entry .key .part ≡ r .result
+  pub ssi : h .entry .key .ssi ≡ affectedUser r .ssi
+  pub network : NetworkOf home (affectedUser r) (h .entry .key .network)
 
 -- ---- an archive that keeps the rules
 
@@ -81,9 +82,9 @@ threeBytes b at = getD b at 0 * 65536 + getD b (at + 1) 0 * 256 + getD b (at + 2
 
 -- "Contents, 9 bytes an entry: network (3), SSI (3), part (1), bit length (2)"
 pub record EntryAt (b : List ℕ) (at : ℕ) (e : Entry) : Type 0 where
-  pub network : e .network ≡ threeBytes b at
-  pub ssi : e .ssi ≡ threeBytes b (at + 3)
-  pub part : e .part ≡ getD b (at + 6) 0
+  pub network : e .key .network ≡ threeBytes b at
+  pub ssi : e .key .ssi ≡ threeBytes b (at + 3)
+  pub part : e .key .part ≡ getD b (at + 6) 0
   pub bits : e .bits .0 ≡ twoBytes b (at + 7)
 
 -- "Bodies, in contents order, each in its rounded-up bytes, nothing between or after": entries from one place on, bodies from another
@@ -105,17 +106,15 @@ pub record IsArchive (b : List ℕ) : Type 0 where
 -- ---- a user and part
 
 -- network and SSI below 16,777,216, part 1 or 2
-pub record Ranged (x y p : ℕ) : Type 0 where
-  pub network : x < 16777216
-  pub ssi : y < 16777216
-  pub part : (p ≡ 1) ⊎ (p ≡ 2)
+pub record Ranged (k : Key) : Type 0 where
+  pub network : k .network < 16777216
+  pub ssi : k .ssi < 16777216
+  pub part : (k .part ≡ 1) ⊎ (k .part ≡ 2)
 
 -- an entry among these has that network, SSI and part
-pub record HeldFor (hs : List Held) (network ssi part : ℕ) (h : Held) : Type 0 where
+pub record HeldFor (hs : List Held) (k : Key) (h : Held) : Type 0 where
   pub among : List·Memᴰ h hs
-  pub its-network : h .entry .network ≡ network
-  pub its-ssi : h .entry .ssi ≡ ssi
-  pub its-part : h .entry .part ≡ part
+  pub for : h .entry .key ≡ k
 
 -- ---- the tests of the calls say the same. Proved in proofs/Archive.antt.
 
@@ -131,12 +130,12 @@ pub record Promise : Type 0 where
   pub one-archive : (a a′ : Archive) → WellFormed a → WellFormed a′ → bytesOf a ≡ bytesOf a′ → a ≡ a′
   -- The entry count is the number of keys held, and the length is that of header, contents and bodies.
   pub counts : (b : List ℕ) → isArchive b ≡ true → Counted b
-  pub in-range : (network ssi part : ℕ) → (inRange network ssi part ≡ true) ↔ Ranged network ssi part
+  pub in-range : (k : Key) → (inRange k ≡ true) ↔ Ranged k
   -- A lookup finds the entry of that network, SSI and part, or there is none.
-  pub found : (b : List ℕ) → isArchive b ≡ true → (network ssi part : ℕ) → Ranged network ssi part → (h : Held)
-      → (lookup (keyFor network ssi part) (reading b .held) ≡ some h) ↔ HeldFor (reading b .held) network ssi part h
-  pub not-found : (b : List ℕ) → isArchive b ≡ true → (network ssi part : ℕ) → Ranged network ssi part
-      → (lookup (keyFor network ssi part) (reading b .held) ≡ none) ↔ ((h : Held) → HeldFor (reading b .held) network ssi part h → ⊥)
+  pub found : (b : List ℕ) → isArchive b ≡ true → (k : Key) → Ranged k → (h : Held)
+      → (lookup k (reading b .held) ≡ some h) ↔ HeldFor (reading b .held) k h
+  pub not-found : (b : List ℕ) → isArchive b ≡ true → (k : Key) → Ranged k
+      → (lookup k (reading b .held) ≡ none) ↔ ((h : Held) → HeldFor (reading b .held) k h → ⊥)
   -- A legal PDU may not be held exactly if it agrees with no entry of its bit length, whatever the home network.
   pub no-entry : (s : List ℕ) (n : ℕ) → readIs s n .answer ≡ Accepted → (mayHold (readIs s n .found) ≡ false)
       ↔ ((home : ℕ) (e : Entry) → e .bits .0 ≡ n → bodyAgrees home (record { entry = e; body = s }) ≡ false)

@@ -12,15 +12,17 @@ use Rattle.grammar.specs.declared.record.Record.{Record}
 use Rattle.reader.specs.Read.{readIs}
 use Rattle.writer.specs.Write.{lengthOf}
 use Rattle.archive.specs.Model.{Held, bytesOf}
-use Rattle.archive.specs.Keeping.{over, emptyOf, captured, emptyOut, captureOut}
+use Rattle.archive.specs.Keeping.{over, captured, emptyOut, captureOut}
 use Rattle.archive.specs.Restoring.{restoreOut}
 use Rattle.archive.specs.Listing.{listOut}
+use Rattle.archive.specs.Listing as lists
 use Rattle.words.specs.RecordWords.{word, recordWords, recordFrom}
 use Rattle.words.specs.RequestWords.{requestFrom}
 use Rattle.barring.specs.Decide.{partIn, decideIs}
 use Rattle.boc.specs.Calls.{readNumber, readWords, writeNumber, writeOut, writeBits, emptyNumber, emptyLength, captureNumber, captureLength}
-use Rattle.boc.specs.Calls.{restoreNumber, restoreBits, decideNumber, decideDecision, contentsNumber, contentsLength}
+use Rattle.boc.specs.Calls.{keyOf, restoreNumber, restoreBits, decideNumber, decideDecision, contentsNumber, contentsLength}
 use Rattle.promises.specs.Answers.{Exactly}
+use Rattle.promises.specs.Archive.{IsArchive, HeldFor}
 use Rattle.promises.specs.Demand1.Reading as reading
 use Rattle.promises.specs.Demand1.Writing as writing
 use Rattle.promises.specs.Demand1.Empty as empty
@@ -75,7 +77,7 @@ pub record Write (words out : List ℕ) (bits : ℕ) : Type 1 where
 -- boc_empty
 pub record Empty (home : ℕ) (out : List ℕ) (old : ℕ) : Type 0 where
   pub table : Exactly (emptyNumber home out) (0 ∷ 9 ∷ 8 ∷ []) (empty.Given home (length out))
-  pub success : emptyNumber home out ≡ 0 → (emptyOut home out ≡ over (bytesOf (emptyOf home)) out) × (emptyLength home out old ≡ 5)
+  pub success : emptyNumber home out ≡ 0 → (emptyOut home out ≡ over (empty.header home) out) × (emptyLength home out old ≡ 5)
   pub refusal : (emptyNumber home out ≡ 0 → ⊥) → (emptyOut home out ≡ out) × (emptyLength home out old ≡ old)
 
 -- boc_capture
@@ -88,13 +90,14 @@ pub record Capture (archive pdu′ : List ℕ) (bits : ℕ) (out : List ℕ) (ol
 
 -- boc_restore
 pub record Restore (archive : List ℕ) (network ssi part : ℕ) (out : List ℕ) (old : ℕ) : Type 0 where
-  pub table : Exactly (restoreNumber archive network ssi part out) (0 ∷ 9 ∷ 7 ∷ 11 ∷ 8 ∷ []) (restore.Given archive network ssi part (length out))
-  -- the PDU that is held and its bits
+  pub table : Exactly (restoreNumber archive network ssi part out) (0 ∷ 9 ∷ 7 ∷ 11 ∷ 8 ∷ [])
+      (restore.Given archive (keyOf network ssi part) (length out))
+  -- the PDU that is held for that user and part, and its bits
   pub success : restoreNumber archive network ssi part out ≡ 0
-      → (h : Held) × (restoreOut archive network ssi part out ≡ over (h .body) out)
-      × (restoreBits archive network ssi part out old ≡ h .entry .bits .0)
+      → (k : IsArchive archive) × (h : Held) × HeldFor (k .archive .held) (keyOf network ssi part) h
+      × (restoreOut archive (keyOf network ssi part) out ≡ over (h .body) out) × (restoreBits archive network ssi part out old ≡ h .entry .bits .0)
   pub refusal : (restoreNumber archive network ssi part out ≡ 0 → ⊥)
-      → (restoreOut archive network ssi part out ≡ out) × (restoreBits archive network ssi part out old ≡ old)
+      → (restoreOut archive (keyOf network ssi part) out ≡ out) × (restoreBits archive network ssi part out old ≡ old)
 
 -- boc_decide: 0, 9 for words that are no request's or a request out of its range, 7
 pub record Decide (archive words : List ℕ) (old : ℕ) : Type 0 where
@@ -108,6 +111,6 @@ pub record Decide (archive words : List ℕ) (old : ℕ) : Type 0 where
 -- boc_contents
 pub record Contents (archive out : List ℕ) (old : ℕ) : Type 0 where
   pub table : Exactly (contentsNumber archive out) (0 ∷ 7 ∷ 8 ∷ []) (listing.Given archive (length out))
-  pub success : contentsNumber archive out ≡ 0
-      → (listOut archive out ≡ over (listing.text archive) out) × (contentsLength archive out old ≡ length (listing.text archive))
+  pub success : contentsNumber archive out ≡ 0 → (k : IsArchive archive)
+      × (listOut archive out ≡ over (lists.listing (k .archive)) out) × (contentsLength archive out old ≡ length (lists.listing (k .archive)))
   pub refusal : (contentsNumber archive out ≡ 0 → ⊥) → (listOut archive out ≡ out) × (contentsLength archive out old ≡ old)

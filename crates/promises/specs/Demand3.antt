@@ -19,7 +19,7 @@ use Rattle.archive.specs.declared.Stored.the-variants.{Bytes}
 use Rattle.archive.specs.declared.Restored.the-variants.{Bits, Refused}
 use Rattle.archive.proofs.History as history
 use Rattle.barring.specs.Decision.{decisionOf}
-use Rattle.barring.specs.Decide.{partFor, partIn, decideIs}
+use Rattle.barring.specs.Decide.{keyFor, partIn, decideIs}
 use Rattle.barring.specs.declared.Decision.the-variants.{Allowed, NotHeld}
 use Rattle.barring.proofs.History as deciding
 
@@ -35,10 +35,9 @@ module _ (home : ℕ) (lent : List ℕ) (m : ℕ) (e : emptyIs home (length lent
 
   module _ (k : Key) (r : inRange k ≡ true) (out : List ℕ) where
     -- Restoring gives exactly its bits, if the buffer has room for them,
-    pub restores-the-last : (o : Offer) → last network ssi part ≡ some o → bytesFor (o .bits) ≤ length out
-        → (restoreIs archive network ssi part (length out) ≡ Bits (record { 0 = o .bits }))
-        × (restoreOut archive network ssi part out ≡ over (o .pdu) out)
-    restores-the-last = history.always home lent m e offers network ssi part r out
+    pub restores-the-last : (o : Offer) → last k ≡ some o → bytesFor (o .bits) ≤ length out
+        → (restoreIs archive k (length out) ≡ Bits (record { 0 = o .bits })) × (restoreOut archive k out ≡ over (o .pdu) out)
+    restores-the-last = history.always home lent m e offers k r out
 
     -- or "not held", and no byte changed.
     pub restores-nothing-else : last k ≡ none
@@ -47,7 +46,7 @@ module _ (home : ℕ) (lent : List ℕ) (m : ℕ) (e : emptyIs home (length lent
 
   module _ (q : Request) (f : requestRefusal q ≡ 0) where
     -- The decision is the barring rule applied to the record of that same PDU,
-    pub decides-by-the-last : (o : Offer) → last (q .user .network) (q .user .ssi) (partFor (q .destination)) ≡ some o
+    pub decides-by-the-last : (o : Offer) → last (keyFor q) ≡ some o
         → decideIs archive q ≡ decisionOf (ruling home (readIs (o .pdu) (o .bits) .found) q)
     decides-by-the-last o l = deciding.decided home lent m e offers q f ∙ ap (deciding.saidBy home q) l
 

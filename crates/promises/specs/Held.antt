@@ -16,10 +16,10 @@ use Rattle.reader.specs.declared.Answer.the-variants as reader
 use Rattle.judging.specs.Judge.{mayHold}
 use Rattle.archive.specs.Model.{lengthOf, withinLimits}
 use Rattle.archive.specs.Reading.{isArchive}
-use Rattle.archive.specs.Keeping.{archivedNumber, captured, placed, captureIs, captureOut}
+use Rattle.archive.specs.Keeping.{storedNumber, captured, placed, captureIs, captureOut}
 use Rattle.archive.specs.Examples.{calls}
-use Rattle.archive.specs.declared.Archived.{Archived}
-use Rattle.archive.specs.declared.Archived.the-variants.{Bytes, Refused}
+use Rattle.archive.specs.declared.Stored.{Stored}
+use Rattle.archive.specs.declared.Stored.the-variants.{Bytes, Refused}
 
 -- an INTERROGATE ACK (PDU type 12) that accepts (interrogation result 1 or 2), for one user (affected range type 1)
 pub record Holdable (r : Record) : Type 0 where
@@ -66,7 +66,7 @@ module _ (b s : List ℕ) (n room : ℕ) (archive : isArchive b ≡ true) (legal
   answer t e = rw (archive, legal, e)
 
   not-6 : mayHold (readIs s n .found) ≡ true → captureIs b s n room ≡ Refused 6 → ⊥
-  not-6 m e = by-test (λ (a : Archived). a ≡ Refused 6 → ⊥) fits (λ x. never cc) (λ x. never cc) (sym (answer true m) ∙ e)
+  not-6 m e = by-test (λ (a : Stored). a ≡ Refused 6 → ⊥) fits (λ x. never cc) (λ x. never cc) (sym (answer true m) ∙ e)
 
   pub gives-6 : (captureIs b s n room ≡ Refused 6) ↔ (Holdable (readIs s n .found) → ⊥)
   gives-6 = (
@@ -81,7 +81,7 @@ nothing = 0x00 ∷ 0x00 ∷ 0x01 ∷ 0x00 ∷ 0x00 ∷ []
 
 -- the number of the answer to a PDU of n bits
 abbrev number : List ℕ → ℕ → ℕ
-number s n = archivedNumber (captureIs nothing s n 100)
+number s n = storedNumber (captureIs nothing s n 100)
 
 -- results 1 and 2, with three empty lists: held
 accepting : (number (0x49 ∷ 0x82 ∷ 0x00 ∷ 0x00 ∷ 0x0a ∷ 0x21 ∷ 0x20 ∷ 0x00 ∷ []) 63 ≡ 0)

@@ -15,10 +15,11 @@ use Rattle.archive.specs.Filing.{names}
 use Rattle.archive.specs.Keeping.{over, emptyOut, captureOut}
 use Rattle.archive.specs.Restoring.{restoreOut}
 use Rattle.archive.specs.History.{Offer, entryOf}
+use Rattle.archive.specs.declared.contents.Key.{Key}
 use Rattle.words.specs.RequestWords.{requestFrom}
-use Rattle.barring.specs.Decide.{partFor}
-use Rattle.barring.specs.Decision.{verdictOf}
-use Rattle.boc.specs.Calls.{emptyNumber, emptyLength, captureNumber, captureLength, restoreNumber, restoreBits, decideNumber, decideDecision}
+use Rattle.barring.specs.Decide.{keyFor}
+use Rattle.barring.specs.Decision.{decisionOf, verdictOf}
+use Rattle.boc.specs.Calls.{emptyNumber, emptyLength, captureNumber, captureLength, keyOf, restoreNumber, restoreBits, decideNumber, decideDecision}
 
 -- a call of boc_capture: the PDU, its bits and the buffer; and the number behind the pointer before it
 pub record Call : Type 0 where
@@ -40,12 +41,10 @@ goneOnAll b [] = b
 goneOnAll b (c ∷ cs) = goneOnAll (goneOn b c) cs
 
 -- the last PDU for which 0 was returned, of those that name the user and part
-unfoldable pub lastZero : ℕ → ℕ → ℕ → List ℕ → Option Offer → List Call → Option Offer
-lastZero network ssi part b last [] = last
-lastZero network ssi part b last (c ∷ cs) =
-    lastZero network ssi part (goneOn b c)
-    (pick (eqb (returned b c) 0 && names (entryOf b (c .offer)) network ssi part) (some (c .offer)) last)
-    cs
+unfoldable pub lastZero : Key → List ℕ → Option Offer → List Call → Option Offer
+lastZero k b last [] = last
+lastZero k b last (c ∷ cs) =
+    lastZero k (goneOn b c) (pick (eqb (returned b c) 0 && names (entryOf b (c .offer)) k) (some (c .offer)) last) cs
 
 -- what boc_empty left: as many bytes of the buffer as the pointer says
 abbrev pub begun : ℕ → List ℕ → ℕ → List ℕ
@@ -56,21 +55,21 @@ pub record Promise (home : ℕ) (lent : List ℕ) (old : ℕ) (calls : List Call
   -- boc_restore gives 0, the bits and the bytes of the last PDU, if the buffer has room for them,
   pub restores-the-last : emptyNumber home lent ≡ 0 → let b = goneOnAll (begun home lent old) calls in
       (network ssi part : ℕ) → network < 16777216 → ssi < 16777216 → 1 ≤ part → part ≤ 2 → (out : List ℕ) (bits : ℕ)
-      → (o : Offer) → lastZero network ssi part (begun home lent old) none calls ≡ some o → bytesFor (o .bits) ≤ length out
+      → (o : Offer) → lastZero (keyOf network ssi part) (begun home lent old) none calls ≡ some o → bytesFor (o .bits) ≤ length out
       → (restoreNumber b network ssi part out ≡ 0) × (restoreBits b network ssi part out bits ≡ o .bits)
-      × (restoreOut b network ssi part out ≡ over (o .pdu) out)
+      × (restoreOut b (keyOf network ssi part) out ≡ over (o .pdu) out)
   -- or 11, and changes nothing.
   pub restores-nothing-else : emptyNumber home lent ≡ 0 → let b = goneOnAll (begun home lent old) calls in
       (network ssi part : ℕ) → network < 16777216 → ssi < 16777216 → 1 ≤ part → part ≤ 2 → (out : List ℕ) (bits : ℕ)
-      → lastZero network ssi part (begun home lent old) none calls ≡ none
-      → (restoreNumber b network ssi part out ≡ 11) × (restoreBits b network ssi part out bits ≡ bits) × (restoreOut b network ssi part out ≡ out)
+      → lastZero (keyOf network ssi part) (begun home lent old) none calls ≡ none
+      → (restoreNumber b network ssi part out ≡ 11) × (restoreBits b network ssi part out bits ≡ bits) × (restoreOut b (keyOf network ssi part) out ≡ out)
   -- Where boc_decide returns 0, the decision is the number of what the barring rule says by the record of that same PDU,
   pub decides-by-the-last : emptyNumber home lent ≡ 0 → let b = goneOnAll (begun home lent old) calls in
       (words : List ℕ) (before : ℕ) → decideNumber b words ≡ 0 → let q = requestFrom words in
-      (o : Offer) → lastZero (q .user .network) (q .user .ssi) (partFor (q .destination)) (begun home lent old) none calls ≡ some o
-      → decideDecision b words before ≡ verdictOf (ruling home (readIs (o .pdu) (o .bits) .found) q)
+      (o : Offer) → lastZero (keyFor q) (begun home lent old) none calls ≡ some o
+      → decideDecision b words before ≡ verdictOf (decisionOf (ruling home (readIs (o .pdu) (o .bits) .found) q))
   -- or 4, and nothing else.
   pub decides-by-nothing-else : emptyNumber home lent ≡ 0 → let b = goneOnAll (begun home lent old) calls in
       (words : List ℕ) (before : ℕ) → decideNumber b words ≡ 0 → let q = requestFrom words in
-      lastZero (q .user .network) (q .user .ssi) (partFor (q .destination)) (begun home lent old) none calls ≡ none
+      lastZero (keyFor q) (begun home lent old) none calls ≡ none
       → decideDecision b words before ≡ 4

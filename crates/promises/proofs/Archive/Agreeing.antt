@@ -22,7 +22,7 @@ use Rattle.archive.specs.Model.{Held}
 use Rattle.archive.specs.Filing.{entryFor, bodyAgrees}
 use Rattle.archive.specs.Keeping.{heldFor}
 use Rattle.archive.specs.declared.contents.Entry.{Entry}
-use Rattle.archive.proofs.Bodies as bodies
+use Rattle.archive.proofs.Model.Bodies as bodies
 use Rattle.promises.specs.Held.{Holdable, may-be-held}
 use Rattle.promises.specs.Archive.{LegalPdu, NetworkOf, affectedUser, Agrees}
 use Rattle.promises.proofs.Demand1.Reading as reading-kept
@@ -71,17 +71,17 @@ agrees-says home h e =
       record {
         body = read-legal (h .body) (h .entry .bits .0) (g .accepted);
         accepting = may-be-held r .0 (g .may);
-        part = ap (λ (x : Entry). x .part) (g .entry);
-        ssi = ap (λ (x : Entry). x .ssi) (g .entry);
-        network = network-says home (affectedUser r) (ap (λ (x : Entry). x .network) (g .entry));
+        part = ap (λ (x : Entry). x .key .part) (g .entry);
+        ssi = ap (λ (x : Entry). x .key .ssi) (g .entry);
+        network = network-says home (affectedUser r) (ap (λ (x : Entry). x .key .network) (g .entry));
       },
     )
 
 -- the entry with which a body agrees is the one that it is filed under
 pub agreed-entry : (home : ℕ) (h : Held) (r : Record) → Agrees home h r → h .entry ≡ entryFor home r (h .entry .bits .0)
 agreed-entry home h r g =
-    let w = network-is home (affectedUser r) (h .entry .network) (g .network) in
-    λ i. record { network = w i; ssi = g .ssi i; part = g .part i; bits = h .entry .bits }
+    let w = network-is home (affectedUser r) (h .entry .key .network) (g .network) in
+    λ i. record { key = record { network = w i; ssi = g .ssi i; part = g .part i }; bits = h .entry .bits }
 
 -- and a legal PDU that may be held agrees with that
 pub filed-agrees : (home : ℕ) (s : List ℕ) (n : ℕ) → readIs s n .answer ≡ Accepted → Holdable (readIs s n .found)

@@ -10,25 +10,22 @@ use lib.Dec.{ltb}
 use borrow.Author.Tests.{ltb-true, ltb-false}
 use Rattle.bits.specs.Lists.{Each}
 use Rattle.grammar.specs.declared.record.Record.{Record}
-use Rattle.archive.specs.Model.{Held, Archive, keyFor, keyOf, lengthOf, bytesOf}
+use Rattle.archive.specs.Model.{Held, Archive, rankOf, rank, lengthOf, bytesOf}
 use Rattle.archive.specs.Filing.{bodyAgrees, keepsRules, wellFormed}
-use Rattle.archive.specs.Inner.{EntryFits}
-use Rattle.archive.specs.declared.contents.Entry.{Entry}
-use Rattle.archive.proofs.Bodies as bodies
-use Rattle.archive.proofs.Rules.{AllFit, no-more, and-fit, kept, is-kept, formed, is-formed}
-use Rattle.archive.proofs.Users.{by-network, by-ssi, by-part}
-use Rattle.archive.proofs.Writing as writing
+use Rattle.archive.specs.Inner.{KeyFits}
+use Rattle.archive.specs.declared.contents.Key.{Key}
+use Rattle.archive.proofs.Model.Bodies as bodies
+use Rattle.archive.proofs.Model.Rules.{AllFit, no-more, and-fit, kept, is-kept, formed, is-formed}
+use Rattle.archive.proofs.Model.Keys.{by-network, by-ssi, by-part}
+use Rattle.archive.proofs.Bytes.AsWritten as writing
 use Rattle.promises.specs.Archive as archive
 use Rattle.promises.specs.Archive.{Before, Rising, Agrees, WellFormed}
 use Rattle.promises.proofs.Archive.Agreeing.{agrees-says, agrees-is}
 
 -- ---- entries that rise
 
-module _ (e f : Entry) (he : EntryFits e) (hf : EntryFits f) where
-  abbrev keyIs : Entry → ℕ
-  keyIs x = keyFor (x .network) (x .ssi) (x .part)
-
-  before : keyIs e < keyIs f → Before e f
+module _ (e f : Key) (he : KeyFits e) (hf : KeyFits f) where
+  before : rankOf e < rankOf f → Before e f
   before l = go (ltb (e .network) (f .network)) refl (ltb (e .ssi) (f .ssi)) refl
     where
       go : (p : Bool) → ltb (e .network) (f .network) ≡ p → (q : Bool) → ltb (e .ssi) (f .ssi) ≡ q → Before e f
@@ -43,7 +40,7 @@ module _ (e f : Entry) (he : EntryFits e) (hf : EntryFits f) where
           let same : e .network ≡ f .network = omega (arith, l, he .ssi, he .part, hf .ssi, hf .part) in
           archive.by-part same (omega (arith, l, he .part, hf .part)) (omega (arith, l, he .part, hf .part))
 
-  above : Before e f → keyIs e < keyIs f
+  above : Before e f → rankOf e < rankOf f
   above (archive.by-network n) = by-network e f he n
   above (archive.by-ssi n s) = by-ssi e f he n s
   above (archive.by-part n s p) = by-part e f n s p
@@ -52,26 +49,26 @@ module _ (home : ℕ) (small : home < 16777216) where
   abbrev Bodies : List Held → Type 0
   Bodies hs = Each (λ h. (r : Record) × Agrees home h r) hs
 
-  entry-fits : (h : Held) → bodyAgrees home h ≡ true → EntryFits (h .entry)
-  entry-fits h a = bodies.fits home h small (bodies.agrees-says home h a) .entry
+  key-fits : (h : Held) → bodyAgrees home h ≡ true → KeyFits (h .entry .key)
+  key-fits h a = bodies.fits home h small (bodies.agrees-says home h a) .entry .key
 
   rises : (last : ℕ) (hs : List Held) → keepsRules home last hs ≡ true → Rising hs
   rises last [] k = tt
   rises last (h ∷ []) k = tt
   rises last (h ∷ g ∷ hs) k =
       let u = kept home last h (g ∷ hs) k in
-      let v = kept home (keyOf h) g hs (u .others) in
-      (before (h .entry) (g .entry) (entry-fits h (u .agrees)) (entry-fits g (v .agrees)) (v .rises), rises (keyOf h) (g ∷ hs) (u .others))
+      let v = kept home (rank h) g hs (u .others) in
+      (before (h .entry .key) (g .entry .key) (key-fits h (u .agrees)) (key-fits g (v .agrees)) (v .rises), rises (rank h) (g ∷ hs) (u .others))
 
   each-agrees : (last : ℕ) (hs : List Held) → keepsRules home last hs ≡ true → Bodies hs
   each-agrees last [] k = tt
   each-agrees last (h ∷ hs) k =
       let u = kept home last h hs k in
-      (agrees-says home h (u .agrees), each-agrees (keyOf h) hs (u .others))
+      (agrees-says home h (u .agrees), each-agrees (rank h) hs (u .others))
 
   abbrev Above : ℕ → List Held → Type 0
   Above last [] = Unit
-  Above last (h ∷ hs) = last < keyOf h
+  Above last (h ∷ hs) = last < rank h
 
   keeps : (last : ℕ) (hs : List Held) → Rising hs → Bodies hs → Above last hs → keepsRules home last hs ≡ true
   unfolding keepsRules
@@ -80,8 +77,8 @@ module _ (home : ℕ) (small : home < 16777216) where
   keeps last (h ∷ g ∷ hs) r b a =
       let x = agrees-is home h (b .0) in
       let y = agrees-is home g (b .1 .0) in
-      let l = above (h .entry) (g .entry) (entry-fits h x) (entry-fits g y) (r .0) in
-      is-kept home last h (g ∷ hs) (record { rises = a; agrees = x; others = keeps (keyOf h) (g ∷ hs) (r .1) (b .1) l })
+      let l = above (h .entry .key) (g .entry .key) (key-fits h x) (key-fits g y) (r .0) in
+      is-kept home last h (g ∷ hs) (record { rises = a; agrees = x; others = keeps (rank h) (g ∷ hs) (r .1) (b .1) l })
 
   -- a part is 1 or 2, so every key is above 0
   above-zero : (hs : List Held) → Bodies hs → Above 0 hs

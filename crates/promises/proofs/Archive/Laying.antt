@@ -13,10 +13,10 @@ use Rattle.bits.proofs.Tests.{both}
 use Rattle.archive.specs.Model.{Held, Archive, sizes, lengthOf, bytesOf}
 use Rattle.archive.specs.Filing.{wellFormed}
 use Rattle.archive.specs.Reading.{countOf, sizeAt, heldAt, heldFrom, bodiesAt, heldIn, reading, isArchive}
-use Rattle.archive.proofs.Rules.{formed}
-use Rattle.archive.proofs.Walks.{length-heldFrom}
-use Rattle.archive.proofs.Checks.{sound}
-use Rattle.archive.proofs.Writing as writing
+use Rattle.archive.proofs.Model.Rules.{formed}
+use Rattle.archive.proofs.Bytes.Walking.{length-heldFrom}
+use Rattle.archive.proofs.Bytes.Checking.{sound}
+use Rattle.archive.proofs.Bytes.AsWritten as writing
 use Rattle.promises.specs.Archive as archive
 use Rattle.promises.specs.Archive.{WellFormed, Laid, IsArchive}
 use Rattle.promises.proofs.Archive.Forming.{formed-says, formed-is}
@@ -29,7 +29,10 @@ laid-reads b at off [] l = refl
 laid-reads b at off (h ∷ hs) (e, body, more) =
     let size : sizeAt b at ≡ (h .entry .bits .0 + 7) / 8 = ap (λ (n : ℕ). (n + 7) / 8) (sym (e .bits)) in
     let here : heldAt b at off ≡ h = λ i. record {
-      entry = record { network = sym (e .network) i; ssi = sym (e .ssi) i; part = sym (e .part) i; bits = record { 0 = sym (e .bits) i } };
+      entry = record {
+        key = record { network = sym (e .network) i; ssi = sym (e .ssi) i; part = sym (e .part) i };
+        bits = record { 0 = sym (e .bits) i };
+      };
       body = (ap (λ (n : ℕ). take n (drop off b)) size ∙ sym body) i;
     } in
     λ i. here i ∷ (ap (λ (n : ℕ). heldFrom b (length hs) (at + 9) (off + n)) size ∙ laid-reads b (at + 9) (off + (h .entry .bits .0 + 7) / 8) hs more) i

@@ -14,18 +14,18 @@ use Rattle.reader.specs.Read.{refusalOf, readIs}
 use Rattle.reader.specs.declared.Answer.{Answer}
 use Rattle.reader.specs.declared.Answer.the-variants as reader
 use Rattle.judging.specs.Judge.{mayHold}
-use Rattle.archive.specs.Model.{Held, Archive, keyOf, lengthOf}
+use Rattle.archive.specs.Model.{Held, Archive, lengthOf}
 use Rattle.archive.specs.Filing.{entryFor, bodyAgrees, keepsRules}
 use Rattle.archive.specs.Reading.{reading, isArchive}
 use Rattle.archive.specs.Keeping.{storedNumber, heldFor, captured, captureIs}
 use Rattle.archive.specs.Restoring.{lookup}
 use Rattle.archive.specs.declared.contents.Entry.{Entry}
-use Rattle.archive.specs.declared.Archived.the-variants.{Bytes, Refused}
-use Rattle.archive.proofs.Bodies as bodies
-use Rattle.archive.proofs.Rules.{all-fit, archive-formed}
-use Rattle.archive.proofs.Putting.{isNone, rules-put}
-use Rattle.archive.proofs.Capturing.{offered-agrees, no-archive, capture-leaves}
-use Rattle.archive.proofs.Counts.{fullFor, eight}
+use Rattle.archive.specs.declared.Stored.the-variants.{Bytes, Refused}
+use Rattle.archive.proofs.Model.Bodies as bodies
+use Rattle.archive.proofs.Model.Rules.{all-fit, archive-formed}
+use Rattle.archive.proofs.Model.Put.{isNone, rules-put}
+use Rattle.archive.proofs.Calls.Capture.{offered-agrees, no-archive, capture-leaves}
+use Rattle.archive.proofs.Calls.Limits.{fullFor, eight}
 use Rattle.promises.specs.Answers.{OneOf}
 use Rattle.promises.specs.Held.{may-be-held}
 use Rattle.promises.specs.Archive as said
@@ -96,23 +96,23 @@ module _ (b s : List ℕ) (n room : ℕ) where
         let f = archive-formed b (archive (o .archive)) in
         length-bytes (captured b s n) (all-fit (reading b .home) 0 (captured b s n .held) (f .home) rules)
 
-    ranged : Ranged (filed .entry .network) (filed .entry .ssi) (filed .entry .part)
+    ranged : Ranged (filed .entry .key)
     ranged =
         let f = archive-formed b (archive (o .archive)) in
         let e = bodies.fits (reading b .home) filed (f .home) (offered-agrees (reading b .home) s n (o .accepted) may) .entry in
-        record { network = e .network; ssi = e .ssi; part = o .may .result }
+        record { network = e .key .network; ssi = e .key .ssi; part = o .may .result }
 
     is-full : isFull ≡ true → Full b s n (o .archive)
     is-full e =
-        let x = both (isNone (lookup (keyOf filed) (reading b .held))) (eqb (length (reading b .held)) 512) e in
+        let x = both (isNone (lookup (filed .entry .key) (reading b .held))) (eqb (length (reading b .held)) 512) e in
         let y = filed .entry in
-        let no-one = archives.not-found b (archive (o .archive)) (y .network) (y .ssi) (y .part) ranged .0 (is-none _ (x .0)) in
+        let no-one = archives.not-found b (archive (o .archive)) (y .key) ranged .0 (is-none _ (x .0)) in
         let same = sym (archives.one-reading b (o .archive)) in
         record {
           entry = y;
           bits = refl;
           agrees = subst (λ (a : Archive). Agrees (a .home) filed (readIs s n .found)) same (filed-agrees (reading b .home) s n (o .accepted) (o .may));
-          new = subst (λ (a : Archive). (h : Held) → HeldFor (a .held) (y .network) (y .ssi) (y .part) h → ⊥) same no-one;
+          new = subst (λ (a : Archive). (h : Held) → HeldFor (a .held) (y .key) h → ⊥) same no-one;
           count = subst (λ (a : Archive). length (a .held) ≡ 512) same (eqb-true _ _ (x .1));
         }
 
@@ -122,20 +122,20 @@ module _ (b s : List ℕ) (n room : ℕ) where
         let at = agreed-entry (o .archive .archive .home) (record { entry = f .entry; body = s }) (readIs s n .found) (f .agrees) in
         let e : f .entry ≡ filed .entry =
         at ∙ (λ i. entryFor (same i .home) (readIs s n .found) (f .bits i)) in
-        let no-one = subst (λ (a : Archive). (h : Held) → HeldFor (a .held) (f .entry .network) (f .entry .ssi) (f .entry .part) h → ⊥) same (f .new) in
-        let new = subst (λ (x : Entry). (h : Held) → HeldFor (reading b .held) (x .network) (x .ssi) (x .part) h → ⊥) e no-one in
+        let no-one = subst (λ (a : Archive). (h : Held) → HeldFor (a .held) (f .entry .key) h → ⊥) same (f .new) in
+        let new = subst (λ (x : Entry). (h : Held) → HeldFor (reading b .held) (x .key) h → ⊥) e no-one in
         let y = filed .entry in
-        both⁻¹ (ap isNone (archives.not-found b (archive (o .archive)) (y .network) (y .ssi) (y .part) ranged .1 new))
+        both⁻¹ (ap isNone (archives.not-found b (archive (o .archive)) (y .key) ranged .1 new))
         (eq-eqb _ _ (subst (λ (a : Archive). length (a .held) ≡ 512) same (f .count)))
 
     placed : captureIs b s n room ≡ pick (isFull || (ltb 65536 size || ltb room size)) (Refused 8) (Bytes size)
     placed = eight b s n room (archive (o .archive)) (o .accepted) may
 
     offered : Both (number b s n room)
-    offered = subst Both (sym (ap archivedNumber placed)) (go isFull refl (ltb 65536 size) refl (ltb room size) refl)
+    offered = subst Both (sym (ap storedNumber placed)) (go isFull refl (ltb 65536 size) refl (ltb room size) refl)
       where
         go : (p : Bool) → isFull ≡ p → (q : Bool) → ltb 65536 size ≡ q → (t : Bool) → ltb room size ≡ t
-            → Both (archivedNumber (pick (p || (q || t)) (Refused 8) (Bytes size)))
+            → Both (storedNumber (pick (p || (q || t)) (Refused 8) (Bytes size)))
         go true e q f t g = (full o (is-full e), refl)
         go false e true f t g = (too-long o (omega (arith, long, ltb-true 65536 size f)), refl)
         go false e false f true g = (no-room o (omega (arith, long, ltb-true room size g)), refl)
@@ -143,7 +143,7 @@ module _ (b s : List ℕ) (n room : ℕ) where
             (success o (λ x. differ (sym (full-is x) ∙ e)) (omega (arith, long, ltb-false 65536 size f)) (omega (arith, long, ltb-false room size g)), refl)
 
     over : isFull || (ltb 65536 size || ltb room size) ≡ true → number b s n room ≡ 8
-    over e = ap archivedNumber (placed ∙ ap (λ (t : Bool). pick t (Refused 8) (Bytes size)) e)
+    over e = ap storedNumber (placed ∙ ap (λ (t : Bool). pick t (Refused 8) (Bytes size)) e)
 
     fits : (Full b s n (o .archive) → ⊥) → length (result b s n) ≤ 65536 → length (result b s n) ≤ room → captureIs b s n room ≡ Bytes size
     fits f l h =
@@ -184,11 +184,11 @@ module _ (b s : List ℕ) (n room : ℕ) where
   or-true false e = e
 
   back : (k : ℕ) → Given b s n room k → number b s n room ≡ k
-  back k (success o f l h) = ap archivedNumber (fits o f l h)
-  back k (damaged e) = ap archivedNumber (no-archive b s n room (false-unless _ (λ t. e (archives.is-archive b .0 t))))
-  back k (unread m e f) = ap archivedNumber (pdu-refused b s n room (archive e) f)
+  back k (success o f l h) = ap storedNumber (fits o f l h)
+  back k (damaged e) = ap storedNumber (no-archive b s n room (false-unless _ (λ t. e (archives.is-archive b .0 t))))
+  back k (unread m e f) = ap storedNumber (pdu-refused b s n room (archive e) f)
   back k (not-kept e f g) =
-      ap archivedNumber (may-not b s n room (archive e) f (false-unless _ (λ t. g (may-be-held (readIs s n .found) .0 t))))
+      ap storedNumber (may-not b s n room (archive e) f (false-unless _ (λ t. g (may-be-held (readIs s n .found) .0 t))))
   back k (full o f) = over o (ap (λ (p : Bool). p || (ltb 65536 size || ltb room size)) (full-is o f))
   back k (too-long o h) = over o (or-true isFull (ap (λ (q : Bool). q || ltb room size) (lt-ltb 65536 size (omega (arith, long o, h)))))
   back k (no-room o h) = over o (or-true isFull (or-true (ltb 65536 size) (lt-ltb room size (omega (arith, long o, h)))))

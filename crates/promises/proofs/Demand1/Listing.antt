@@ -11,9 +11,9 @@ use Rattle.bits.specs.Bits.{pick}
 use Rattle.bits.proofs.Tests.{differ, false-unless}
 use Rattle.archive.specs.Reading.{reading, isArchive}
 use Rattle.archive.specs.Keeping.{over}
-use Rattle.archive.specs.Listing.{listing, lists, listIs, listOut, listedNumber}
-use Rattle.archive.specs.declared.listing.Listed.{Listed}
-use Rattle.archive.specs.declared.listing.Listed.the-variants.{Bytes, Refused}
+use Rattle.archive.specs.Listing.{listing, lists, listIs, listOut, storedNumber}
+use Rattle.archive.specs.declared.Stored.{Stored}
+use Rattle.archive.specs.declared.Stored.the-variants.{Bytes, Refused}
 use Rattle.promises.specs.Answers.{OneOf}
 use Rattle.promises.specs.Archive as said
 use Rattle.promises.specs.Archive.{IsArchive}
@@ -29,9 +29,9 @@ module _ (b : List ℕ) where
   abbrev text : List ℕ
   text = listing (reading b)
 
-  list-leaves : (out : List ℕ) {r : Listed} → listIs b (length out) ≡ r → listOut b out ≡ lists r text out
+  list-leaves : (out : List ℕ) {r : Stored} → listIs b (length out) ≡ r → listOut b out ≡ lists r text out
   unfolding listOut
-  list-leaves out e = ap (λ (r : Listed). lists r text out) e
+  list-leaves out e = ap (λ (r : Stored). lists r text out) e
 
   archive : IsArchive b → isArchive b ≡ true
   archive k = archives.is-archive b .1 k
@@ -47,7 +47,7 @@ module _ (b : List ℕ) where
   no-archive k = false-unless _ (λ e. k (archives.is-archive b .0 e))
 
   module _ (room : ℕ) where
-    abbrev answerBy : Bool → Bool → Listed
+    abbrev answerBy : Bool → Bool → Stored
     answerBy archive fits = pick archive (pick fits (Bytes (length text)) (Refused 8)) (Refused 7)
 
     abbrev Both : ℕ → Type 0
@@ -57,7 +57,7 @@ module _ (b : List ℕ) where
     unfolding listIs
     row = go (isArchive b) refl (leb (length text) room) refl
       where
-        go : (p : Bool) → isArchive b ≡ p → (q : Bool) → leb (length text) room ≡ q → Both (listedNumber (answerBy p q))
+        go : (p : Bool) → isArchive b ≡ p → (q : Bool) → leb (length text) room ≡ q → Both (storedNumber (answerBy p q))
         go false e q f = (damaged (λ k. differ (sym (archive k) ∙ e)), refl)
         go true e true f =
             let k = archives.is-archive b .0 e in
@@ -72,7 +72,7 @@ module _ (b : List ℕ) where
 
     back : (n : ℕ) → Given b room n → number b room ≡ n
     unfolding listIs
-    back n (success k h) = ap listedNumber (fits k h)
+    back n (success k h) = ap storedNumber (fits k h)
     back n (damaged k) = rw (no-archive k)
     back n (no-room k h) = rw (archive k, lt-leb (length text) room (omega (arith, same-length k, h)))
 

@@ -6,10 +6,10 @@ use lib.ListN.{length, replicate}
 use Rattle.reader.specs.Read.{readIs}
 use Rattle.reader.specs.declared.Answer.the-variants as reader
 use Rattle.archive.specs.Model.{Held, bytesOf}
-use Rattle.archive.specs.Keeping.{archivedNumber, over, captured, captureIs, captureOut}
+use Rattle.archive.specs.Keeping.{storedNumber, over, captured, captureIs, captureOut}
 use Rattle.archive.specs.Examples.{calls, profileA}
 use Rattle.archive.specs.declared.contents.Entry.{Entry}
-use Rattle.archive.specs.declared.Archived.the-variants.{Bytes, Refused}
+use Rattle.archive.specs.declared.Stored.the-variants.{Bytes, Refused}
 use Rattle.promises.specs.Answers.{Exactly}
 use Rattle.promises.specs.Held.{Holdable}
 use Rattle.promises.specs.Archive.{Agrees, IsArchive, HeldFor}
@@ -29,7 +29,7 @@ pub record Full (b s : List ℕ) (n : ℕ) (k : IsArchive b) : Type 0 where
   pub entry : Entry
   pub bits : entry .bits .0 ≡ n
   pub agrees : Agrees (k .archive .home) (record { entry = entry; body = s }) (readIs s n .found)
-  pub new : (h : Held) → HeldFor (k .archive .held) (entry .network) (entry .ssi) (entry .part) h → ⊥
+  pub new : (h : Held) → HeldFor (k .archive .held) (entry .key) h → ⊥
   pub count : length (k .archive .held) ≡ 512
 
 -- the bytes of the result: the archive with the PDU in its place, instead of the one that it held for that user and part

@@ -3,8 +3,8 @@ use mathlib.Core.Path.{_≡_, refl}
 use mathlib.Core.List.{List, [], _∷_}
 use Prim.Native.Nat.{ℕ, _/_, _%_, _≤_, _<_}
 use lib.ListN.{length}
-use Rattle.archive.specs.Keeping.{archivedNumber, over, emptyIs, emptyOut}
-use Rattle.archive.specs.declared.Archived.the-variants.{Bytes, Refused}
+use Rattle.archive.specs.Keeping.{storedNumber, over, emptyIs, emptyOut}
+use Rattle.archive.specs.declared.Stored.the-variants.{Bytes, Refused}
 use Rattle.promises.specs.Answers.{Exactly}
 
 abbrev pub number : ℕ → ℕ → ℕ
