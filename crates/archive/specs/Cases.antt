@@ -14,14 +14,18 @@ use Rattle.archive.specs.Restoring.{inRange, fetchIs, restoreIs, restore
 use Rattle.archive.specs.History.{Offer, after, afterAll, lastAccepted}
 use Rattle.archive.specs.Listing.{digits, decimal, item, firstLine, line, lines, listing}
 use Rattle.archive.specs.Examples.{calls}
+use Rattle.archive.specs.declared.contents.Key.{Key}
 use Rattle.archive.specs.declared.contents.Entry.{Entry}
-use Rattle.archive.specs.declared.Archived.the-variants as archived
+use Rattle.archive.specs.declared.Stored.the-variants as stored
 use Rattle.archive.specs.declared.Fetched.the-variants.{Body, NotHeld, NoArchive}
 use Rattle.archive.specs.declared.Restored.the-variants as restored
 
--- an entry
+-- a user and part, and an entry
+abbrev key : ℕ → ℕ → ℕ → Key
+key network ssi part = record { network = network; ssi = ssi; part = part }
+
 abbrev entry : ℕ → ℕ → ℕ → ℕ → Entry
-entry network ssi part bits = record { network = network; ssi = ssi; part = part; bits = record { 0 = bits } }
+entry network ssi part bits = record { key = key network ssi part; bits = record { 0 = bits } }
 
 -- ---- bytes and limits
 
@@ -40,17 +44,17 @@ limits : (withinLimits 512 65536 ≡ true) × (withinLimits 513 65536 ≡ false)
 limits = (refl, refl, refl)
 
 -- home networks and lent buffers from both sides
-empties : (emptyIs 16777215 5 ≡ archived.Bytes 5) × (emptyIs 16777216 5 ≡ archived.Refused 9) × (emptyIs 0 4 ≡ archived.Refused 8)
+empties : (emptyIs 16777215 5 ≡ stored.Bytes 5) × (emptyIs 16777216 5 ≡ stored.Refused 9) × (emptyIs 0 4 ≡ stored.Refused 8)
 unfolding emptyIs
 empties = (refl, refl, refl)
 
 -- users and parts from both sides
-ranges : (inRange 16777215 16777215 1 ≡ true)
-    × (inRange 0 0 2 ≡ true)
-    × (inRange 16777216 0 1 ≡ false)
-    × (inRange 0 16777216 1 ≡ false)
-    × (inRange 0 0 0 ≡ false)
-    × (inRange 0 0 3 ≡ false)
+ranges : (inRange (key 16777215 16777215 1) ≡ true)
+    × (inRange (key 0 0 2) ≡ true)
+    × (inRange (key 16777216 0 1) ≡ false)
+    × (inRange (key 0 16777216 1) ≡ false)
+    × (inRange (key 0 0 0) ≡ false)
+    × (inRange (key 0 0 3) ≡ false)
 unfolding inRange
 ranges = (refl, refl, refl, refl, refl, refl)
 
@@ -117,28 +121,28 @@ unfolding calls bodyAgrees filingOf after afterAll
 history = refl
 
 -- the last accepted of user 1/5 is the second, not the first, nor the failed one; the visitor's stays; no other user or part has one
-last-accepted : (lastAccepted 1 5 1 nothing none offers ≡ some second)
-    × (lastAccepted 7 4 2 nothing none offers ≡ some visitor)
-    × (lastAccepted 1 5 2 nothing none offers ≡ none)
-    × (lastAccepted 1 4 2 nothing none offers ≡ none)
+last-accepted : (lastAccepted (key 1 5 1) nothing none offers ≡ some second)
+    × (lastAccepted (key 7 4 2) nothing none offers ≡ some visitor)
+    × (lastAccepted (key 1 5 2) nothing none offers ≡ none)
+    × (lastAccepted (key 1 4 2) nothing none offers ≡ none)
 unfolding calls bodyAgrees filingOf after afterAll lastAccepted
 last-accepted = (refl, refl, refl, refl)
 
 -- where their bodies begin; nothing is held for another part, or in an empty archive; one byte more or less, and no header, is no archive
-fetched : (fetchIs kept 1 5 1 ≡ Body 23 (record { 0 = 66 }))
-    × (fetchIs kept 7 4 2 ≡ Body 32 (record { 0 = 87 }))
-    × (fetchIs kept 7 4 1 ≡ NotHeld)
-    × (fetchIs nothing 1 5 1 ≡ NotHeld)
-    × (fetchIs (kept ++ (0x00 ∷ [])) 1 5 1 ≡ NoArchive)
-    × (fetchIs (take 42 kept) 1 5 1 ≡ NoArchive)
-    × (fetchIs [] 1 5 1 ≡ NoArchive)
+fetched : (fetchIs kept (key 1 5 1) ≡ Body 23 (record { 0 = 66 }))
+    × (fetchIs kept (key 7 4 2) ≡ Body 32 (record { 0 = 87 }))
+    × (fetchIs kept (key 7 4 1) ≡ NotHeld)
+    × (fetchIs nothing (key 1 5 1) ≡ NotHeld)
+    × (fetchIs (kept ++ (0x00 ∷ [])) (key 1 5 1) ≡ NoArchive)
+    × (fetchIs (take 42 kept) (key 1 5 1) ≡ NoArchive)
+    × (fetchIs [] (key 1 5 1) ≡ NoArchive)
 unfolding calls bodyAgrees filingOf fetchIs inRange
 fetched = (refl, refl, refl, refl, refl, refl, refl)
 
 -- what is restored, and the byte after it stays
 
-restored-visitor : (restoreIs kept 7 4 2 11 ≡ restored.Bits (record { 0 = 87 }))
-    × (restoreOut kept 7 4 2 (replicate 12 0xff)
+restored-visitor : (restoreIs kept (key 7 4 2) 11 ≡ restored.Bits (record { 0 = 87 }))
+    × (restoreOut kept (key 7 4 2) (replicate 12 0xff)
     ≡ 0x49 ∷ 0x82 ∷ 0x00 ∷ 0x00 ∷ 0x09 ∷ 0x00 ∷ 0x00 ∷ 0x07 ∷ 0x41 ∷ 0x60 ∷ 0x00 ∷ 0xff ∷ [])
 unfolding calls bodyAgrees filingOf restoreIs restoreOut inRange
 restored-visitor = (refl, refl)
