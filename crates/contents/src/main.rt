@@ -1,52 +1,63 @@
-// Prints the listing of the archive on standard input, or `refused 7` where there is none.
+// Prints what the archive on standard input holds, or `refused 7` where there is none: reads, has the library report, and writes that.
 use archive::listing;
-use archive::listing::Listed;
-ghost use mathlib.Core.Path.{_≡_};
 ghost use Prim.Native.Nat.{_≤_};
 ghost use lib.ListN.{length};
-ghost use Rattle.bits.specs.Bits.{pick};
-ghost use Rattle.archive.specs.Reading.{reading, isArchive};
-ghost use Rattle.archive.specs.Listing.{listing};
 
 fn main() {
     // one byte more than an archive may have, so that longer input is refused
     let mut input = [0u8; 65537];
-    // no listing is longer: 26 bytes, and 35 for each of at most 512 entries
+    // no report is longer: 26 bytes, and 35 for each of at most 512 entries
     let mut text = [0u8; 17946];
-    let n = read_all(&mut input);
-    let size = list(&input[..n], &mut text);
-    if size == 0 {
-        io::write_all(1, b"refused 7\n");
-        return;
-    }
+    let got = read_all(&mut input);
+    let count = archive_length(got);
+    let size = listing::report(&input[..count], &mut text);
     io::write_all(1, &text[..size]);
 }
 
-// Reads until the input ends or the buffer is full; returns how many bytes came, none where a read failed.
-fn read_all(buffer: &mut [u8]) -> usize
-    ensures { λ r. ⌜ r ≤ length (now (buffer .exit)) ⌝ }
-{
-    let mut done = 0;
-    while done < buffer.len() {
-        let got = read_some(&mut buffer[done..]);
-        if got.failed {
-            return 0;
-        }
-        if got.count == 0 {
-            return done;
-        }
-        done += got.count;
-    }
-    done
-}
-
-// How many bytes a read brought, none at the end of the input.
+// How many bytes reading brought, and whether it failed: if not, it ended, or the buffer is full.
 struct Got {
     count: usize,
     failed: bool,
 }
 
-// Reads once.
+// How many of the bytes that came are looked at: none where a read failed, and no bytes are no archive.
+fn archive_length(got: Got) -> usize
+    ensures { λ r. ⌜ r ≤ got .count ⌝ }
+{
+    if got.failed {
+        return 0;
+    }
+    got.count
+}
+
+// Reads until the input ends, the buffer is full or a read fails.
+fn read_all(buffer: &mut [u8]) -> Got
+    ensures { λ r. ⌜ r .count ≤ length (now (buffer .exit)) ⌝ }
+{
+    let mut done = 0;
+    while done < buffer.len() {
+        let got = read_some(&mut buffer[done..]);
+        if got.failed {
+            return Got {
+                count: done,
+                failed: true,
+            };
+        }
+        if got.count == 0 {
+            return Got {
+                count: done,
+                failed: false,
+            };
+        }
+        done += got.count;
+    }
+    Got {
+        count: done,
+        failed: false,
+    }
+}
+
+// Reads once; no bytes come at the end of the input.
 fn read_some(part: &mut [u8]) -> Got
     ensures { λ r. ⌜ r .count ≤ length (now (part .exit)) ⌝ }
 {
@@ -54,18 +65,5 @@ fn read_some(part: &mut [u8]) -> Got
     Got {
         count: io::count(got, part),
         failed: got < 0,
-    }
-}
-
-// Writes the listing to the front of the text; returns its length, 0 where there is no archive.
-fn list(archive: &[u8], text: &mut [u8]) -> usize
-    requires { ⌜ 17946 ≤ length (now text) ⌝ }
-    ensures { λ r. ⌜ r ≤ length (now (text .exit)) ⌝ }
-    ensures { λ r. ⌜ r ≡ pick (isArchive (now (archive .entry))) (length (listing (reading (now (archive .entry))))) 0 ⌝ }
-{
-    let listed = listing::list(archive, text);
-    match listed {
-        Listed::Bytes(size) => size,
-        Listed::Refused(_) => 0,
     }
 }

@@ -1,15 +1,31 @@
--- What was read, and what was written, is a part of its array. Assumes nothing.
+-- What was read, and what is written, is a part of its array. Assumes nothing.
+use mathlib.Core.Path.{_≡_}
+use mathlib.Core.List.{List}
+use Prim.Native.Nat.{ℕ, _≤_}
 use native.Mathlib.Omega.{arith}
 use borrow.Author.Needs.{needs}
 use lib.ListN.{length-take}
+use Rattle.archive.specs.Listing.{reportIs}
+use Rattle.archive.proofs.Text.Sizes.{report-fits}
 use Rattle.contents.proofs.main.Statement.{statement}
 use Rattle.contents.proofs.main.Tie as tie
 
-slice-aggregate-list : tie.Need-slice-aggregate-list
-slice-aggregate-list c = let r = c .before .before in simp length-take (omega (arith, r .read-all .ensures))
+at-most : (b : List ℕ) (room : ℕ) {size : ℕ} → size ≡ reportIs b room → size ≤ room
+at-most b room e = omega (arith, report-fits b room)
 
-slice-aggregate-write-all-2 : tie.Need-slice-aggregate-write-all-2
-slice-aggregate-write-all-2 c = let l = c .before .before .before in simp length-take (omega (arith, l .list .ensures))
+fits : (c : tie.After-report) → c .report .result ≤ 17946
+fits c = let h = at-most _ _ (c .report .ensures .0) in omega arith
+
+slice-aggregate-report : tie.Need-slice-aggregate-report
+slice-aggregate-report c =
+    let count = c .before in
+    simp length-take (omega (arith, count .archive-length .ensures, count .before .before .read-all .ensures))
+
+array-share-prefix-text : tie.Need-array-share-prefix-text
+array-share-prefix-text c = omega (arith, fits (c .before))
+
+slice-aggregate-write-all : tie.Need-slice-aggregate-write-all
+slice-aggregate-write-all c = simp length-take (omega (arith, fits (c .before .before)))
 
 pub main-spec : {M : Type 1} → statement M
 main-spec =
@@ -17,14 +33,12 @@ main-spec =
     (tie.spec
     (λ c. search needs)
     (λ c κs. search needs)
-    (λ c. search needs)
-    slice-aggregate-list
-    (λ c. search needs)
     (λ c κs. search needs)
     (λ c. search needs)
+    slice-aggregate-report
+    (λ c. search needs)
     (λ c κs. search needs)
-    (λ c. search needs)
-    (λ c. search needs)
-    slice-aggregate-write-all-2
+    array-share-prefix-text
+    slice-aggregate-write-all
     (λ c κs. search needs)
     (λ c. search needs))

@@ -43,6 +43,9 @@ same-length c = let r = c .before .before .before in kept r ∙ r .before .befor
 same-length-2 : tie.Need-same-length-2 Inv-loop μ-loop
 same-length-2 c = let r = c .before .before .before .before .before in kept r ∙ r .before .before .before .loop .inv .1
 
+returns : tie.Need-returns Inv-loop μ-loop
+returns c = let r = c .before .before .before in omega (arith, kept r, r .before .before .before .loop .inv .0)
+
 returns-2 : tie.Need-returns-2 Inv-loop μ-loop
 returns-2 c = let r = c .before .before .before .before .before in omega (arith, kept r, r .before .before .before .loop .inv .0)
 
@@ -68,7 +71,7 @@ read-all-spec =
     (λ c. omega arith)
     (λ c κs. search needs)
     same-length
-    (λ c. omega arith)
+    returns
     same-length-2
     returns-2
     add-done
