@@ -10,8 +10,8 @@ use borrow.Author.Tests.{leb-true, leb-false, le-leb, lt-leb}
 use Rattle.bits.specs.Bits.{pick}
 use Rattle.bits.proofs.Tests.{differ, false-unless}
 use Rattle.archive.specs.Reading.{reading, isArchive}
-use Rattle.archive.specs.Keeping.{over}
-use Rattle.archive.specs.Listing.{listing, lists, listIs, listOut, storedNumber}
+use Rattle.archive.specs.Keeping.{leaves, over, storedNumber}
+use Rattle.archive.specs.Listing.{listing, listIs, listOut}
 use Rattle.archive.specs.declared.Stored.{Stored}
 use Rattle.archive.specs.declared.Stored.the-variants.{Bytes, Refused}
 use Rattle.promises.specs.Answers.{OneOf}
@@ -29,9 +29,9 @@ module _ (b : List ℕ) where
   abbrev text : List ℕ
   text = listing (reading b)
 
-  list-leaves : (out : List ℕ) {r : Stored} → listIs b (length out) ≡ r → listOut b out ≡ lists r text out
+  list-leaves : (out : List ℕ) {r : Stored} → listIs b (length out) ≡ r → listOut b out ≡ leaves r text out
   unfolding listOut
-  list-leaves out e = ap (λ (r : Stored). lists r text out) e
+  list-leaves out e = ap (λ (r : Stored). leaves r text out) e
 
   archive : IsArchive b → isArchive b ≡ true
   archive k = archives.is-archive b .1 k

@@ -3,8 +3,8 @@ use mathlib.Core.Path.{_≡_, refl}
 use mathlib.Core.List.{List, [], _∷_}
 use Prim.Native.Nat.{ℕ, _≤_, _<_}
 use lib.ListN.{length, replicate}
-use Rattle.archive.specs.Keeping.{over}
-use Rattle.archive.specs.Listing.{digits, decimal, item, firstLine, lines, listing, listIs, listOut, storedNumber}
+use Rattle.archive.specs.Keeping.{over, storedNumber}
+use Rattle.archive.specs.Listing.{digits, decimal, item, firstLine, lines, listing, listIs, listOut}
 use Rattle.archive.specs.Examples.{calls}
 use Rattle.archive.specs.declared.Stored.the-variants.{Bytes, Refused}
 use Rattle.promises.specs.Answers.{Exactly}
