@@ -12,7 +12,7 @@ use Rattle.reader.specs.declared.Answer.the-variants as reader
 use Rattle.judging.specs.Judge.{isAccepted}
 use Rattle.archive.specs.Model.{Held, Archive, rank, headerWidth, entryWidth, headerBytes, entryBytes, bodySize}
 use Rattle.archive.specs.Filing.{filingOf}
-use Rattle.archive.specs.Reading.{homeOf, entryAt, reading}
+use Rattle.archive.specs.Reading.{homeOf, countOf, entryAt, reading}
 use Rattle.archive.specs.Keeping.{with}
 use Rattle.archive.specs.Listing.{line}
 use Rattle.archive.specs.declared.contents.Key.{Key}
@@ -101,3 +101,7 @@ splicedLength b p size = p .at + entryWidth + backLength b p size
 unfoldable pub linesFrom : List ℕ → ℕ → ℕ → List ℕ
 linesFrom b zero at = []
 linesFrom b (suc n) at = line (entryAt b at) ++ linesFrom b n (at + entryWidth)
+
+-- the lines of all entries
+abbrev pub linesIn : List ℕ → List ℕ
+linesIn b = linesFrom b (countOf b) headerWidth

@@ -14,7 +14,7 @@ ghost use lib.ListN.{length};
 ghost use Rattle.bits.specs.Inner.{Laid};
 ghost use Rattle.archive.specs.Model.{headerWidth, entryWidth};
 ghost use Rattle.archive.specs.Reading.{countOf, isArchive, reading};
-ghost use Rattle.archive.specs.Inner.{linesFrom};
+ghost use Rattle.archive.specs.Inner.{linesIn};
 ghost use Rattle.archive.specs.Listing.{decimal, item, line, firstLine, listing, listIs, listOut};
 ghost use Rattle.archive.specs.Listing.{refusedLine, lengthWithin, textWithin, reportIs, reportOut};
 
@@ -91,8 +91,8 @@ fn write_line(out: &mut [u8], at: usize, entry: Entry) -> usize
 // Writes the lines of all entries.
 fn write_lines(archive: &[u8], out: &mut [u8], start: usize) -> usize
     requires { ⌜ headerWidth + entryWidth * countOf (now archive) ≤ length (now archive) ⌝ }
-    requires { ⌜ start + length (linesFrom (now archive) (countOf (now archive)) headerWidth) ≤ length (now out) ⌝ }
-    ensures { λ r. ⌜ Laid (now (out .entry)) start (linesFrom (now (archive .entry)) (countOf (now (archive .entry))) headerWidth) (now (out .exit)) r ⌝ }
+    requires { ⌜ start + length (linesIn (now archive)) ≤ length (now out) ⌝ }
+    ensures { λ r. ⌜ Laid (now (out .entry)) start (linesIn (now (archive .entry))) (now (out .exit)) r ⌝ }
 {
     let mut left = contents::count(archive);
     let mut entry_at = HEADER;
@@ -180,7 +180,8 @@ pub fn report(archive: &[u8], out: &mut [u8]) -> usize
     if !checking::check(archive) {
         return write_refused(out);
     }
-    if out.len() < text_length(archive) {
+    let size = text_length(archive);
+    if out.len() < size {
         return 0;
     }
     write_text(archive, out)

@@ -15,6 +15,9 @@ restore-determined = by-equations (λ κs a x v p. (p .0, λ i. (tt, (tt, (p .1 
 pub list-determined : Determined archive.listing.list.Kinds.ps archive.listing.list.Kinds.r archive.listing.list.Reads.Learnt
 list-determined = by-equations (λ κs a x v p. (p .0, λ i. (tt, (p .1 i, tt))))
 
+pub report-determined : Determined archive.listing.report.Kinds.ps archive.listing.report.Kinds.r archive.listing.report.Reads.Learnt
+report-determined = by-equations (λ κs a x v p. (p .0, λ i. (tt, (p .1 i, tt))))
+
 pub fetch-determined : Determined archive.fetch.Kinds.ps archive.fetch.Kinds.r archive.fetch.Reads.Learnt
 fetch-determined = by-equations (λ κs a x v p. (p, refl))
 
