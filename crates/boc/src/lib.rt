@@ -50,8 +50,8 @@ pub extern "C" fn boc_write(record: &[u32], out: &mut [u8], bits: &mut usize) ->
         return 9;
     }
     match pdu::write(spelt.found, out) {
-        Written::Bits(n) => {
-            *bits = n.0;
+        Written::Bits(length) => {
+            *bits = length.0;
             0
         },
         Written::Refused(number) => number,
@@ -155,8 +155,8 @@ pub extern "C" fn boc_contents(archive: &[u8], out: &mut [u8], length: &mut usiz
     ensures { λ _. ⌜ now (length .exit) ≡ contentsLength (now (archive .entry)) (now (out .entry)) (now (length .entry)) ⌝ }
 {
     match listing::list(archive, out) {
-        Stored::Bytes(n) => {
-            *length = n;
+        Stored::Bytes(bytes) => {
+            *length = bytes;
             0
         },
         Stored::Refused(refusal) => refusal,

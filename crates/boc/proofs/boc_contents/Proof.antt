@@ -9,7 +9,7 @@ use Rattle.boc.proofs.boc_contents.Tie as tie
 returns : tie.Need-returns
 returns c =
     let call = c .before .before .before .before .before .list in
-    passed storedNumber storedLength _ (call .ensures .0) (c .before .n .given .1) (call .ensures .1)
+    passed storedNumber storedLength _ (call .ensures .0) (c .before .bytes .given .1) (call .ensures .1)
 
 returns-2 : tie.Need-returns-2
 returns-2 c =

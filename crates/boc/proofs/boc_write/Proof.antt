@@ -49,7 +49,7 @@ returns-2 : tie.Need-returns-2
 unfolding writeNumber writeOut writeBits
 returns-2 c =
     let write = c .before .before .before .before .before in
-    rw (whole write) (passed writtenNumber writtenLength _ (answer write .0) (c .before .n .given .1) (answer write .1))
+    rw (whole write) (passed writtenNumber writtenLength _ (answer write .0) (c .before .length .given .1) (answer write .1))
 
 returns-3 : tie.Need-returns-3
 unfolding writeNumber writeOut writeBits
