@@ -38,7 +38,8 @@ among-above : (home last : ℕ) (h : Held) (hs : List Held) → keepsRules home 
 among-above home last h [] k m = absurd (List·Memᴰ·not-nil m)
 among-above home last h (x ∷ xs) k m =
     let u = kept home last x xs k in
-    ⊎-elim (λ e. omega (arith, u .rises, ap keyOf e)) (λ t. omega (arith, u .rises, among-above home (keyOf x) h xs (u .others) t)) (List·Memᴰ·cases-cons m)
+    ⊎-elim (λ e. omega (arith, u .rises, ap keyOf e)) (λ t. omega (arith, u .rises, among-above home (keyOf x) h xs (u .others) t))
+    (List·Memᴰ·cases-cons m)
 
 module _ (network ssi part : ℕ) where
   abbrev key : ℕ
@@ -55,7 +56,8 @@ module _ (network ssi part : ℕ) where
       (λ f. ap (λ (t : Bool). pick t (some x) (lookup key xs)) (eq-eqb _ _ (ap keyOf (sym f) ∙ e)) ∙ ap some (sym f))
       (λ t.
       let l : keyOf x < keyOf h = among-above home (keyOf x) h xs (u .others) t in
-      ap (λ (t : Bool). pick t (some x) (lookup key xs)) (ne-eqb (keyOf x) key (λ q. omega (arith, l, e, q))) ∙ look home (keyOf x) h xs (u .others) e t)
+      ap (λ (t : Bool). pick t (some x) (lookup key xs)) (ne-eqb (keyOf x) key (λ q. omega (arith, l, e, q)))
+      ∙ look home (keyOf x) h xs (u .others) e t)
       (List·Memᴰ·cases-cons m)
 
   looked : (r : Ranged network ssi part) (h : Held) (hs : List Held) → AllFit hs → lookup key hs ≡ some h → HeldFor hs network ssi part h
@@ -66,7 +68,8 @@ module _ (network ssi part : ℕ) where
           → (lookup key xs ≡ some h → HeldFor xs network ssi part h) → HeldFor (x ∷ xs) network ssi part h
       go true q s ih =
           let same : x ≡ h = cc in
-          let n = named (x .entry) network ssi part (sym (key-names (x .entry) network ssi part (fx .entry) (lookups.ranged network ssi part (ranged-is network ssi part r))) ∙ q) in
+          let w = lookups.ranged network ssi part (ranged-is network ssi part r) in
+          let n = named (x .entry) network ssi part (sym (key-names (x .entry) network ssi part (fx .entry) w) ∙ q) in
           record {
             among = List·Memᴰ·head (sym same);
             its-network = ap (λ (y : Held). y .entry .network) (sym same) ∙ n .0;

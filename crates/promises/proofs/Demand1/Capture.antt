@@ -31,7 +31,8 @@ use Rattle.promises.specs.Held.{may-be-held}
 use Rattle.promises.specs.Archive as said
 use Rattle.promises.specs.Archive.{Agrees, IsArchive, Ranged, HeldFor}
 use Rattle.promises.specs.Demand1.Reading as read
-use Rattle.promises.specs.Demand1.Capture.{number, Offered, Full, result, Given, success, damaged, unread, not-kept, full, too-long, no-room, Promise}
+use Rattle.promises.specs.Demand1.Capture.{number, Offered, Full, result, Given, Promise}
+use Rattle.promises.specs.Demand1.Capture.{success, damaged, unread, not-kept, full, too-long, no-room}
 use Rattle.promises.proofs.Tables.{exactly, wider}
 use Rattle.promises.proofs.Archive as archive-kept
 use Rattle.promises.proofs.Archive.Agreeing.{agreed-entry, filed-agrees}
@@ -111,7 +112,9 @@ module _ (b s : List ℕ) (n room : ℕ) where
         record {
           entry = y;
           bits = refl;
-          agrees = subst (λ (a : Archive). Agrees (a .home) filed (readIs s n .found)) same (filed-agrees (reading b .home) s n (o .accepted) (o .may));
+          agrees =
+              subst (λ (a : Archive). Agrees (a .home) filed (readIs s n .found)) same
+              (filed-agrees (reading b .home) s n (o .accepted) (o .may));
           new = subst (λ (a : Archive). (h : Held) → HeldFor (a .held) (y .network) (y .ssi) (y .part) h → ⊥) same no-one;
           count = subst (λ (a : Archive). length (a .held) ≡ 512) same (eqb-true _ _ (x .1));
         }
@@ -122,8 +125,9 @@ module _ (b s : List ℕ) (n room : ℕ) where
         let at = agreed-entry (o .archive .archive .home) (record { entry = f .entry; body = s }) (readIs s n .found) (f .agrees) in
         let e : f .entry ≡ filed .entry =
         at ∙ (λ i. entryFor (same i .home) (readIs s n .found) (f .bits i)) in
-        let no-one = subst (λ (a : Archive). (h : Held) → HeldFor (a .held) (f .entry .network) (f .entry .ssi) (f .entry .part) h → ⊥) same (f .new) in
-        let new = subst (λ (x : Entry). (h : Held) → HeldFor (reading b .held) (x .network) (x .ssi) (x .part) h → ⊥) e no-one in
+        let x = f .entry in
+        let no-one = subst (λ (a : Archive). (h : Held) → HeldFor (a .held) (x .network) (x .ssi) (x .part) h → ⊥) same (f .new) in
+        let new = subst (λ (z : Entry). (h : Held) → HeldFor (reading b .held) (z .network) (z .ssi) (z .part) h → ⊥) e no-one in
         let y = filed .entry in
         both⁻¹ (ap isNone (archives.not-found b (archive (o .archive)) (y .network) (y .ssi) (y .part) ranged .1 new))
         (eq-eqb _ _ (subst (λ (a : Archive). length (a .held) ≡ 512) same (f .count)))
@@ -140,7 +144,9 @@ module _ (b s : List ℕ) (n room : ℕ) where
         go false e true f t g = (too-long o (omega (arith, long, ltb-true 65536 size f)), refl)
         go false e false f true g = (no-room o (omega (arith, long, ltb-true room size g)), refl)
         go false e false f false g =
-            (success o (λ x. differ (sym (full-is x) ∙ e)) (omega (arith, long, ltb-false 65536 size f)) (omega (arith, long, ltb-false room size g)), refl)
+            let l : length (result b s n) ≤ 65536 = omega (arith, long, ltb-false 65536 size f) in
+            let h : length (result b s n) ≤ room = omega (arith, long, ltb-false room size g) in
+            (success o (λ x. differ (sym (full-is x) ∙ e)) l h, refl)
 
     over : isFull || (ltb 65536 size || ltb room size) ≡ true → number b s n room ≡ 8
     over e = ap archivedNumber (placed ∙ ap (λ (t : Bool). pick t (Refused 8) (Bytes size)) e)

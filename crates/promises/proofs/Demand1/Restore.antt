@@ -108,6 +108,7 @@ pub promise : Promise
 promise = record {
   table = λ b network ssi part room.
       exactly (Given b network ssi part room) (row b network ssi part room .0) (row b network ssi part room .1) (back b network ssi part room);
-  success = λ b network ssi part out e. succeeds b network ssi part out (number b network ssi part (length out)) (row b network ssi part (length out) .0) e;
+  success = λ b network ssi part out e.
+      succeeds b network ssi part out (number b network ssi part (length out)) (row b network ssi part (length out) .0) e;
   refusal = λ b network ssi part out k e. restore-leaves b network ssi part out e;
 }
