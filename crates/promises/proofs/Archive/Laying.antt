@@ -35,7 +35,8 @@ laid-reads b at off (h ∷ hs) (e, body, more) =
       };
       body = (ap (λ (n : ℕ). take n (drop off b)) size ∙ sym body) i;
     } in
-    λ i. here i ∷ (ap (λ (n : ℕ). heldFrom b (length hs) (at + 9) (off + n)) size ∙ laid-reads b (at + 9) (off + (h .entry .bits .0 + 7) / 8) hs more) i
+    let there = laid-reads b (at + 9) (off + (h .entry .bits .0 + 7) / 8) hs more in
+    λ i. here i ∷ (ap (λ (n : ℕ). heldFrom b (length hs) (at + 9) (off + n)) size ∙ there) i
 
 laid-size : (b : List ℕ) (at off : ℕ) (hs : List Held) → Laid b at off hs → off + sizes hs ≡ length b
 laid-size b at off [] l = omega (arith, l)

@@ -31,7 +31,8 @@ use Rattle.promises.specs.Held.{may-be-held}
 use Rattle.promises.specs.Archive as said
 use Rattle.promises.specs.Archive.{Agrees, IsArchive, Ranged, HeldFor}
 use Rattle.promises.specs.Demand1.Reading as read
-use Rattle.promises.specs.Demand1.Capture.{number, Offered, Full, result, Given, success, damaged, unread, not-kept, full, too-long, no-room, Promise}
+use Rattle.promises.specs.Demand1.Capture.{number, Offered, Full, result, Given, Promise}
+use Rattle.promises.specs.Demand1.Capture.{success, damaged, unread, not-kept, full, too-long, no-room}
 use Rattle.promises.proofs.Tables.{exactly, wider}
 use Rattle.promises.proofs.Archive as archive-kept
 use Rattle.promises.proofs.Archive.Agreeing.{agreed-entry, filed-agrees}
@@ -140,7 +141,9 @@ module _ (b s : List ℕ) (n room : ℕ) where
         go false e true f t g = (too-long o (omega (arith, long, ltb-true 65536 size f)), refl)
         go false e false f true g = (no-room o (omega (arith, long, ltb-true room size g)), refl)
         go false e false f false g =
-            (success o (λ x. differ (sym (full-is x) ∙ e)) (omega (arith, long, ltb-false 65536 size f)) (omega (arith, long, ltb-false room size g)), refl)
+            let l : length (result b s n) ≤ 65536 = omega (arith, long, ltb-false 65536 size f) in
+            let h : length (result b s n) ≤ room = omega (arith, long, ltb-false room size g) in
+            (success o (λ x. differ (sym (full-is x) ∙ e)) l h, refl)
 
     over : isFull || (ltb 65536 size || ltb room size) ≡ true → number b s n room ≡ 8
     over e = ap storedNumber (placed ∙ ap (λ (t : Bool). pick t (Refused 8) (Bytes size)) e)
