@@ -150,17 +150,16 @@ restored-visitor = (refl, refl)
 -- ---- what breaks a rule, each in an archive of one or two PDUs of home network 1
 
 abbrev ofTwo : List ℕ → List ℕ → List ℕ
-ofTwo first second =
-    (0x00 ∷ 0x00 ∷ 0x01 ∷ 0x00 ∷ 0x02 ∷ []) ++ (first ++ (second
-    ++ (0x49 ∷ 0x82 ∷ 0x00 ∷ 0x00 ∷ 0x0a ∷ 0x21 ∷ 0x20 ∷ 0x00 ∷ 0x49 ∷ 0x82 ∷ 0x00 ∷ 0x00 ∷ 0x0a ∷ 0x41 ∷ 0x20 ∷ 0x00 ∷ [])))
+ofTwo contents bodies = (0x00 ∷ 0x00 ∷ 0x01 ∷ 0x00 ∷ 0x02 ∷ []) ++ (contents ++ bodies)
 
 abbrev ofOne : List ℕ → List ℕ → List ℕ
 ofOne contents body = (0x00 ∷ 0x00 ∷ 0x01 ∷ 0x00 ∷ 0x01 ∷ []) ++ (contents ++ body)
 
--- both parts of user 5 in their order; a key that stands twice; a body of another part, SSI or network than its entry; a failed interrogation
-rules : (isArchive (ofTwo (entryBytes (entry 1 5 1 63)) (entryBytes (entry 1 5 2 63))) ≡ true)
-    × (isArchive (ofTwo (entryBytes (entry 1 5 1 63)) (entryBytes (entry 1 5 1 63))) ≡ false)
-    × (isArchive (ofTwo (entryBytes (entry 1 5 2 63)) (entryBytes (entry 1 5 1 63))) ≡ false)
+-- user 5 and the visitor in their order, and the other way round; user 5 twice; a body of another part, SSI, network or length than its entry; a
+-- failed interrogation
+rules : (isArchive (ofTwo (entryBytes (entry 1 5 1 63) ++ entryBytes (entry 7 4 2 87)) (first .pdu ++ visitor .pdu)) ≡ true)
+    × (isArchive (ofTwo (entryBytes (entry 7 4 2 87) ++ entryBytes (entry 1 5 1 63)) (visitor .pdu ++ first .pdu)) ≡ false)
+    × (isArchive (ofTwo (entryBytes (entry 1 5 1 63) ++ entryBytes (entry 1 5 1 63)) (first .pdu ++ first .pdu)) ≡ false)
     × (isArchive (ofOne (entryBytes (entry 1 5 1 63)) (first .pdu)) ≡ true)
     × (isArchive (ofOne (entryBytes (entry 1 5 2 63)) (first .pdu)) ≡ false)
     × (isArchive (ofOne (entryBytes (entry 1 6 1 63)) (first .pdu)) ≡ false)
