@@ -1,12 +1,1 @@
-pub mod Walks
-pub mod Windows
-pub mod Elements
-pub mod Rows
-pub mod Counted
-pub mod Digits
-pub mod Identities
-pub mod Ranges
-pub mod Lists
-pub mod Judging
-pub mod Users
-pub mod Heads
+pub mod Records

@@ -3,6 +3,7 @@ pub mod Bits
 pub mod Codec
 pub mod Grammar
 pub mod Reader
+pub mod Walk
 pub mod Tally
 pub mod Writer
 pub mod Judging

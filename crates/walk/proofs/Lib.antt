@@ -1,0 +1,9 @@
+pub mod Passes
+pub mod Ranges
+pub mod Results
+pub mod Numbers
+pub mod Heads
+pub mod Ending
+pub mod Rows
+pub mod Aheads
+pub mod Sights

@@ -1,0 +1,83 @@
+-- What the walk's own functions say: where a part of a PDU leaves reading, and the answer where the last part ends.
+use mathlib.Core.Path.{_≡_}
+use mathlib.Core.Bool.{Bool, true, _&&_}
+use mathlib.Core.List.{List}
+use Prim.Native.Nat.{ℕ, zero, suc, _+_, _/_, _%_, _^_, _≤_}
+use lib.ListN.{length}
+use lib.Dec.{ltb, eqb}
+use Rattle.bits.specs.Bits.{pick}
+use Rattle.bits.specs.Frame.{bitsIn}
+use Rattle.bits.specs.Element.{windowAt}
+use Rattle.codec.specs.Codec.{Codec}
+use Rattle.codec.specs.Parts.{tested}
+use Rattle.codec.specs.Places.{places}
+use Rattle.codec.specs.Reading.{Found, got, andNext, readAt, resume, reachedOf}
+use Rattle.codec.specs.declared.Reached.{Reached}
+use Rattle.codec.specs.declared.Reached.the-variants as reached
+use Rattle.grammar.specs.SiteSheet.{entriesOf}
+use Rattle.grammar.specs.Grammar.{identity, noIdentity, rangeEnds, secondEnd, Rest, pdu}
+use Rattle.grammar.specs.declared.record.Identity.{Identity}
+use Rattle.walk.specs.Walk.{refusing}
+use Rattle.walk.specs.declared.Head.{Head}
+use Rattle.walk.specs.declared.BitPlace.the-variants as place
+use Rattle.walk.specs.declared.Walked.{Walked}
+use Rattle.walk.specs.declared.Walked.the-variants.{Accepted}
+
+-- the part c of the bits l, passed from where reading stands
+unfoldable pub pass : {A : Type 0} → Codec A → List Bool → Reached → Reached
+pass c l start = reachedOf (resume start (readAt c l))
+
+-- so many passes
+unfoldable pub steps : (Reached → Reached) → ℕ → Reached → Reached
+steps f zero r = r
+steps f (suc k) r = steps f k (f r)
+
+-- the identities that a range type says
+unfoldable pub coded : ℕ → Codec (List Identity)
+coded code = tested (places identity noIdentity 8 (entriesOf code)) (rangeEnds code) secondEnd
+
+-- the two ends of a range, under their rule
+unfoldable pub range : Codec (List Identity)
+range = tested (places identity noIdentity 8 2) (rangeEnds 9) secondEnd
+
+-- ---- the head of an accepted PDU stands in its first 64 bits
+
+-- an identity in the window at its place
+unfoldable pub identityIn : ℕ → Identity
+identityIn v = record { ssi = v / 2 ^ 33; present = v / 2 ^ 32 % 2; extension = pick (eqb (v / 2 ^ 32 % 2) 1) (v / 2 ^ 8 % 2 ^ 24) 0 }
+
+unfoldable pub headIn : List ℕ → ℕ → Head
+headIn s result = record { kind = windowAt s 0 / 2 ^ 46 % 2 ^ 5; code = windowAt s 0 / 2 ^ 42 % 2 ^ 4; user = identityIn (windowAt s 15); result = result }
+
+-- the answer where reading stands after the last element: 5 if bits are left
+unfoldable pub endedIs : List ℕ → ℕ → Reached → ℕ → Walked
+endedIs s n (reached.At c) result = pick (ltb (c .at) n) (refusing 5 (place.At (c .at))) (Accepted (headIn s result))
+endedIs s n (reached.Refused k p) result = refusing k (place.At p)
+
+-- ---- the interrogation result
+
+-- what follows the affected users, read from where reading stands, and the interrogation result in it
+unfoldable pub resultFrom : Codec Rest → List Bool → Reached → Found ℕ
+resultFrom c l start = resume start (λ at. andNext (readAt c l at) (λ rest p. got (rest .1 .0) p))
+
+-- the interrogation result of the PDU l
+unfoldable pub resultIn : List Bool → Found ℕ
+resultIn l = andNext (readAt pdu l 0) (λ r p. got (r .result) p)
+
+-- ---- ahead of the end: bits after it are zeros, and whatever is found counts only if it lies inside the PDU
+
+-- k elements of w bits in one number, the last of them first, pass if none is refused
+unfoldable pub passing : (ℕ → ℕ) → ℕ → ℕ → ℕ → Bool
+passing refuse w zero v = true
+passing refuse w (suc k) v = eqb (refuse (v % 2 ^ w)) 0 && passing refuse w k (v / 2 ^ w)
+
+-- a part of a PDU in the bytes s that begins at a place ends at another, at most so many bits on, if that is inside the PDU
+pub record Ends (part : List Bool → Reached → Reached) (s : List ℕ) (at most end : ℕ) : Type 0 where
+  pub after : at ≤ end
+  pub near : end ≤ at + most
+  pub there : (n : ℕ) → n ≤ 4096 → end ≤ length (bitsIn n s) → part (bitsIn n s) (reached.At (record { at = at })) ≡ reached.At (record { at = end })
+
+-- the same where the interrogation result is found
+pub record Finds (found : List Bool → Found ℕ) (s : List ℕ) (at result end : ℕ) : Type 0 where
+  pub after : at ≤ end
+  pub there : (n : ℕ) → n ≤ 4096 → end ≤ length (bitsIn n s) → found (bitsIn n s) ≡ got result end
