@@ -1,0 +1,4 @@
+pub mod Reading
+pub mod Entries
+pub mod Parts
+pub mod Implies

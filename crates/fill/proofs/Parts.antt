@@ -1,0 +1,137 @@
+-- What a part needs where the whole is read, and what the whole has where its parts are stored: a law for each way to build a codec. Assumes nothing.
+use mathlib.Core.Path.{_≡_, refl, sym, ap, _∙_, subst}
+use mathlib.Core.Bool.{Bool, true}
+use mathlib.Core.List.{List, _++_}
+use Prim.Native.Nat.{ℕ, _+_, _≤_}
+use native.Mathlib.Nat.{add-assoc}
+use native.Mathlib.Omega.{arith}
+use lib.ListN.{length, replicate}
+use Rattle.codec.specs.Codec.{Codec}
+use Rattle.codec.specs.Parts.{number, numberFault, element, seq, tested, shaped, first-none}
+use Rattle.codec.specs.Places.{places}
+use Rattle.codec.specs.Reading.{got, andNext, unlessAt, readAt}
+use Rattle.codec.proofs.Reading.{readAt-seq, readAt-tested, readAt-shaped, readAt-absent, readAt-legal}
+use Rattle.codec.proofs.Filling.{places-rest}
+use Rattle.grammar.specs.Grammar.{noExternal, noExternals}
+use Rattle.grammar.specs.Zero.{zeroNumber, zeroNumbers}
+use Rattle.grammar.proofs.Steps.{noExternal-at}
+use Rattle.words.specs.Inner.{Put}
+use Rattle.words.proofs.Putting as words
+use Rattle.fill.specs.Fill.{one, Read, Reads, Fills}
+use Rattle.fill.proofs.Reading.{steps, passed}
+use Rattle.fill.proofs.Entries.{put-as}
+
+-- ---- one part after another
+
+module _ {A B : Type 0} (c : Codec A) (d : A → Codec B) {s : List Bool} {at : ℕ} where
+  pub reads-first : Reads (seq c d) s at → Reads c s at
+  reads-first r = let x = steps _ _ (sym (readAt-seq c d s at) ∙ r .read .same) in record { value = x .value; end = x .next; read = record { same = x .first } }
+
+  pub reads-next : {a : A} {m : ℕ} → Reads (seq c d) s at → Read c s at a m → Reads (d a) s m
+  reads-next {a} {m} r e =
+      let whole : readAt (seq c d) s at ≡ andNext (readAt (d a) s m) (λ b end. got (a, b) end) = readAt-seq c d s at ∙ rw (e .same) in
+      let x = steps _ _ (sym whole ∙ r .read .same) in
+      record { value = x .value; end = x .next; read = record { same = x .first } }
+
+  pub fill-then : (g : A → List ℕ) {h : B → List ℕ} {m end to j k : ℕ} {a : A} {w w′ w″ : List ℕ}
+      → to ≤ length w → Read c s at a m → Put w to (g a) j w′ (to + j) → Fills (d a) h k s m w′ (to + j) w″ end
+      → Fills (seq c d) (λ p. g (p .0) ++ h (p .1)) (j + k) s at w to w″ end
+  fill-then g {to} {j} {k} {a} room e p f = record {
+    value = (a, f .value);
+    read = record { same = readAt-seq c d s at ∙ rw (e .same, f .read .same) };
+    put = put-as (words.then room p (f .put)) refl refl (add-assoc to j k);
+  }
+
+-- ---- a part under another shape
+
+module _ {A B : Type 0} (c : Codec A) (to : A → B) (from : B → A) (there : (a : A) → c .clean a ≡ true → c .fault a ≡ 0 → from (to a) ≡ a)
+    (back : (b : B) → to (from b) ≡ b) {s : List Bool} {at : ℕ} where
+  pub reads-shaped : Reads (shaped c to from there back) s at → Reads c s at
+  reads-shaped r = let x = steps _ _ (sym (readAt-shaped c to from there back s at) ∙ r .read .same) in record { value = x .value; end = x .next; read = record { same = x .first } }
+
+  pub fill-shaped : {f : A → List ℕ} {g : B → List ℕ} {n o end : ℕ} {w w′ : List ℕ} → ((a : A) → f a ≡ g (to a))
+      → Fills c f n s at w o w′ end → Fills (shaped c to from there back) g n s at w o w′ end
+  fill-shaped e f = record {
+    value = to (f .value);
+    read = record { same = readAt-shaped c to from there back s at ∙ rw (f .read .same) };
+    put = put-as (f .put) (e (f .value)) refl refl;
+  }
+
+-- ---- a part with a test after it, which a legal PDU passes
+
+module _ {A : Type 0} (c : Codec A) (refuse into : A → ℕ) {s : List Bool} {at : ℕ} (r : Reads (tested c refuse into) s at) where
+  pub reads-tested : Reads c s at
+  reads-tested = let x = steps _ _ (sym (readAt-tested c refuse into s at) ∙ r .read .same) in record { value = x .value; end = x .next; read = record { same = x .first } }
+
+  pub tested-read : {a : A} {end : ℕ} → Read c s at a end → Read (tested c refuse into) s at a end
+  tested-read {a} {end} e =
+      let x = steps (readAt c s at) (λ v m. unlessAt (refuse v) (at + into v) (got v m)) (sym (readAt-tested c refuse into s at) ∙ r .read .same) in
+      let va : x .value ≡ a = cc (x .first, e .same) in
+      let t : refuse a ≡ 0 = rw va at (passed (refuse (x .value)) (at + into (x .value)) (got (x .value) (x .next)) (x .then) .0) in
+      record { same = readAt-tested c refuse into s at ∙ rw (e .same, t) }
+
+  pub fill-tested : {f : A → List ℕ} {n to end : ℕ} {w w′ : List ℕ} → Fills c f n s at w to w′ end → Fills (tested c refuse into) f n s at w to w′ end
+  fill-tested f = record { value = f .value; read = tested-read (f .read); put = f .put }
+
+module _ (w : ℕ) (refuse : ℕ → ℕ) {s : List Bool} {at : ℕ} (r : Reads (element w refuse) s at) where
+  pub reads-element : Reads (number w) s at
+  unfolding element
+  reads-element = reads-tested (number w) refuse (λ v. 0) r
+
+  pub element-read : {v end : ℕ} → Read (number w) s at v end → Read (element w refuse) s at v end
+  unfolding element
+  element-read e = tested-read (number w) refuse (λ v. 0) r e
+
+-- ---- a number, and what it says follows: a range type, a count, a length
+
+module _ {A B : Type 0} (w : ℕ) (refuse : ℕ → ℕ) (d : ℕ → Codec A) (to : ℕ × A → B) (from : B → ℕ × A)
+    (there : (p : ℕ × A) → seq (element w refuse) d .clean p ≡ true → seq (element w refuse) d .fault p ≡ 0 → from (to p) ≡ p)
+    (back : (b : B) → to (from b) ≡ b) {s : List Bool} {at : ℕ} (r : Reads (shaped (seq (element w refuse) d) to from there back) s at) where
+  pub head-reads : Reads (number w) s at
+  head-reads = reads-element w refuse (reads-first _ d (reads-shaped _ to from there back r))
+
+  head-read : {v m : ℕ} → Read (number w) s at v m → Read (element w refuse) s at v m
+  head-read e = element-read w refuse (reads-first _ d (reads-shaped _ to from there back r)) e
+
+  -- its test was passed
+  pub head-passed : {v m : ℕ} → Read (number w) s at v m → refuse v ≡ 0
+  unfolding element tested number
+  head-passed {v} {m} e = first-none (numberFault w v) (refuse v) (readAt-legal (element w refuse) s at v m (head-read e .same) .0 .faultless) .1
+
+  pub rest-reads : {v m : ℕ} → Read (number w) s at v m → Reads (d v) s m
+  rest-reads e = reads-next _ d (reads-shaped _ to from there back r) (head-read e)
+
+  pub headed-fill : {h : A → List ℕ} {g : B → List ℕ} {v m end o k : ℕ} {words words′ words″ : List ℕ} → ((p : ℕ × A) → one (p .0) ++ h (p .1) ≡ g (to p))
+      → o ≤ length words → Read (number w) s at v m → Put words o (one v) 1 words′ (o + 1) → Fills (d v) h k s m words′ (o + 1) words″ end
+      → Fills (shaped (seq (element w refuse) d) to from there back) g (1 + k) s at words o words″ end
+  headed-fill same room e p f = fill-shaped _ to from there back same (fill-then _ d one room (head-read e) p f)
+
+-- ---- how many places are used, by an equation
+
+module _ {A : Type 0} (c z : Codec A) (m : ℕ) {n k : ℕ} (e : n ≡ k) {s : List Bool} {at : ℕ} where
+  pub reads-used : Reads (places c z m k) s at → Reads (places c z m n) s at
+  reads-used r = subst (λ (x : ℕ). Reads (places c z m x) s at) (sym e) r
+
+  pub fill-used : {f : List A → List ℕ} {j o end : ℕ} {w w′ : List ℕ} → Fills (places c z m n) f j s at w o w′ end → Fills (places c z m k) f j s at w o w′ end
+  fill-used {f} {j} {o} {end} {w} {w′} p = subst (λ (x : ℕ). Fills (places c z m x) f j s at w o w′ end) e p
+
+-- ---- a part that the PDU does not carry: zeros
+
+pub none-fill : {A : Type 0} (c : Codec A) (f : A → List ℕ) (v : A) {s : List Bool} {at : ℕ} → readAt c s at ≡ got v at → {n to : ℕ} {w w′ : List ℕ}
+    → f v ≡ replicate n 0 → Put w to (replicate n 0) n w′ (to + n) → Fills c f n s at w to w′ at
+none-fill c f v e z p = record { value = v; read = record { same = e }; put = put-as p (sym z) refl refl }
+
+noExternals-at : (s : List Bool) (at : ℕ) → readAt noExternals s at ≡ got zeroNumbers at
+unfolding noExternals
+noExternals-at s at = simp (readAt-shaped, readAt-seq, readAt-absent, places-rest noExternal noExternal s zeroNumber (noExternal-at s) 8)
+
+pub no-numbers : (s : List Bool) (at : ℕ) → readAt (seq noExternals (λ l. noExternals)) s at ≡ got (zeroNumbers, zeroNumbers) at
+no-numbers s at = readAt-seq noExternals (λ l. noExternals) s at ∙ rw (noExternals-at, noExternals-at)
+
+-- what was stored is what is read, whoever reads it
+pub fills-is : {A : Type 0} {c : Codec A} {f : A → List ℕ} {n : ℕ} {s : List Bool} {at to end e : ℕ} {w w′ : List ℕ} {v : A}
+    → Fills c f n s at w to w′ end → Read c s at v e → (end ≡ e) × Put w to (f v) n w′ (to + n)
+fills-is {f} {end} {e} {v} p r =
+    let q : p .value ≡ v = cc (p .read .same, r .same) in
+    let k : end ≡ e = cc (p .read .same, r .same) in
+    (k, put-as (p .put) (ap f q) refl refl)
