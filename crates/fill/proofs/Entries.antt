@@ -15,16 +15,13 @@ use Rattle.codec.proofs.Filling.{behind, places-rest}
 use Rattle.words.specs.Inner.{Put}
 use Rattle.words.specs.RecordWords.{inTurn}
 use Rattle.words.proofs.Putting.{then}
-use Rattle.fill.specs.Fill.{Reads, Fills}
+use Rattle.fill.specs.Inner.{Reads, Fills}
 use Rattle.fill.proofs.Reading.{steps}
 
 -- the same words by other names
-pub put-as : {out s s′ out′ : List ℕ} {at n n′ end end′ : ℕ} → Put out at s n out′ end → s ≡ s′ → n ≡ n′ → end ≡ end′ → Put out at s′ n′ out′ end′
+pub put-as : {out s s′ out′ : List ℕ} {at n n′ end end′ : ℕ} → Put out at s n out′ end → s ≡ s′ → n ≡ n′ → end ≡ end′
+    → Put out at s′ n′ out′ end′
 put-as p a b e = rw (← a, ← b, ← e) p
-
-pub fill-size : {A : Type 0} {c : Codec A} {f : A → List ℕ} {n n′ : ℕ} {s : List Bool} {at to end : ℕ} {w w′ : List ℕ} → n ≡ n′
-    → Fills c f n s at w to w′ end → Fills c f n′ s at w to w′ end
-fill-size {to} e p = record { value = p .value; read = p .read; put = put-as (p .put) refl e (ap (λ (x : ℕ). to + x) e) }
 
 inTurn-append : {A : Type 0} (f : A → List ℕ) (xs ys : List A) → inTurn f (xs ++ ys) ≡ inTurn f xs ++ inTurn f ys
 unfolding inTurn
@@ -83,8 +80,8 @@ module _ {A : Type 0} {c z : Codec A} {f : A → List ℕ} {w m n : ℕ} {s : Li
         let a = steps _ _ (sym (split k) ∙ h .more .read .same) in
         record { value = a .value; end = a .next; read = record { same = a .first } }
 
-    pub entries-more : {words″ : List ℕ} {end : ℕ} → to ≤ length words → i < n → Fills c f w s at words′ next words″ end → length words″ ≡ length words′
-        → Entries c z f w m n s start words to (i + 1) end words″ (next + w)
+    pub entries-more : {words″ : List ℕ} {end : ℕ} → to ≤ length words → i < n → Fills c f w s at words′ next words″ end
+        → length words″ ≡ length words′ → Entries c z f w m n s start words to (i + 1) end words″ (next + w)
     unfolding inTurn
     entries-more {words″} {end} room k p l =
         let rest = readAt (places c z (m - (i + 1)) (n - (i + 1))) s end in
@@ -110,8 +107,8 @@ module _ {A : Type 0} {c z : Codec A} {f : A → List ℕ} {w m n : ℕ} {s : Li
         after (refused k p) xs x = refl
 
     -- and the zeros after the last
-    pub entries-all : {words″ : List ℕ} {none : A} {k : ℕ} → to ≤ length words → n ≤ i → ((at : ℕ) → readAt z s at ≡ got none at) → f none ≡ replicate w 0
-        → k ≡ w * (m - i) → Put words′ next (replicate k 0) k words″ (next + k)
+    pub entries-all : {words″ : List ℕ} {none : A} {k : ℕ} → to ≤ length words → n ≤ i → ((at : ℕ) → readAt z s at ≡ got none at)
+        → f none ≡ replicate w 0 → k ≡ w * (m - i) → Put words′ next (replicate k 0) k words″ (next + k)
         → Fills (places c z m n) (inTurn f) (w * m) s start words to words″ at
     entries-all {words″} {none} {k} room last hz e ek p =
         let l : n - i ≡ 0 = omega arith in

@@ -1,24 +1,20 @@
 -- Where whatever c reads d reads too, c may be stored as d: a test that was passed needs no second look. Assumes nothing.
-use mathlib.Core.Path.{_≡_, refl, sym, ap, _∙_}
+use mathlib.Core.Path.{_≡_, refl, sym, _∙_}
 use mathlib.Core.Bool.{Bool}
-use mathlib.Core.List.{List, _∷_, _++_, append-assoc}
-use Prim.Native.Nat.{ℕ, zero, suc, _+_, _≤_}
-use native.Mathlib.Omega.{arith}
-use lib.ListN.{length, take, drop, take-append-drop}
-use lib.Seq.{drop-append-le}
-use Rattle.codec.specs.Codec.{Outcome, ok, no, Codec, Faithful}
+use mathlib.Core.List.{List, _∷_}
+use Prim.Native.Nat.{ℕ, zero, suc, _+_}
+use Rattle.codec.specs.Codec.{Codec}
 use Rattle.codec.specs.Parts.{number, absent, element, seq, tested}
 use Rattle.codec.specs.Places.{cons, places}
-use Rattle.codec.specs.Reading.{Found, got, refused, andNext, unlessAt, readAt, answer}
+use Rattle.codec.specs.Reading.{got, andNext, unlessAt, readAt}
 use Rattle.codec.proofs.Reading.{readAt-cons, readAt-tested, readAt-seq, readAt-shaped}
-use Rattle.bits.proofs.Tests.{never}
 use Rattle.grammar.specs.SiteSheet.{rangeType, refusalIn, rangeRefusal, entriesOf}
 use Rattle.grammar.specs.Grammar.{identity, noIdentity, identities, rangeEnds, secondEnd, toIdentities, fromIdentities}
 use Rattle.grammar.specs.declared.site.ListKind.{ListKind}
 use Rattle.grammar.specs.declared.site.ListKind.the-variants as of
 use Rattle.grammar.specs.declared.site.RangeType.{RangeType}
 use Rattle.grammar.specs.declared.site.RangeType.the-variants.{Empty, Single, FirstAndLast, NoRangeType}
-use Rattle.fill.specs.Fill.{Read, Reads, Fills}
+use Rattle.fill.specs.Inner.{Reads, Fills}
 use Rattle.fill.proofs.Reading.{steps, passed}
 
 -- whatever c reads in s, d reads too
@@ -39,7 +35,8 @@ module _ (s : List Bool) where
   unfolding element
   as-number w refuse = record {
     also = λ at a end e.
-        let x = steps (readAt (number w) s at) (λ v m. unlessAt (refuse v) (at + 0) (got v m)) (sym (readAt-tested (number w) refuse (λ v. 0) s at) ∙ e) in
+        let x = steps (readAt (number w) s at) (λ v m. unlessAt (refuse v) (at + 0) (got v m))
+        (sym (readAt-tested (number w) refuse (λ v. 0) s at) ∙ e) in
         x .first ∙ passed (refuse (x .value)) (at + 0) (got (x .value) (x .next)) (x .then) .1;
   }
 
@@ -90,25 +87,11 @@ module _ (s : List Bool) where
   pub as-identities : (j : ListKind) → Implies (identities j) (identities of.Identities) s
   unfolding identities rangeRefusal
   as-identities j =
-      let h = as-first (element 4 (rangeRefusal j)) (element 4 (rangeRefusal of.Identities)) (λ code. tested (places identity noIdentity 8 (entriesOf code)) (rangeEnds code) secondEnd)
+      let h = as-first (element 4 (rangeRefusal j)) (element 4 (rangeRefusal of.Identities))
+      (λ code. tested (places identity noIdentity 8 (entriesOf code)) (rangeEnds code) secondEnd)
       (as-element 4 (rangeRefusal j) (rangeRefusal of.Identities) (λ v. in-identities j (rangeType v))) in
       record {
         also = λ at a end e.
             let x = steps _ _ (sym (readAt-shaped _ toIdentities fromIdentities (λ a c f. refl) (λ l. refl) s at) ∙ e) in
             readAt-shaped _ toIdentities fromIdentities (λ a c f. refl) (λ l. refl) s at ∙ rw (h .also at (x .value) (x .next) (x .first)) (x .then);
       }
-
--- what is read of a PDU's own bits is read of all the bits of its bytes
-module _ {A : Type 0} (c : Codec A) (n : ℕ) (l : List Bool) (at : ℕ) (inside : at ≤ length (take n l)) where
-  whole-cases : (o : Outcome A) → Faithful (c .clean) (c .fault) (c .print) at (drop at (take n l)) o → (a : A) (end : ℕ) → answer o ≡ got a end → readAt c l at ≡ got a end
-  unfolding readAt
-  whole-cases (ok b p t) h a end e =
-      let split : drop at l ≡ c .print b ++ (t ++ drop n l) =
-      ap (drop at) (sym (take-append-drop n l)) ∙ drop-append-le at (take n l) (drop n l) inside ∙ ap (λ (x : List Bool). x ++ drop n l) (h .2)
-      ∙ append-assoc (c .print b) t (drop n l) in
-      rw (split, c .reads b (h .0) (h .1), ← h .3) e
-  whole-cases (no k p) h a end e = never cc
-
-  pub reads-all : Reads c (take n l) at → Reads c l at
-  unfolding readAt
-  reads-all r = record { value = r .value; end = r .end; read = record { same = whole-cases (c .parse at (drop at (take n l))) (c .sound at (drop at (take n l))) (r .value) (r .end) (r .read .same) } }

@@ -1,4 +1,5 @@
 pub mod Reading
 pub mod Entries
-pub mod Parts
 pub mod Implies
+pub mod Parts
+pub mod Runs

@@ -13,8 +13,9 @@ use Rattle.bits.specs.Frame.{bitsIn}
 use Rattle.bits.specs.Element.{windowAt}
 use Rattle.bits.proofs.Tests.{never}
 use Rattle.bits.proofs.Bytes.{length-bits}
+use Rattle.bits.proofs.Numbers.{length-bitsOf}
 use Rattle.bits.proofs.Elements.{element-there, element-short}
-use Rattle.bits.proofs.Windows.{window-front}
+use Rattle.bits.proofs.Windows.{window-front, window-lt}
 use Rattle.codec.specs.Codec.{Codec}
 use Rattle.codec.specs.Parts.{number, narrow}
 use Rattle.codec.specs.Reading.{Found, got, refused, andNext, unlessAt, readAt}
@@ -24,7 +25,7 @@ use Rattle.grammar.specs.Grammar.{identity, extension}
 use Rattle.grammar.specs.declared.record.Identity.{Identity}
 use Rattle.grammar.proofs.Steps.{identity-at}
 use Rattle.grammar.proofs.Windows.{plainIn, wideIn, up-to-extension, identity-plain, identity-wide}
-use Rattle.fill.specs.Fill.{Read, Reads}
+use Rattle.fill.specs.Inner.{Read, Reads}
 
 -- ---- what was read was read in steps
 
@@ -49,7 +50,8 @@ module _ (s : List Bool) (at w : ℕ) (h : 1 ≤ w) where
   there-cases : (t : Bool) → leb (at + w) (length s) ≡ t → {v end : ℕ} → readAt (number w) s at ≡ got v end → at + w ≤ length s
   there-cases true e r = leb-true (at + w) (length s) e
   there-cases false e r =
-      let x : refused 2 at ≡ readAt (number w) s at = sym (readAt-number w s at h ∙ ap (taken at) (element-short s at w (leb-false (at + w) (length s) e))) in
+      let x : refused 2 at ≡ readAt (number w) s at =
+      sym (readAt-number w s at h ∙ ap (taken at) (element-short s at w (leb-false (at + w) (length s) e))) in
       never cc
 
   pub number-there : {v end : ℕ} → readAt (number w) s at ≡ got v end → at + w ≤ length s
@@ -59,13 +61,30 @@ pub number-small : {s : List Bool} {at : ℕ} (w : ℕ) {v end : ℕ} → Read (
 unfolding number
 number-small {s} {at} w {v} {end} r = narrow w v (readAt-legal (number w) s at v end (r .same) .0 .faultless)
 
+-- where a number ends
+pub number-end : (s : List Bool) (at w : ℕ) {v end : ℕ} → readAt (number w) s at ≡ got v end → end ≡ at + w
+unfolding number
+number-end s at w {v} {end} e = readAt-legal (number w) s at v end e .1 ∙ ap (λ (x : ℕ). at + x) (length-bitsOf w v)
+
 module _ (s : List ℕ) (at : ℕ) where
   -- the number in the front of a window
-  pub number-front : (w : ℕ) → 1 ≤ w → w ≤ 57 → at + w ≤ length (bits s) → readAt (number w) (bits s) at ≡ got (windowAt s at / 2 ^ (57 - w)) (at + w)
+  pub number-front : (w : ℕ) → 1 ≤ w → w ≤ 57 → at + w ≤ length (bits s)
+      → readAt (number w) (bits s) at ≡ got (windowAt s at / 2 ^ (57 - w)) (at + w)
   number-front w l h k =
       readAt-number w (bits s) at l
       ∙ ap (taken at) (element-there (bits s) at w k)
       ∙ ap {B = Found ℕ} (λ (x : ℕ). got x (at + w)) (sym (window-front s at w h (omega (arith, length-bits s))))
+
+  pub front-read : (w : ℕ) → 1 ≤ w → w ≤ 57 → {v : ℕ} → v ≡ windowAt s at → Reads (number w) (bits s) at
+      → Read (number w) (bits s) at (v / 2 ^ (57 - w)) (at + w)
+  front-read w l h e r = record {
+    same =
+        number-front w l h (number-there (bits s) at w l (r .read .same))
+        ∙ ap {B = Found ℕ} (λ (x : ℕ). got (x / 2 ^ (57 - w)) (at + w)) (sym e);
+  }
+
+  pub small-window : {v : ℕ} → v ≡ windowAt s at → v < 2 ^ 57
+  small-window e = subst (λ (x : ℕ). x < 2 ^ 57) (sym e) (window-lt s at)
 
   -- a PDU has at most 4,096 bits
   pub number-fits : (w : ℕ) → 1 ≤ w → length s ≤ 512 → Reads (number w) (bits s) at → at + w ≤ 4096

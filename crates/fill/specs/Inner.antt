@@ -1,0 +1,57 @@
+-- What storing a part of a PDU that is known to be legal needs, and what it leaves among the lent words.
+use mathlib.Core.Path.{_≡_}
+use mathlib.Core.Bool.{Bool}
+use mathlib.Core.List.{List, [], _∷_, _++_}
+use Prim.Native.Nat.{ℕ, _+_, _-_, _*_, _/_, _%_, _^_, _≤_}
+use lib.ListN.{length}
+use Rattle.bits.specs.Bits.{bits}
+use Rattle.bits.proofs.Table.{values}
+use Rattle.codec.specs.Codec.{Codec}
+use Rattle.codec.specs.Reading.{got, readAt}
+use Rattle.grammar.specs.Grammar.{Rest}
+use Rattle.words.specs.Inner.{Put}
+use Rattle.words.specs.RecordWords.{servicesWords, listsWords}
+
+-- a number as one word
+abbrev pub one : ℕ → List ℕ
+one x = x ∷ []
+
+-- what follows the affected users, as words
+abbrev pub restWords : Rest → List ℕ
+restWords (asked, (result, (delivery, (services, lists)))) = asked ∷ result ∷ delivery ∷ servicesWords services ++ listsWords lists
+
+-- the part c at a place is the value v, up to `end`
+pub record Read {A : Type 0} (c : Codec A) (s : List Bool) (at : ℕ) (v : A) (end : ℕ) : Type 0 where
+  pub same : readAt c s at ≡ got v end
+
+-- the part c is read at a place: some value, up to some place
+pub record Reads {A : Type 0} (c : Codec A) (s : List Bool) (at : ℕ) : Type 0 where
+  pub value : A
+  pub end : ℕ
+  pub read : Read c s at value end
+
+-- c can be stored: the PDU has at most 512 bytes, there are n words from `to` on, and c is read at a place
+pub record Fillable {A : Type 0} (c : Codec A) (s : List ℕ) (at : ℕ) (words : List ℕ) (to n : ℕ) : Type 0 where
+  pub few : length s ≤ 512
+  pub room : to + n ≤ length words
+  pub reads : Reads c (bits s) at
+
+-- c reads a value from `at` to `end`; from `to` on the words have the n words of that value, all others are as they were
+pub record Fills {A : Type 0} (c : Codec A) (f : A → List ℕ) (n : ℕ) (s : List Bool) (at : ℕ) (words : List ℕ) (to : ℕ)
+    (words′ : List ℕ) (end : ℕ) : Type 0 where
+  pub value : A
+  pub read : Read c s at value end
+  pub put : Put words to (f value) n words′ (to + n)
+
+-- ---- several numbers from one window
+
+-- the `used` bits after the first `skip` of a window's 57, and zeros after them: `whole` bits, below those that were skipped
+unfoldable pub heldIn : ℕ → ℕ → ℕ → ℕ → ℕ
+heldIn window skip whole used = window / 2 ^ (57 - skip - used) * 2 ^ (whole - used)
+
+-- the twelve numbers of four bits in 48, and the seven of three bits in 21
+unfoldable pub twelveIn : ℕ → List ℕ
+twelveIn run = values (λ i. run / 2 ^ (44 - 4 * i) % 16) 0 12
+
+unfoldable pub sevenIn : ℕ → List ℕ
+sevenIn run = values (λ i. run / 2 ^ (18 - 3 * i) % 8) 0 7
