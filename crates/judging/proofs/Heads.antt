@@ -21,8 +21,7 @@ use Rattle.grammar.specs.declared.record.Identity.{Identity}
 use Rattle.grammar.specs.declared.record.Record.{Record}
 use Rattle.grammar.specs.declared.site.ListKind.the-variants as of
 use Rattle.grammar.proofs.Steps.{identities-at}
-use Rattle.reader.specs.Inner.{recordAt}
-use Rattle.reader.proofs.Records.{pdu-at}
+use Rattle.judging.proofs.Records.{recordAt, pdu-at}
 use Rattle.judging.specs.Inner.{walked, walk, Inside, partAfter, held}
 use Rattle.judging.specs.Judge.{mayHold, userOf, judgedIs}
 use Rattle.judging.specs.declared.Judged.the-variants.{Part, Other}

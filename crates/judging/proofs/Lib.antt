@@ -1,3 +1,5 @@
+pub mod Answers
+pub mod Records
 pub mod Walks
 pub mod Windows
 pub mod Elements

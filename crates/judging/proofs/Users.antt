@@ -20,8 +20,8 @@ use Rattle.grammar.specs.declared.record.Identity.{Identity}
 use Rattle.grammar.specs.declared.record.Identities.{Identities}
 use Rattle.grammar.specs.declared.record.Record.{Record}
 use Rattle.grammar.proofs.Steps.{noIdentity-at}
-use Rattle.reader.specs.Inner.{recordAt}
-use Rattle.reader.proofs.Answers.{not-framed, refused-inside, bits-left, accepted-whole}
+use Rattle.judging.proofs.Records.{recordAt}
+use Rattle.judging.proofs.Answers.{not-framed, refused-inside, bits-left, accepted-whole}
 use Rattle.judging.specs.Inner.{walked, partAfter, held}
 use Rattle.judging.specs.Judge.{mayHold, userOf, judgedIs}
 use Rattle.judging.specs.declared.Judged.{Judged}

@@ -1,0 +1,240 @@
+// The exact walk, part by part: each function goes on from where reading stands, and gives the place after its part,
+// or the refusal number and place of the element at fault.
+use bits::BitCount;
+use bits::Cursor;
+use codec::NumberRead;
+use codec::Reached;
+use grammar::record::Identity;
+use grammar::site;
+use grammar::site::ListKind;
+ghost use mathlib.Core.Path.{_≡_};
+ghost use Prim.Native.Nat.{_≤_};
+ghost use Rattle.bits.specs.Frame.{bitsIn};
+ghost use Rattle.codec.specs.Parts.{element};
+ghost use Rattle.codec.specs.Places.{places};
+ghost use Rattle.codec.specs.Reading.{resume, readAt};
+ghost use Rattle.codec.proofs.Onward.{placed};
+ghost use Rattle.grammar.specs.SiteSheet.{digitRefusal, serviceRefusal};
+ghost use Rattle.grammar.specs.Grammar.{identity, noIdentity, identities, external, externals, services, interrogate, interrogateAck, partOf};
+ghost use Rattle.walk.specs.Inner.{pass, steps, range, resultFrom, resultIn};
+
+// An identity, and where reading then stands; it says nothing beside a refusal.
+pub struct IdentityRead {
+    pub reached: Reached,
+    pub value: Identity,
+}
+
+fn identity_of(s: &[u8], n: BitCount, start: Reached) -> IdentityRead
+    ensures { λ r. ⌜ resume start (readAt identity (bitsIn (n .0) (now (s .entry)))) ≡ placed (r .reached) (r .value) ⌝ }
+{
+    let ssi = codec::number(s, n, start, 24);
+    let after_ssi = ssi.reached;
+    let present = codec::number(s, n, after_ssi, 1);
+    let after_present = present.reached;
+    if present.value == 1 {
+        let extension = codec::number(s, n, after_present, 24);
+        let end = extension.reached;
+        return IdentityRead {
+            reached: end,
+            value: Identity {
+                ssi: ssi.value,
+                present: 1,
+                extension: extension.value,
+            },
+        };
+    }
+    IdentityRead {
+        reached: after_present,
+        value: Identity {
+            ssi: ssi.value,
+            present: present.value,
+            extension: 0,
+        },
+    }
+}
+
+// So many single entries.
+fn pass_entries(s: &[u8], n: BitCount, start: Reached, count: u32) -> Reached
+    ensures { λ r. ⌜ r ≡ steps (pass identity (bitsIn (n .0) (now (s .entry)))) count start ⌝ }
+{
+    let mut at = start;
+    let mut left = count;
+    while 0 < left {
+        let entry = identity_of(s, n, at);
+        at = entry.reached;
+        left -= 1;
+    }
+    at
+}
+
+// The two ends of a range; 4, at the second, if they disagree or are reversed.
+fn pass_range(s: &[u8], n: BitCount, start: Reached) -> Reached
+    ensures { λ r. ⌜ r ≡ pass range (bitsIn (n .0) (now (s .entry))) start ⌝ }
+{
+    let first = identity_of(s, n, start);
+    let second = first.reached;
+    let last = identity_of(s, n, second);
+    let end = last.reached;
+    let a = first.value;
+    let b = last.value;
+    let both = NumberRead {
+        reached: end,
+        value: 0,
+    };
+    let ends = codec::tested(second, both, site::ends_refusal(a, b));
+    ends.reached
+}
+
+// A range type and its identities, by the kind of list.
+fn pass_identities(s: &[u8], n: BitCount, start: Reached, list: ListKind) -> Reached
+    ensures { λ r. ⌜ r ≡ pass (identities list) (bitsIn (n .0) (now (s .entry))) start ⌝ }
+{
+    let read = codec::number(s, n, start, 4);
+    let code = codec::tested(start, read, site::range_refusal(list, read.value));
+    let after = code.reached;
+    if code.value == 9 {
+        return pass_range(s, n, after);
+    }
+    let row = site::row_of(code.value);
+    pass_entries(s, n, after, row.entries)
+}
+
+fn service_list(s: &[u8], n: BitCount, start: Reached, count: u32) -> Reached
+    ensures { λ r. ⌜ r ≡ steps (pass (element 3 serviceRefusal) (bitsIn (n .0) (now (s .entry)))) count start ⌝ }
+{
+    let mut at = start;
+    let mut left = count;
+    while 0 < left {
+        let read = codec::number(s, n, at, 3);
+        let service = codec::tested(at, read, site::service_refusal(read.value));
+        at = service.reached;
+        left -= 1;
+    }
+    at
+}
+
+// The number of services and the services.
+fn pass_services(s: &[u8], n: BitCount, start: Reached) -> Reached
+    ensures { λ r. ⌜ r ≡ pass services (bitsIn (n .0) (now (s .entry))) start ⌝ }
+{
+    let read = codec::number(s, n, start, 3);
+    let count = codec::tested(start, read, site::between_refusal(1, 7, read.value));
+    let after = count.reached;
+    service_list(s, n, after, count.value)
+}
+
+fn digit_list(s: &[u8], n: BitCount, start: Reached, count: u32) -> Reached
+    ensures { λ r. ⌜ r ≡ steps (pass (element 4 digitRefusal) (bitsIn (n .0) (now (s .entry)))) count start ⌝ }
+{
+    let mut at = start;
+    let mut left = count;
+    while 0 < left {
+        let read = codec::number(s, n, at, 4);
+        let digit = codec::tested(at, read, site::digit_refusal(read.value));
+        at = digit.reached;
+        left -= 1;
+    }
+    at
+}
+
+// An external number: its length and its digits.
+fn pass_external(s: &[u8], n: BitCount, start: Reached) -> Reached
+    ensures { λ r. ⌜ r ≡ pass external (bitsIn (n .0) (now (s .entry))) start ⌝ }
+{
+    let read = codec::number(s, n, start, 5);
+    let length = codec::tested(start, read, site::between_refusal(1, 24, read.value));
+    let after = length.reached;
+    digit_list(s, n, after, length.value)
+}
+
+fn number_list(s: &[u8], n: BitCount, start: Reached, count: u32) -> Reached
+    ensures { λ r. ⌜ r ≡ steps (pass external (bitsIn (n .0) (now (s .entry)))) count start ⌝ }
+{
+    let mut at = start;
+    let mut left = count;
+    while 0 < left {
+        at = pass_external(s, n, at);
+        left -= 1;
+    }
+    at
+}
+
+// A range type and its external numbers.
+fn pass_externals(s: &[u8], n: BitCount, start: Reached) -> Reached
+    ensures { λ r. ⌜ r ≡ pass externals (bitsIn (n .0) (now (s .entry))) start ⌝ }
+{
+    let read = codec::number(s, n, start, 4);
+    let code = codec::tested(
+        start,
+        read,
+        site::range_refusal(ListKind::Numbers, read.value),
+    );
+    let after = code.reached;
+    let row = site::row_of(code.value);
+    number_list(s, n, after, row.entries)
+}
+
+// The lists that an interrogation result provides.
+fn pass_part(s: &[u8], n: BitCount, start: Reached, result: u32) -> Reached
+    ensures { λ r. ⌜ r ≡ pass (partOf result) (bitsIn (n .0) (now (s .entry))) start ⌝ }
+{
+    if result == 1 {
+        let groups = pass_identities(s, n, start, ListKind::Identities);
+        let restricted = pass_identities(s, n, groups, ListKind::Identities);
+        return pass_identities(s, n, restricted, ListKind::Identities);
+    }
+    if result == 2 {
+        let groups = pass_identities(s, n, start, ListKind::Identities);
+        let numbers = pass_externals(s, n, groups);
+        return pass_externals(s, n, numbers);
+    }
+    start
+}
+
+// The whole of a PDU, and its interrogation result, 0 for an INTERROGATE.
+pub(crate) fn pass_pdu(s: &[u8], n: BitCount) -> NumberRead
+    ensures { λ r. ⌜ resultIn (bitsIn (n .0) (now (s .entry))) ≡ placed (r .reached) (r .value) ⌝ }
+{
+    let start = Reached::At(Cursor { at: 0 });
+    let ss_read = codec::number(s, n, start, 6);
+    let ss_type = codec::tested(start, ss_read, site::ss_refusal(ss_read.value));
+    let after_ss = ss_type.reached;
+    let kind_read = codec::number(s, n, after_ss, 5);
+    let kind = codec::tested(after_ss, kind_read, site::kind_refusal(kind_read.value));
+    let after_kind = kind.reached;
+    let users = pass_identities(s, n, after_kind, ListKind::Users);
+    if kind.value == 11 {
+        return pass_interrogate(s, n, users);
+    }
+    pass_interrogate_ack(s, n, users)
+}
+
+// What follows the affected users in an INTERROGATE (table 16).
+fn pass_interrogate(s: &[u8], n: BitCount, start: Reached) -> NumberRead
+    ensures { λ r. ⌜ resultFrom interrogate (bitsIn (n .0) (now (s .entry))) start ≡ placed (r .reached) (r .value) ⌝ }
+{
+    let read = codec::number(s, n, start, 2);
+    let asked = codec::tested(start, read, site::between_refusal(1, 3, read.value));
+    let end = asked.reached;
+    NumberRead {
+        reached: end,
+        value: 0,
+    }
+}
+
+// What follows the affected users in an INTERROGATE ACK (table 17).
+fn pass_interrogate_ack(s: &[u8], n: BitCount, start: Reached) -> NumberRead
+    ensures { λ r. ⌜ resultFrom interrogateAck (bitsIn (n .0) (now (s .entry))) start ≡ placed (r .reached) (r .value) ⌝ }
+{
+    let read = codec::number(s, n, start, 3);
+    let result = codec::tested(start, read, site::result_refusal(read.value));
+    let after_result = result.reached;
+    let delivery = codec::number(s, n, after_result, 2);
+    let after_delivery = delivery.reached;
+    let lists = pass_services(s, n, after_delivery);
+    let end = pass_part(s, n, lists, result.value);
+    NumberRead {
+        reached: end,
+        value: result.value,
+    }
+}
