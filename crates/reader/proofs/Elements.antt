@@ -17,9 +17,9 @@ use Rattle.bits.proofs.Numbers.{length-bitsOf}
 use Rattle.bits.proofs.Elements.{element-there, element-short}
 use Rattle.bits.proofs.Windows.{window-front, window-lt}
 use Rattle.codec.specs.Codec.{Codec}
-use Rattle.codec.specs.Parts.{number, narrow}
+use Rattle.codec.specs.Parts.{number, narrow, element}
 use Rattle.codec.specs.Reading.{Found, got, refused, andNext, unlessAt, readAt}
-use Rattle.codec.proofs.Reading.{taken, readAt-number, readAt-legal}
+use Rattle.codec.proofs.Reading.{taken, readAt-number, readAt-tested, readAt-legal}
 use Rattle.codec.proofs.Windows.{number-in-window}
 use Rattle.grammar.specs.Grammar.{identity, extension}
 use Rattle.grammar.specs.declared.record.Identity.{Identity}
@@ -60,6 +60,15 @@ module _ (s : List Bool) (at w : ℕ) (h : 1 ≤ w) where
 pub number-small : {s : List Bool} {at : ℕ} (w : ℕ) {v end : ℕ} → Read (number w) s at v end → v < 2 ^ w
 unfolding number
 number-small {s} {at} w {v} {end} r = narrow w v (readAt-legal (number w) s at v end (r .same) .0 .faultless)
+
+-- an element is a number that passed its test
+pub element-number : (w : ℕ) (refuse : ℕ → ℕ) (s : List Bool) (at : ℕ) {v end : ℕ} → readAt (element w refuse) s at ≡ got v end
+    → readAt (number w) s at ≡ got v end
+unfolding element
+element-number w refuse s at e =
+    let x = steps (readAt (number w) s at) (λ v m. unlessAt (refuse v) (at + 0) (got v m)) (sym (readAt-tested (number w) refuse (λ v. 0) s at) ∙ e)
+    in
+    x .first ∙ passed (refuse (x .value)) (at + 0) (got (x .value) (x .next)) (x .then) .1
 
 -- where a number ends
 pub number-end : (s : List Bool) (at w : ℕ) {v end : ℕ} → readAt (number w) s at ≡ got v end → end ≡ at + w

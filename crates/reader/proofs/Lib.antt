@@ -1,6 +1,6 @@
 pub mod Elements
 pub mod Entries
-pub mod Implies
+pub mod Alike
 pub mod Parts
 pub mod Runs
 pub mod Walked

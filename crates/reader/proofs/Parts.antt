@@ -1,11 +1,13 @@
 -- What a part needs where the whole is read, and what the whole has where its parts are stored: a law for each way to build a codec.
 -- Assumes nothing.
 use mathlib.Core.Path.{_≡_, refl, sym, ap, _∙_, subst}
-use mathlib.Core.Bool.{Bool, true}
+use mathlib.Core.Bool.{Bool, true, false}
 use mathlib.Core.List.{List, _++_}
 use Prim.Native.Nat.{ℕ, _+_, _≤_}
 use native.Mathlib.Nat.{add-assoc}
 use native.Mathlib.Omega.{arith}
+use borrow.Author.Tests.{leb-true, leb-false}
+use lib.Dec.{leb}
 use lib.ListN.{length, replicate}
 use Rattle.codec.specs.Codec.{Codec}
 use Rattle.codec.specs.Parts.{number, absent, numberFault, element, seq, tested, shaped, mark, only, first-none}
@@ -13,16 +15,18 @@ use Rattle.codec.specs.Places.{places}
 use Rattle.codec.specs.Reading.{got, andNext, unlessAt, readAt}
 use Rattle.codec.proofs.Reading.{readAt-seq, readAt-tested, readAt-shaped, readAt-absent, readAt-legal, mark-at}
 use Rattle.codec.proofs.Filling.{places-rest}
+use Rattle.grammar.specs.SiteSheet.{rangeRefusal}
 use Rattle.grammar.specs.Grammar.{noIdentity, zeroIdentity, noIdentities, noExternal, noExternals, noServices, noPart}
 use Rattle.grammar.specs.Zero.{zeroIdentities, zeroNumber, zeroNumbers, zeroServices, zeroLists}
 use Rattle.grammar.specs.declared.record.Services.{Services}
 use Rattle.grammar.specs.declared.record.Lists.{Lists}
+use Rattle.grammar.specs.declared.site.ListKind.{ListKind}
+use Rattle.grammar.proofs.Codes.{above-nine}
 use Rattle.grammar.proofs.Steps.{noIdentity-at, noExternal-at, noServices-at, noPart-at}
 use Rattle.words.specs.Inner.{Put}
 use Rattle.words.proofs.Putting as words
 use Rattle.reader.specs.Inner.{one, Read, Reads, Fillable, Fills}
-use Rattle.reader.proofs.Elements.{steps, passed, number-end}
-use Rattle.reader.proofs.Implies.{as-number}
+use Rattle.reader.proofs.Elements.{steps, passed, element-number, number-end}
 use Rattle.reader.proofs.Entries.{put-as}
 
 -- ---- one part after another
@@ -128,6 +132,14 @@ pub fill-list : {c : Codec (List ℕ)} {s : List Bool} {at end to n : ℕ} {l wo
     → Put words to l n words′ (to + n) → Fills c (λ (x : List ℕ). x) n s at words to words′ end
 fill-list {l} r p = record { value = l; read = r; put = p }
 
+-- a legal range type is at most 9
+pub legal-code : (l : ListKind) (code : ℕ) → rangeRefusal l code ≡ 0 → code ≤ 9
+legal-code l code e = go (leb code 9) refl
+  where
+    go : (t : Bool) → leb code 9 ≡ t → code ≤ 9
+    go true t = leb-true code 9 t
+    go false t = absurd (omega (arith, e, above-nine l code (leb-false code 9 t)))
+
 -- ---- how many places are used, by an equation
 
 module _ {A : Type 0} (c z : Codec A) (m : ℕ) {n k : ℕ} (e : n ≡ k) {s : List Bool} {at : ℕ} where
@@ -174,8 +186,7 @@ module _ {A : Type 0} (w v : ℕ) (c : Codec A) {s : List Bool} {at : ℕ} (r : 
   mark-read : readAt (mark w v c) s at ≡ readAt c s (at + w)
   mark-read =
       let x = steps (readAt (element w (only v)) s at) (λ n m. readAt c s m) (sym (mark-at w v c s at) ∙ r .read .same) in
-      let e : readAt (number w) s at ≡ got (x .value) (x .next) = as-number s w (only v) .also at (x .value) (x .next) (x .first) in
-      mark-at w v c s at ∙ rw (x .first) (ap (readAt c s) (number-end s at w e))
+      mark-at w v c s at ∙ rw (x .first) (ap (readAt c s) (number-end s at w (element-number w (only v) s at (x .first))))
 
   pub reads-mark : Reads c s (at + w)
   reads-mark = record { value = r .value; end = r .end; read = record { same = sym mark-read ∙ r .read .same } }

@@ -106,9 +106,8 @@ pub found-back : (s : List ℕ) (n : ℕ) → givenRecord (readWords s n (replic
 unfolding readIs readWords
 found-back s n = go (framed s n) (wholeParse pdu (bitsIn n s)) refl
   where
-    go : (t : Bool) (o : Outcome Record) → wholeParse pdu (bitsIn n s) ≡ o
-        → givenRecord (ifAccepted (pick t (answered o) (refusing 1) .answer) (recordWords (pick t (answered o) (refusing 1) .found)) (replicate 514 0))
-        .found ≡ pick t (answered o) (refusing 1) .found
+    go : (t : Bool) (o : Outcome Record) → wholeParse pdu (bitsIn n s) ≡ o → let q = pick t (answered o) (refusing 1) in
+        givenRecord (ifAccepted (q .answer) (recordWords (q .found)) (replicate 514 0)) .found ≡ q .found
     go true (ok r at left) e = given-back r (whole-sound pdu (bitsIn n s) r at left e .0)
     go true (no k p) e = given-zeros
     go false o e = given-zeros

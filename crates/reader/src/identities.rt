@@ -1,10 +1,10 @@
 // Identities: one, the entries of a range type, and a range type with its entries.
+use crate::stores::entries_of;
 use crate::stores::number_at;
 use crate::stores::store;
 use crate::stores::three_words;
 use crate::stores::zero_words;
 use bits::Cursor;
-use grammar::site::row_of;
 ghost use Prim.Native.Nat.{_≤_};
 ghost use Rattle.bits.specs.Bits.{bits};
 ghost use Rattle.codec.specs.Places.{places};
@@ -53,13 +53,7 @@ pub(crate) fn fill_identities(s: &[u8], c: Cursor, words: &mut [u32], to: usize)
 {
     let at = c.at;
     let code = number_at(s, at, 4);
-    let row = row_of(code);
+    let count = entries_of(code);
     store(words, to, code);
-    fill_entries(
-        s,
-        Cursor { at: at + 4 },
-        words,
-        to + 1,
-        row.entries as usize,
-    )
+    fill_entries(s, Cursor { at: at + 4 }, words, to + 1, count)
 }

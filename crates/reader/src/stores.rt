@@ -5,6 +5,7 @@ ghost use Prim.Native.Nat.{_+_, _^_, _≤_, _<_};
 ghost use lib.ListN.{length, replicate};
 ghost use Rattle.bits.specs.Bits.{bits};
 ghost use Rattle.codec.specs.Parts.{number};
+ghost use Rattle.grammar.specs.SiteSheet.{entriesOf};
 ghost use Rattle.words.specs.Inner.{Put};
 ghost use Rattle.reader.specs.Inner.{one, Read, Reads, heldIn};
 
@@ -14,6 +15,17 @@ pub(crate) fn number_at(s: &[u8], at: usize, width: usize) -> u32
     ensures { λ r. ⌜ Read (number width) (bits (now (s .entry))) at r (at + width) ⌝ }
 {
     (bits::window(s, at) >> (57 - width)) as u32
+}
+
+// The entries of a legal range type: the two ends of a range, or as many as its number.
+pub(crate) fn entries_of(code: u32) -> usize
+    requires { ⌜ code ≤ 9 ⌝ }
+    ensures { λ r. ⌜ r ≡ entriesOf code ⌝ }
+{
+    if code == 9 {
+        return 2;
+    }
+    code as usize
 }
 
 // The `used` bits after the first `skip` of a window, and zeros after them: `whole` bits, below those that were skipped.

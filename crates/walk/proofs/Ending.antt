@@ -3,6 +3,8 @@ use mathlib.Core.Path.{_≡_, refl, sym, ap, ap₂, _∙_}
 use mathlib.Core.Bool.{Bool, true, false}
 use mathlib.Core.List.{List}
 use Prim.Native.Nat.{ℕ, _≤_, _<_}
+use native.Mathlib.Omega.{arith}
+use borrow.Author.Tests.{le-ltb}
 use lib.ListN.{length}
 use lib.Dec.{ltb}
 use Rattle.bits.specs.Bits.{pick}
@@ -65,3 +67,8 @@ module _ (s : List ℕ) (n : ℕ) (f : framed s n ≡ true) where
       go (got r at) h (Refused k p) e = never cc
       go (refused k p) h (At c) e = never cc
       go (refused k p) h (Refused j q) e = let x : k ≡ j = cc in let y : p ≡ q = cc in rw (x, y)
+
+  -- a PDU whose elements end where it ends
+  pub accepted : {result end : ℕ} → resultIn (bitsIn n s) ≡ got result end → end ≡ n → walkIs s n ≡ Accepted (headIn s result)
+  unfolding endedIs
+  accepted {result} {end} e h = ending (At (record { at = end })) result e ∙ rw (le-ltb end n (omega arith))

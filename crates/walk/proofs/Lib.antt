@@ -4,3 +4,6 @@ pub mod Results
 pub mod Numbers
 pub mod Heads
 pub mod Ending
+pub mod Rows
+pub mod Aheads
+pub mod Sights

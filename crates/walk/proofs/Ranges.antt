@@ -36,7 +36,7 @@ module _ (l : List Bool) where
       readAt-tested (places identity noIdentity 8 2) (rangeEnds 9) secondEnd l at ∙ simp (pair, andNext-assoc)
 
   -- the rule of the ends refuses at the second
-  range-by-place : (at : ℕ) → readAt range l at ≡ andNext (readAt identity l at) (λ a p. andNext (readAt identity l p) (λ b q.
+  pub range-by-place : (at : ℕ) → readAt range l at ≡ andNext (readAt identity l at) (λ a p. andNext (readAt identity l p) (λ b q.
       unlessAt (endsRefusal a b) p (got (a ∷ b ∷ replicate 6 zeroIdentity) q)))
   range-by-place at = range-at at ∙ go (readAt identity l at) refl
     where

@@ -1,9 +1,12 @@
 -- What the walk's own functions say: where a part of a PDU leaves reading, and the answer where the last part ends.
-use mathlib.Core.Bool.{Bool}
+use mathlib.Core.Path.{_≡_}
+use mathlib.Core.Bool.{Bool, true, _&&_}
 use mathlib.Core.List.{List}
-use Prim.Native.Nat.{ℕ, zero, suc, _/_, _%_, _^_}
+use Prim.Native.Nat.{ℕ, zero, suc, _+_, _/_, _%_, _^_, _≤_}
+use lib.ListN.{length}
 use lib.Dec.{ltb, eqb}
 use Rattle.bits.specs.Bits.{pick}
+use Rattle.bits.specs.Frame.{bitsIn}
 use Rattle.bits.specs.Element.{windowAt}
 use Rattle.codec.specs.Codec.{Codec}
 use Rattle.codec.specs.Parts.{tested}
@@ -11,6 +14,7 @@ use Rattle.codec.specs.Places.{places}
 use Rattle.codec.specs.Reading.{Found, got, andNext, readAt, resume, reachedOf}
 use Rattle.codec.specs.declared.Reached.{Reached}
 use Rattle.codec.specs.declared.Reached.the-variants as reached
+use Rattle.grammar.specs.SiteSheet.{entriesOf}
 use Rattle.grammar.specs.Grammar.{identity, noIdentity, rangeEnds, secondEnd, Rest, pdu}
 use Rattle.grammar.specs.declared.record.Identity.{Identity}
 use Rattle.walk.specs.Walk.{refusing}
@@ -27,6 +31,10 @@ pass c l start = reachedOf (resume start (readAt c l))
 unfoldable pub steps : (Reached → Reached) → ℕ → Reached → Reached
 steps f zero r = r
 steps f (suc k) r = steps f k (f r)
+
+-- the identities that a range type says
+unfoldable pub coded : ℕ → Codec (List Identity)
+coded code = tested (places identity noIdentity 8 (entriesOf code)) (rangeEnds code) secondEnd
 
 -- the two ends of a range, under their rule
 unfoldable pub range : Codec (List Identity)
@@ -55,3 +63,21 @@ resultFrom c l start = resume start (λ at. andNext (readAt c l at) (λ rest p. 
 -- the interrogation result of the PDU l
 unfoldable pub resultIn : List Bool → Found ℕ
 resultIn l = andNext (readAt pdu l 0) (λ r p. got (r .result) p)
+
+-- ---- ahead of the end: bits after it are zeros, and whatever is found counts only if it lies inside the PDU
+
+-- k elements of w bits in one number, the last of them first, pass if none is refused
+unfoldable pub passing : (ℕ → ℕ) → ℕ → ℕ → ℕ → Bool
+passing refuse w zero v = true
+passing refuse w (suc k) v = eqb (refuse (v % 2 ^ w)) 0 && passing refuse w k (v / 2 ^ w)
+
+-- a part of a PDU in the bytes s that begins at a place ends at another, at most so many bits on, if that is inside the PDU
+pub record Ends (part : List Bool → Reached → Reached) (s : List ℕ) (at most end : ℕ) : Type 0 where
+  pub after : at ≤ end
+  pub near : end ≤ at + most
+  pub there : (n : ℕ) → n ≤ 4096 → end ≤ length (bitsIn n s) → part (bitsIn n s) (reached.At (record { at = at })) ≡ reached.At (record { at = end })
+
+-- the same where the interrogation result is found
+pub record Finds (found : List Bool → Found ℕ) (s : List ℕ) (at result end : ℕ) : Type 0 where
+  pub after : at ≤ end
+  pub there : (n : ℕ) → n ≤ 4096 → end ≤ length (bitsIn n s) → found (bitsIn n s) ≡ got result end

@@ -5,9 +5,12 @@ use codec::Reached;
 use grammar::record::Identity;
 ghost use mathlib.Core.Path.{_≡_};
 ghost use Prim.Native.Nat.{_<_, _^_};
+ghost use mathlib.Core.Bool.{true};
+ghost use Rattle.bits.specs.Frame.{framed};
 ghost use Rattle.walk.specs.Walk.{walkIs};
 ghost use Rattle.walk.specs.Inner.{identityIn, headIn, endedIs};
 
+mod ahead;
 mod exact;
 
 // Where in a PDU a refusal stands.
@@ -44,6 +47,18 @@ pub fn walk(s: &[u8], n: BitCount) -> Walked
             place: BitPlace::Nowhere,
         });
     }
+    let seen = ahead::pdu_ahead(s);
+    if seen.end == n.0 {
+        return Walked::Accepted(head_in(s, seen.result));
+    }
+    exactly(s, n)
+}
+
+// The exact walk's answer.
+fn exactly(s: &[u8], n: BitCount) -> Walked
+    requires { ⌜ framed (now s) (n .0) ≡ true ⌝ }
+    ensures { λ r. ⌜ r ≡ walkIs (now (s .entry)) (n .0) ⌝ }
+{
     let read = exact::pass_pdu(s, n);
     let end = read.reached;
     ended(s, n, end, read.value)

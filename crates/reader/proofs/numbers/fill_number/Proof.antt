@@ -16,7 +16,6 @@ use Rattle.words.proofs.Putting.{then}
 use Rattle.reader.specs.Inner.{Read, Reads}
 use Rattle.reader.proofs.Elements.{number-fits, front-read, small-window}
 use Rattle.reader.proofs.Entries.{put-as}
-use Rattle.reader.proofs.Implies.{reads-as, fill-as, as-numbers}
 use Rattle.reader.proofs.Parts.{head-reads, head-passed, rest-reads, headed-fill, fill-list}
 use Rattle.reader.proofs.Runs.{digits-read}
 use Rattle.reader.proofs.numbers.fill_number.Statement.{statement}
@@ -87,12 +86,12 @@ returns c =
     let l = h .before in
     let w = l .before in
     let b = w .before .before .before in
-    let digits = digits-read (pdu w) (at w) (count w) (l .least .result) (l .least .ensures) (few w)
-    (reads-as (as-numbers _ 4 digitRefusal 24 _) (rest w)) (w .window .ensures) (w′ .window2 .ensures) (h .held .ensures) (h′ .held2 .ensures) in
+    let digits = digits-read (pdu w) (at w) (count w) (l .least .result) (l .least .ensures) (few w) (rest w) (w .window .ensures)
+    (w′ .window2 .ensures) (h .held .ensures) (h′ .held2 .ensures) in
     let ends : b .args .to + 1 + 12 + 12 ≡ b .args .to + 1 + 24 = omega arith in
     let put = put-as (then (omega (arith, b .pre .room, o .store .kept .0)) (p .put-twelve .ensures) (q .put-twelve2 .ensures)) refl refl ends in
     headed-fill _ _ _ _ _ _ _ (b .pre .reads) (λ l. refl) (omega (arith, b .pre .room)) (count-read w) (o .store .ensures)
-    (fill-as (as-numbers _ 4 digitRefusal 24 _) (rest w) (fill-list digits put))
+    (fill-list digits put)
 
 pub fill-number-spec : {M : Type 1} → statement M
 fill-number-spec =

@@ -10,7 +10,7 @@ use Rattle.grammar.specs.Grammar.{identities, restOf, pdu}
 use Rattle.grammar.specs.declared.site.ListKind.the-variants.{Users}
 use Rattle.words.specs.RecordWords.{identitiesWords, recordWords}
 use Rattle.reader.specs.Inner.{Reads}
-use Rattle.reader.proofs.Implies.{reads-as, fill-as, as-identities}
+use Rattle.reader.proofs.Alike.{reads-alike, fill-alike}
 use Rattle.reader.proofs.Parts.{reads-first, reads-next, fill-then, head-reads, rest-reads, headed-fill, reads-mark, fill-mark}
 use Rattle.reader.proofs.record.fill_record.Statement.{statement}
 use Rattle.reader.proofs.record.fill_record.Tie as tie
@@ -32,7 +32,7 @@ fill-identities-requires c κs =
     record {
       few = b .pre .few;
       room = omega (arith, b .pre .room, o .store .kept .0);
-      reads = reads-as (as-identities _ Users) (reads-first _ _ (from-users n));
+      reads = reads-alike Users (reads-first _ _ (from-users n));
     }
 
 fill-rest-requires : tie.Need-fill-rest-requires
@@ -41,7 +41,7 @@ fill-rest-requires c κs =
     let o = u .before .before .before .before in
     let n = o .before .before in
     let b = n .before .before .before in
-    let users = fill-as (as-identities _ Users) (reads-first _ _ (from-users n)) (u .fill-identities .ensures) in
+    let users = fill-alike Users (reads-first _ _ (from-users n)) (u .fill-identities .ensures) in
     record {
       few = b .pre .few;
       room = omega (arith, b .pre .room, o .store .kept .0, u .fill-identities .kept .1 .1 .0);
@@ -56,7 +56,7 @@ returns c =
     let o = u .before .before .before .before in
     let n = o .before .before in
     let b = n .before .before .before in
-    let users = fill-as (as-identities _ Users) (reads-first _ _ (from-users n)) (u .fill-identities .ensures) in
+    let users = fill-alike Users (reads-first _ _ (from-users n)) (u .fill-identities .ensures) in
     fill-mark 6 ssType _ (b .pre .reads)
     (headed-fill _ _ _ _ _ _ _ (reads-mark 6 ssType _ (b .pre .reads)) (λ q. refl) (omega (arith, b .pre .room)) (n .number-at .ensures)
     (o .store .ensures)

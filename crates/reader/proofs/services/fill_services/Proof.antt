@@ -13,7 +13,6 @@ use Rattle.grammar.specs.Grammar.{services}
 use Rattle.words.specs.RecordWords.{servicesWords}
 use Rattle.reader.specs.Inner.{Read, Reads}
 use Rattle.reader.proofs.Elements.{number-fits, number-small, front-read, small-window}
-use Rattle.reader.proofs.Implies.{reads-as, fill-as, as-numbers}
 use Rattle.reader.proofs.Parts.{head-reads, rest-reads, headed-fill, fill-list}
 use Rattle.reader.proofs.Runs.{services-read}
 use Rattle.reader.proofs.services.fill_services.Statement.{statement}
@@ -65,10 +64,9 @@ returns c =
     let h = o .before .before in
     let w = h .before in
     let b = w .before .before .before in
-    let list = services-read (pdu w) (at w) (count w) (few w) (reads-as (as-numbers _ 3 serviceRefusal 7 _) (rest w)) (w .window .ensures) refl
-    (h .held .ensures) in
+    let list = services-read (pdu w) (at w) (count w) (few w) (rest w) (w .window .ensures) refl (h .held .ensures) in
     headed-fill _ _ _ _ _ _ _ (b .pre .reads) (λ l. refl) (omega (arith, b .pre .room)) (count-read w) (o .store .ensures)
-    (fill-as (as-numbers _ 3 serviceRefusal 7 _) (rest w) (fill-list list (p .put-seven .ensures)))
+    (fill-list list (p .put-seven .ensures))
 
 pub fill-services-spec : {M : Type 1} → statement M
 fill-services-spec =

@@ -1,0 +1,220 @@
+// The walk ahead: bits after the end read as zeros, and nothing is tested against the end on the way. Where the end that it finds is
+// the PDU's own, all was inside and no element is refused; otherwise the exact walk says why.
+use bits::DigitCount;
+use grammar::site;
+use grammar::site::ListKind;
+use grammar::site::SS_TYPE;
+ghost use mathlib.Core.Path.{_≡_};
+ghost use Prim.Native.Nat.{_+_, _≤_};
+ghost use Rattle.grammar.specs.SiteSheet.{serviceRefusal};
+ghost use Rattle.grammar.specs.Grammar.{identity, identities, external, externals, interrogate, interrogateAck, partOf};
+ghost use Rattle.grammar.specs.declared.site.ListKind.the-variants as of;
+ghost use Rattle.codec.specs.declared.Reached.the-variants as reached;
+ghost use Rattle.walk.specs.Inner.{pass, steps, range, coded, passing, resultFrom, resultIn, Ends, Finds};
+
+// So far beyond its start that no PDU has it, a part ends that is not legal.
+const BEYOND: usize = 4097;
+
+// So many single entries: of each only the present bit matters.
+fn entries_ahead(s: &[u8], start: usize, count: u32) -> usize
+    requires { ⌜ (start ≤ 1000000) × (count ≤ 8) ⌝ }
+    ensures { λ r. ⌜ Ends (λ l. steps (pass identity l) count) (now (s .entry)) start 392 r ⌝ }
+{
+    let mut at = start;
+    let mut done = 0u32;
+    while done < count {
+        at = at + 25 + 24 * bits::bit_at(s, at + 24);
+        done += 1;
+    }
+    at
+}
+
+// The two ends of a range.
+fn range_ahead(s: &[u8], start: usize) -> usize
+    requires { ⌜ start ≤ 1000000 ⌝ }
+    ensures { λ r. ⌜ Ends (pass range) (now (s .entry)) start 4097 r ⌝ }
+{
+    let first = crate::identity_in(bits::window(s, start));
+    let second = start + 25 + 24 * (first.present as usize);
+    let last = crate::identity_in(bits::window(s, second));
+    if site::ends_refusal(first, last) != 0 {
+        return start + BEYOND;
+    }
+    second + 25 + 24 * (last.present as usize)
+}
+
+// The identities that follow a range type.
+fn coded_ahead(s: &[u8], start: usize, code: u32) -> usize
+    requires { ⌜ (start ≤ 1000000) × (code ≤ 9) ⌝ }
+    ensures { λ r. ⌜ Ends (pass (coded code)) (now (s .entry)) start 4097 r ⌝ }
+{
+    if code == 9 {
+        return range_ahead(s, start);
+    }
+    entries_ahead(s, start, code)
+}
+
+// A range type and its identities.
+fn list_ahead(s: &[u8], start: usize) -> usize
+    requires { ⌜ start ≤ 900000 ⌝ }
+    ensures { λ r. ⌜ Ends (pass (identities of.Identities)) (now (s .entry)) start 4101 r ⌝ }
+{
+    let code = (bits::window(s, start) >> 53u32) as u32;
+    if site::range_refusal(ListKind::Identities, code) != 0 {
+        return start + BEYOND;
+    }
+    coded_ahead(s, start + 4, code)
+}
+
+// An external number: its length and up to 13 digits in one window, the others in the next.
+fn external_ahead(s: &[u8], start: usize) -> usize
+    requires { ⌜ start ≤ 900000 ⌝ }
+    ensures { λ r. ⌜ Ends (pass external) (now (s .entry)) start 4097 r ⌝ }
+{
+    let window = bits::window(s, start);
+    let count = (window >> 52u32) as usize;
+    if site::between_refusal(1, 24, count as u32) != 0 {
+        return start + BEYOND;
+    }
+    let size = DigitCount(count as u8).bits().0;
+    let front = window % 4503599627370496;
+    if count <= 13 {
+        if site::are_digits(front >> (52 - size)) {
+            return start + 5 + size;
+        }
+        return start + BEYOND;
+    }
+    if !site::are_digits(front) {
+        return start + BEYOND;
+    }
+    if site::are_digits(bits::window(s, start + 57) >> (109 - size)) {
+        return start + 5 + size;
+    }
+    start + BEYOND
+}
+
+// So many external numbers.
+fn numbers_ahead(s: &[u8], start: usize, count: u32) -> usize
+    requires { ⌜ (start ≤ 800000) × (count ≤ 8) ⌝ }
+    ensures { λ r. ⌜ Ends (λ l. steps (pass external l) count) (now (s .entry)) start 32776 r ⌝ }
+{
+    let mut at = start;
+    let mut done = 0u32;
+    while done < count {
+        at = external_ahead(s, at);
+        done += 1;
+    }
+    at
+}
+
+// A range type and its external numbers.
+fn externals_ahead(s: &[u8], start: usize) -> usize
+    requires { ⌜ start ≤ 700000 ⌝ }
+    ensures { λ r. ⌜ Ends (pass externals) (now (s .entry)) start 32780 r ⌝ }
+{
+    let code = (bits::window(s, start) >> 53u32) as u32;
+    if site::range_refusal(ListKind::Numbers, code) != 0 {
+        return start + BEYOND;
+    }
+    numbers_ahead(s, start + 4, code)
+}
+
+// The lists that an interrogation result provides.
+fn part_ahead(s: &[u8], start: usize, result: u32) -> usize
+    requires { ⌜ start ≤ 100000 ⌝ }
+    ensures { λ r. ⌜ Ends (pass (partOf result)) (now (s .entry)) start 69661 r ⌝ }
+{
+    if result == 1 {
+        return list_ahead(s, list_ahead(s, list_ahead(s, start)));
+    }
+    if result == 2 {
+        return externals_ahead(s, externals_ahead(s, list_ahead(s, start)));
+    }
+    start
+}
+
+// The interrogation result, and where the PDU ends if all of it is there and legal.
+pub struct Ahead {
+    pub result: u32,
+    pub end: usize,
+}
+
+// Whether seven services at once are legal: each is below 4.
+fn are_services(list: u64) -> bool
+    ensures { λ r. ⌜ r ≡ passing serviceRefusal 3 7 list ⌝ }
+{
+    list & 0x124924 == 0
+}
+
+// What follows the affected users in an INTERROGATE ACK: all up to the lists stands in one window.
+fn ack_ahead(s: &[u8], start: usize) -> Ahead
+    requires { ⌜ start ≤ 10000 ⌝ }
+    ensures { λ r. ⌜ Finds (λ l. resultFrom interrogateAck l (reached.At (record { at = start }))) (now (s .entry)) start (r .result) (r .end) ⌝ }
+{
+    let window = bits::window(s, start);
+    let result = (window >> 54u32) as u32;
+    let count = ((window >> 49u32) % 8) as usize;
+    if site::result_refusal(result) != 0 {
+        return beyond(start);
+    }
+    if site::between_refusal(1, 7, count as u32) != 0 {
+        return beyond(start);
+    }
+    if !are_services((window % 562949953421312) >> (49 - 3 * count)) {
+        return beyond(start);
+    }
+    Ahead {
+        result,
+        end: part_ahead(s, start + 8 + 3 * count, result),
+    }
+}
+
+// What follows the affected users in an INTERROGATE: the interrogation type.
+fn interrogate_ahead(s: &[u8], start: usize) -> Ahead
+    requires { ⌜ start ≤ 10000 ⌝ }
+    ensures { λ r. ⌜ Finds (λ l. resultFrom interrogate l (reached.At (record { at = start }))) (now (s .entry)) start (r .result) (r .end) ⌝ }
+{
+    let asked = (bits::window(s, start) >> 55u32) as u32;
+    if site::between_refusal(1, 3, asked) != 0 {
+        return beyond(start);
+    }
+    Ahead {
+        result: 0,
+        end: start + 2,
+    }
+}
+
+fn beyond(start: usize) -> Ahead
+    requires { ⌜ start ≤ 10000 ⌝ }
+    ensures { λ r. ⌜ r ≡ record { result = 0; end = start + 4097 } ⌝ }
+{
+    Ahead {
+        result: 0,
+        end: start + BEYOND,
+    }
+}
+
+// The first 11 bits of an INTERROGATE ACK and of an INTERROGATE: SS type and PDU type.
+const ACK: u64 = (SS_TYPE as u64) * 32 + 12;
+
+const INTERROGATE: u64 = (SS_TYPE as u64) * 32 + 11;
+
+// The whole of a PDU.
+pub(crate) fn pdu_ahead(s: &[u8]) -> Ahead
+    ensures { λ r. ⌜ Finds resultIn (now (s .entry)) 0 (r .result) (r .end) ⌝ }
+{
+    let first = bits::window(s, 0);
+    let code = ((first >> 42u32) % 16) as u32;
+    if site::range_refusal(ListKind::Users, code) != 0 {
+        return beyond(0);
+    }
+    let users = coded_ahead(s, 15, code);
+    let kind = first >> 46u32;
+    if kind == ACK {
+        return ack_ahead(s, users);
+    }
+    if kind == INTERROGATE {
+        return interrogate_ahead(s, users);
+    }
+    beyond(0)
+}
