@@ -1,4 +1,6 @@
-pub mod Records
-pub mod Readers
-pub mod Answers
-pub mod Digits
+pub mod Elements
+pub mod Entries
+pub mod Alike
+pub mod Parts
+pub mod Runs
+pub mod Walked

@@ -1,20 +1,21 @@
-// Reading the parts of a PDU, left to right. Each reader goes on from where the one before it stands and passes its refusal on;
-// beside a refusal its value is zero.
-mod elements;
+// Reading a PDU: the walk decides; only from an accepted PDU are values stored, straight from its bits into the lent words.
 mod identities;
 mod lists;
 mod numbers;
 mod record;
 mod services;
+mod stores;
 
 use bits::BitCount;
-use bits::Cursor;
-use codec::Reached;
 use grammar::record::Record;
-use grammar::zero::zero_record;
-use record::record_of;
+use record::fill_record;
+use walk::Walked;
+use words::record::RECORD_WORDS;
+use words::record::record_from;
 ghost use mathlib.Core.Path.{_≡_};
-ghost use Rattle.reader.specs.Read.{refusing, readIs};
+ghost use lib.ListN.{length};
+ghost use Rattle.reader.specs.Read.{readIs};
+ghost use Rattle.reader.specs.Words.{readWordsIs, readWords};
 
 // Whether a PDU is accepted, or the number with which it is refused.
 pub enum Answer {
@@ -28,36 +29,30 @@ pub struct Reading {
     pub found: Record,
 }
 
+// Reads the PDU of n bits in s into the words of its record: 9 for another number of words than a record's, then as `read`.
+pub fn read_words(s: &[u8], n: BitCount, words: &mut [u32]) -> Answer
+    ensures { λ r. ⌜ r ≡ readWordsIs (now (s .entry)) (n .0) (length (now (words .entry))) ⌝ }
+    ensures { λ _. ⌜ now (words .exit) ≡ readWords (now (s .entry)) (n .0) (now (words .entry)) ⌝ }
+{
+    if words.len() != RECORD_WORDS {
+        return Answer::Refused(9);
+    }
+    match walk::walk(s, n) {
+        Walked::Accepted(_) => {
+            fill_record(s, words);
+            Answer::Accepted
+        },
+        Walked::Refused(refusal) => Answer::Refused(refusal.number),
+    }
+}
+
 // Reads the PDU of n bits in s: refusal 1 first, then element by element, 5 last.
 pub fn read(s: &[u8], n: BitCount) -> Reading
     ensures { λ r. ⌜ r ≡ readIs (now (s .entry)) (n .0) ⌝ }
 {
-    if !bits::is_framed(s, n) {
-        return refused(1);
-    }
-    let read = record_of(s, n, Reached::At(Cursor { at: 0 }));
-    let end = read.reached;
-    match end {
-        Reached::Refused(number, _) => refused(number),
-        Reached::At(c) => {
-            if c.at < n.0 {
-                return refused(5);
-            }
-            let found = read.value;
-            Reading {
-                answer: Answer::Accepted,
-                found,
-            }
-        }
-    }
-}
-
-fn refused(number: u32) -> Reading
-    ensures { λ r. ⌜ r ≡ refusing number ⌝ }
-{
-    let found = zero_record();
-    Reading {
-        answer: Answer::Refused(number),
-        found,
-    }
+    let mut words = [0u32; RECORD_WORDS];
+    let answer = read_words(s, n, &mut words);
+    let spelt = record_from(&words);
+    let found = spelt.found;
+    Reading { answer, found }
 }

@@ -1,101 +1,55 @@
-// Reading the lists that an interrogation result provides.
-use crate::identities::identities_of;
-use crate::numbers::numbers_of;
-use bits::BitCount;
-use codec::Reached;
-use grammar::record::Lists;
-use grammar::site::ListKind;
-use grammar::zero::zero_identities;
-use grammar::zero::zero_lists;
-use grammar::zero::zero_numbers;
-ghost use mathlib.Core.Path.{_≡_};
-ghost use Rattle.bits.specs.Frame.{bitsIn};
-ghost use Rattle.codec.specs.Reading.{got, resume, readAt};
+// The lists that an interrogation result provides: 477 words, zero where the PDU carries none.
+use crate::identities::fill_identities;
+use crate::numbers::fill_numbers;
+use crate::stores::zero_words;
+use bits::Cursor;
+ghost use Rattle.bits.specs.Bits.{bits};
 ghost use Rattle.grammar.specs.Grammar.{identityPart, numberPart, partOf};
-ghost use Rattle.reader.specs.Inner.{listsIs};
+ghost use Rattle.words.specs.RecordWords.{listsWords};
+ghost use Rattle.reader.specs.Inner.{Fillable, Fills};
 
-pub struct ListsRead {
-    pub reached: Reached,
-    pub value: Lists,
+// Closed user groups, restricted identities, exceptions to them; zeros for the two lists of numbers.
+fn fill_identity_part(s: &[u8], c: Cursor, words: &mut [u32], to: usize) -> Cursor
+    requires { ⌜ Fillable identityPart (now s) (c .at) (now words) to 477 ⌝ }
+    ensures { λ r. ⌜ Fills identityPart listsWords 477 (bits (now (s .entry))) (c .at) (now (words .entry)) to (now (words .exit)) (r .at) ⌝ }
+{
+    let restricted_to = to + 25;
+    let exceptions_to = restricted_to + 25;
+    let numbers_to = exceptions_to + 25;
+    let restricted = fill_identities(s, c, words, to);
+    let exceptions = fill_identities(s, restricted, words, restricted_to);
+    let end = fill_identities(s, exceptions, words, exceptions_to);
+    zero_words(words, numbers_to, 402);
+    end
 }
 
-// Closed user groups, restricted identities, exceptions to them.
-fn identity_part(s: &[u8], n: BitCount, start: Reached) -> ListsRead
-    ensures { λ r. ⌜ r ≡ listsIs (resume start (readAt identityPart (bitsIn (n .0) (now (s .entry))))) ⌝ }
+// Closed user groups, restricted external numbers, exceptions to them; zeros for two lists of identities.
+fn fill_number_part(s: &[u8], c: Cursor, words: &mut [u32], to: usize) -> Cursor
+    requires { ⌜ Fillable numberPart (now s) (c .at) (now words) to 477 ⌝ }
+    ensures { λ r. ⌜ Fills numberPart listsWords 477 (bits (now (s .entry))) (c .at) (now (words .entry)) to (now (words .exit)) (r .at) ⌝ }
 {
-    let first = identities_of(s, n, start, ListKind::Identities);
-    let after_first = first.reached;
-    let second = identities_of(s, n, after_first, ListKind::Identities);
-    let after_second = second.reached;
-    let third = identities_of(s, n, after_second, ListKind::Identities);
-    let end = third.reached;
-    let groups = first.value;
-    let restricted = second.value;
-    let exceptions = third.value;
-    let none = zero_numbers();
-    kept_lists(
-        end,
-        Lists {
-            groups,
-            restricted,
-            exceptions,
-            numbers: none,
-            excepted: none,
-        },
-    )
-}
-
-// Closed user groups, restricted external numbers, exceptions to them.
-fn number_part(s: &[u8], n: BitCount, start: Reached) -> ListsRead
-    ensures { λ r. ⌜ r ≡ listsIs (resume start (readAt numberPart (bitsIn (n .0) (now (s .entry))))) ⌝ }
-{
-    let first = identities_of(s, n, start, ListKind::Identities);
-    let after_first = first.reached;
-    let second = numbers_of(s, n, after_first);
-    let after_second = second.reached;
-    let third = numbers_of(s, n, after_second);
-    let end = third.reached;
-    let groups = first.value;
-    let numbers = second.value;
-    let excepted = third.value;
-    let none = zero_identities();
-    kept_lists(
-        end,
-        Lists {
-            groups,
-            restricted: none,
-            exceptions: none,
-            numbers,
-            excepted,
-        },
-    )
+    let restricted_to = to + 25;
+    let exceptions_to = restricted_to + 25;
+    let numbers_to = exceptions_to + 25;
+    let excepted_to = numbers_to + 201;
+    let numbers = fill_identities(s, c, words, to);
+    zero_words(words, restricted_to, 25);
+    zero_words(words, exceptions_to, 25);
+    let excepted = fill_numbers(s, numbers, words, numbers_to);
+    fill_numbers(s, excepted, words, excepted_to)
 }
 
 // The lists that an interrogation result provides (table 35).
-pub(crate) fn lists_of(s: &[u8], n: BitCount, start: Reached, result: u32) -> ListsRead
-    ensures { λ r. ⌜ r ≡ listsIs (resume start (readAt (partOf result) (bitsIn (n .0) (now (s .entry))))) ⌝ }
+pub(crate) fn fill_part(s: &[u8], c: Cursor, words: &mut [u32], to: usize, result: u32) -> Cursor
+    requires { ⌜ Fillable (partOf result) (now s) (c .at) (now words) to 477 ⌝ }
+    ensures { λ r. ⌜ Fills (partOf result) listsWords 477 (bits (now (s .entry))) (c .at) (now (words .entry)) to (now (words .exit)) (r .at) ⌝ }
 {
-    match result {
-        1 => identity_part(s, n, start),
-        2 => number_part(s, n, start),
-        _ => {
-            let none = zero_lists();
-            kept_lists(start, none)
-        }
+    if result == 1 {
+        return fill_identity_part(s, c, words, to);
     }
-}
-
-fn kept_lists(end: Reached, value: Lists) -> ListsRead
-    ensures { λ r. ⌜ r ≡ listsIs (resume end (λ at. got value at)) ⌝ }
-{
-    let Reached::At(_) = end else {
-        return ListsRead {
-            reached: end,
-            value: zero_lists(),
-        };
-    };
-    ListsRead {
-        reached: end,
-        value,
+    if result == 2 {
+        return fill_number_part(s, c, words, to);
     }
+    zero_words(words, to, 477);
+    c
 }

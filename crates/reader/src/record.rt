@@ -1,121 +1,69 @@
-// Reading the whole record: what comes first in each PDU, then what its type says.
-use crate::elements::bounded;
-use crate::identities::identities_of;
-use crate::lists::lists_of;
-use crate::services::services_of;
-use bits::BitCount;
-use codec::Reached;
-use grammar::record::Identities;
-use grammar::record::Record;
-use grammar::site;
-use grammar::site::ListKind;
-use grammar::zero::zero_lists;
-use grammar::zero::zero_record;
-use grammar::zero::zero_services;
-ghost use mathlib.Core.Path.{_≡_};
-ghost use Rattle.bits.specs.Frame.{bitsIn};
-ghost use Rattle.codec.specs.Reading.{got, resume, readAt};
-ghost use Rattle.grammar.specs.Grammar.{interrogate, interrogateAck, pdu};
-ghost use Rattle.reader.specs.Inner.{recordAt, recordIs};
-
-pub struct RecordRead {
-    pub reached: Reached,
-    pub value: Record,
-}
-
-// The whole of a PDU: SS type, PDU type, affected users, and what its type says.
-pub(crate) fn record_of(s: &[u8], n: BitCount, start: Reached) -> RecordRead
-    ensures { λ r. ⌜ r ≡ recordIs (resume start (readAt pdu (bitsIn (n .0) (now (s .entry))))) ⌝ }
-{
-    let number = codec::number(s, n, start, 6);
-    let ss_type = codec::tested(start, number, site::ss_refusal(number.value));
-    let after_ss = ss_type.reached;
-    let code = codec::number(s, n, after_ss, 5);
-    let kind = codec::tested(after_ss, code, site::kind_refusal(code.value));
-    let after_kind = kind.reached;
-    let users = identities_of(s, n, after_kind, ListKind::Users);
-    let after_users = users.reached;
-    let affected = users.value;
-    if kind.value == 11 {
-        return interrogate_of(s, n, after_users, kind.value, affected);
-    }
-    interrogate_ack_of(s, n, after_users, kind.value, affected)
-}
+// The whole record: what comes first in each PDU, then what its type says; 514 words, zero where the PDU carries nothing.
+use crate::identities::fill_identities;
+use crate::lists::fill_part;
+use crate::services::fill_services;
+use crate::stores::number_at;
+use crate::stores::store;
+use crate::stores::three_words;
+use crate::stores::zero_words;
+use bits::Cursor;
+ghost use Rattle.bits.specs.Bits.{bits};
+ghost use Rattle.grammar.specs.Grammar.{interrogate, interrogateAck, restOf, pdu};
+ghost use Rattle.words.specs.RecordWords.{recordWords};
+ghost use Rattle.reader.specs.Inner.{restWords, Fillable, Fills};
 
 // What follows the affected users in an INTERROGATE (table 16).
-fn interrogate_of(
-    s: &[u8],
-    n: BitCount,
-    start: Reached,
-    kind: u32,
-    affected: Identities,
-) -> RecordRead
-    ensures { λ r. ⌜ r ≡ recordIs (resume start (recordAt interrogate (bitsIn (n .0) (now (s .entry))) kind affected)) ⌝ }
+fn fill_interrogate(s: &[u8], c: Cursor, words: &mut [u32], to: usize) -> Cursor
+    requires { ⌜ Fillable interrogate (now s) (c .at) (now words) to 488 ⌝ }
+    ensures { λ r. ⌜ Fills interrogate restWords 488 (bits (now (s .entry))) (c .at) (now (words .entry)) to (now (words .exit)) (r .at) ⌝ }
 {
-    let asked = bounded(s, n, start, 2, 1, 3);
-    let end = asked.reached;
-    let services = zero_services();
-    let lists = zero_lists();
-    kept_record(
-        end,
-        Record {
-            kind,
-            affected,
-            asked: asked.value,
-            result: 0,
-            delivery: 0,
-            services,
-            lists,
-        },
-    )
+    let at = c.at;
+    store(words, to, number_at(s, at, 2));
+    zero_words(words, to + 1, 487);
+    Cursor { at: at + 2 }
 }
 
 // What follows the affected users in an INTERROGATE ACK (table 17).
-fn interrogate_ack_of(
-    s: &[u8],
-    n: BitCount,
-    start: Reached,
-    kind: u32,
-    affected: Identities,
-) -> RecordRead
-    ensures { λ r. ⌜ r ≡ recordIs (resume start (recordAt interrogateAck (bitsIn (n .0) (now (s .entry))) kind affected)) ⌝ }
+fn fill_interrogate_ack(s: &[u8], c: Cursor, words: &mut [u32], to: usize) -> Cursor
+    requires { ⌜ Fillable interrogateAck (now s) (c .at) (now words) to 488 ⌝ }
+    ensures { λ r. ⌜ Fills interrogateAck restWords 488 (bits (now (s .entry))) (c .at) (now (words .entry)) to (now (words .exit)) (r .at) ⌝ }
 {
-    let number = codec::number(s, n, start, 3);
-    let result = codec::tested(start, number, site::result_refusal(number.value));
-    let after_result = result.reached;
-    let delivery = codec::number(s, n, after_result, 2);
-    let after_delivery = delivery.reached;
-    let provided = services_of(s, n, after_delivery);
-    let after_services = provided.reached;
-    let held = lists_of(s, n, after_services, result.value);
-    let end = held.reached;
-    let services = provided.value;
-    let lists = held.value;
-    kept_record(
-        end,
-        Record {
-            kind,
-            affected,
-            asked: 0,
-            result: result.value,
-            delivery: delivery.value,
-            services,
-            lists,
+    let at = c.at;
+    let delivery_at = at + 3;
+    let services_to = to + 3;
+    let lists_to = services_to + 8;
+    let result = number_at(s, at, 3);
+    let delivery = number_at(s, delivery_at, 2);
+    three_words(words, to, 0, result, delivery);
+    let lists = fill_services(
+        s,
+        Cursor {
+            at: delivery_at + 2,
         },
-    )
+        words,
+        services_to,
+    );
+    fill_part(s, lists, words, lists_to, result)
 }
 
-fn kept_record(end: Reached, value: Record) -> RecordRead
-    ensures { λ r. ⌜ r ≡ recordIs (resume end (λ at. got value at)) ⌝ }
+// What follows the affected users in a PDU of a type.
+fn fill_rest(s: &[u8], c: Cursor, words: &mut [u32], to: usize, kind: u32) -> Cursor
+    requires { ⌜ Fillable (restOf kind) (now s) (c .at) (now words) to 488 ⌝ }
+    ensures { λ r. ⌜ Fills (restOf kind) restWords 488 (bits (now (s .entry))) (c .at) (now (words .entry)) to (now (words .exit)) (r .at) ⌝ }
 {
-    let Reached::At(_) = end else {
-        return RecordRead {
-            reached: end,
-            value: zero_record(),
-        };
-    };
-    RecordRead {
-        reached: end,
-        value,
+    if kind == 11 {
+        return fill_interrogate(s, c, words, to);
     }
+    fill_interrogate_ack(s, c, words, to)
+}
+
+// The PDU type, the affected users, and what the type says.
+pub(crate) fn fill_record(s: &[u8], words: &mut [u32]) -> Cursor
+    requires { ⌜ Fillable pdu (now s) 0 (now words) 0 514 ⌝ }
+    ensures { λ r. ⌜ Fills pdu recordWords 514 (bits (now (s .entry))) 0 (now (words .entry)) 0 (now (words .exit)) (r .at) ⌝ }
+{
+    let kind = number_at(s, 6, 5);
+    store(words, 0, kind);
+    let rest = fill_identities(s, Cursor { at: 11 }, words, 1);
+    fill_rest(s, rest, words, 26, kind)
 }

@@ -1,95 +1,40 @@
-// Reading the services: their number and the services.
-use crate::elements::bounded;
-use bits::BitCount;
-use codec::Reached;
-use grammar::record::Services;
-use grammar::site;
-ghost use mathlib.Core.Path.{_≡_};
-ghost use Prim.Native.Nat.{_≤_};
-ghost use Rattle.bits.specs.Frame.{bitsIn};
-ghost use Rattle.codec.specs.Parts.{absent, element};
-ghost use Rattle.codec.specs.Places.{places};
-ghost use Rattle.codec.specs.Reading.{got, resume, readAt};
-ghost use Rattle.grammar.specs.SiteSheet.{serviceRefusal};
+// The services: their number, and as many, all from one window.
+use crate::stores::held;
+use crate::stores::store;
+use bits::Cursor;
+ghost use Prim.Native.Nat.{_+_, _≤_};
+ghost use lib.ListN.{length};
+ghost use Rattle.bits.specs.Bits.{bits};
 ghost use Rattle.grammar.specs.Grammar.{services};
-ghost use Rattle.reader.specs.Inner.{serviceListIs, servicesIs};
+ghost use Rattle.words.specs.Inner.{Put};
+ghost use Rattle.words.specs.RecordWords.{servicesWords};
+ghost use Rattle.reader.specs.Inner.{Fillable, Fills, sevenIn};
 
-pub struct ServiceListRead {
-    pub reached: Reached,
-    pub value: [u32; 7],
-}
-
-// As many services as their number says, in the first of seven places.
-fn service_list_of(s: &[u8], n: BitCount, start: Reached, count: u32) -> ServiceListRead
-    requires { ⌜ count ≤ 7 ⌝ }
-    ensures { λ r. ⌜ r ≡ serviceListIs (resume start (readAt (places (element 3 serviceRefusal) absent 7 count) (bitsIn (n .0) (now (s .entry))))) ⌝ }
+// Seven numbers of three bits. A fixed number of turns, so that it becomes code without a loop.
+fn put_seven(words: &mut [u32], to: usize, run: u64)
+    requires { ⌜ to + 7 ≤ length (now words) ⌝ }
+    ensures { λ _. ⌜ Put (now (words .entry)) to (sevenIn run) 7 (now (words .exit)) (to + 7) ⌝ }
 {
-    let mut held = [0u32; 7];
-    let Reached::At(c) = start else {
-        return ServiceListRead {
-            reached: start,
-            value: held,
-        };
-    };
-    let mut at = c;
+    let mut next = to;
     let mut i: usize = 0;
-    while i < count as usize {
-        let number = codec::number(s, n, Reached::At(at), 3);
-        let service = codec::tested(Reached::At(at), number, site::service_refusal(number.value));
-        let end = service.reached;
-        let Reached::At(next) = end else {
-            return ServiceListRead {
-                reached: end,
-                value: [0u32; 7],
-            };
-        };
-        held[i] = service.value;
-        at = next;
+    while i < 7 {
+        words[next] = ((run >> (18 - 3 * i)) % 8) as u32;
+        next += 1;
         i += 1;
     }
-    ServiceListRead {
-        reached: Reached::At(at),
-        value: held,
-    }
 }
 
-pub struct ServicesRead {
-    pub reached: Reached,
-    pub value: Services,
-}
-
-// The number of services and the services.
-pub(crate) fn services_of(s: &[u8], n: BitCount, start: Reached) -> ServicesRead
-    ensures { λ r. ⌜ r ≡ servicesIs (resume start (readAt services (bitsIn (n .0) (now (s .entry))))) ⌝ }
+// The number of services, the services, and zeros in the other places.
+pub(crate) fn fill_services(s: &[u8], c: Cursor, words: &mut [u32], to: usize) -> Cursor
+    requires { ⌜ Fillable services (now s) (c .at) (now words) to 8 ⌝ }
+    ensures { λ r. ⌜ Fills services servicesWords 8 (bits (now (s .entry))) (c .at) (now (words .entry)) to (now (words .exit)) (r .at) ⌝ }
 {
-    let count = bounded(s, n, start, 3, 1, 7);
-    let after_count = count.reached;
-    let list = service_list_of(s, n, after_count, count.value);
-    let end = list.reached;
-    let held = list.value;
-    kept_services(
-        end,
-        Services {
-            count: count.value,
-            list: held,
-        },
-    )
-}
-
-fn kept_services(end: Reached, value: Services) -> ServicesRead
-    ensures { λ r. ⌜ r ≡ servicesIs (resume end (λ at. got value at)) ⌝ }
-{
-    let Reached::At(_) = end else {
-        return ServicesRead {
-            reached: end,
-            value: Services {
-                count: 0,
-                list: [0u32; 7],
-            },
-        };
-    };
-    ServicesRead {
-        reached: end,
-        value,
-    }
+    let at = c.at;
+    let window = bits::window(s, at);
+    let count = (window >> 54) as u32;
+    let width = 3 * (count as usize);
+    let list = held(window, 3, 21, width);
+    store(words, to, count);
+    put_seven(words, to + 1, list);
+    Cursor { at: at + 3 + width }
 }
