@@ -1,23 +1,10 @@
--- The profiles of document 01, P1 to P14, as one list that antt computes. Home network 1, user 1/5, no extensions.
-use mathlib.Core.Path.{_≡_, refl}
-use mathlib.Core.List.{List, [], _∷_}
+-- The calls of the profiles of document 01. Home network 1, user 1/5, no extensions.
 use Prim.Native.Nat.{ℕ}
 use lib.ListN.{replicate}
-use Rattle.bits.specs.Frame.{bytesFor}
-use Rattle.grammar.specs.Grammar.{grammar}
-use Rattle.grammar.specs.ProfileRecords.{A, B, C, asking}
-use Rattle.grammar.specs.declared.record.Record.{Record}
-use Rattle.writer.specs.Write.{recordRefusal, writeRefusal, writeIs}
-use Rattle.writer.specs.declared.Written.the-variants.{Bits}
-use Rattle.rules.specs.Rule.{ruling, rules}
 use Rattle.rules.specs.declared.request.Destination.the-variants.{Identity}
 use Rattle.rules.specs.declared.request.Group.{Group}
 use Rattle.rules.specs.declared.request.Group.the-variants.{Of, NoGroup}
 use Rattle.rules.specs.declared.request.Request.{Request}
-use Rattle.rules.specs.declared.Decision.{Decision}
-use Rattle.rules.specs.declared.Decision.the-variants.{Allowed, Barred}
-
--- ---- the calls of user 1/5
 
 abbrev pub call : ℕ → ℕ → ℕ → Group → Request
 call service network ssi group = record {
@@ -39,38 +26,3 @@ shortData = call 3
 
 abbrev pub group500 : Group
 group500 = Of (record { network = 1; ssi = 500 })
-
--- ---- the cases
-
-pub data Case : Type 0 where
-  -- the part gives the call this answer
-  decides : Record → Request → Decision → Case
-  -- the record is written as so many bits, in so many bytes
-  measures : Record → ℕ → ℕ → Case
-
-abbrev pub Holds : Case → Type 0
-Holds (decides r q d) = ruling 1 r q ≡ d
-Holds (measures r bits bytes) = (writeIs r (replicate bytes 0) ≡ Bits (record { 0 = bits })) × (bytesFor bits ≡ bytes)
-
-abbrev pub All : List Case → Type 0
-All [] = Unit {0}
-All (c ∷ l) = Holds c × All l
-
-pub profiles : All (
-    decides A (speech 1 100 NoGroup) (Barred 2)  -- P1
-    ∷ decides A (speech 1 199 NoGroup) (Barred 2)  -- P2
-    ∷ decides A (speech 1 200 NoGroup) Allowed  -- P3
-    ∷ decides A (speech 1 99 NoGroup) Allowed  -- P4
-    ∷ decides A (speech 1 150 NoGroup) Allowed  -- P5
-    ∷ decides A (circuitData 1 100 NoGroup) Allowed  -- P6
-    ∷ decides A (speech 2 100 NoGroup) Allowed  -- P7
-    ∷ decides B (shortData 1 8 NoGroup) (Barred 1)  -- P8
-    ∷ decides B (shortData 1 7 NoGroup) Allowed  -- P9
-    ∷ decides C (speech 1 9 group500) Allowed  -- P10
-    ∷ decides C (speech 1 9 NoGroup) (Barred 0)  -- P11
-    ∷ decides C (speech 1 8 group500) (Barred 2)  -- P12
-    ∷ measures A 138 18  -- P13
-    ∷ measures asking 42 6  -- P14
-    ∷ [])
-unfolding grammar rules recordRefusal writeRefusal writeIs
-profiles = (refl, (refl, (refl, (refl, (refl, (refl, (refl, (refl, (refl, (refl, (refl, (refl, ((refl, refl), ((refl, refl), tt))))))))))))))
