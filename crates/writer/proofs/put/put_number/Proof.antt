@@ -23,7 +23,7 @@ small : (c : tie.Start) → SmallNumber (numberAt (now (c .args .words)) (c .arg
 small c = rw number-at at (c .pre .1)
 
 few : (c : tie.Start) → word (now (c .args .words)) (c .args .from) < 255
-few c = length-small (now (c .args .words)) (c .args .from) (c .pre .0) (small c)
+few c = length-small (now (c .args .words)) (c .args .from) (omega (arith, c .pre .0)) (small c)
 
 whole : (c : tie.After-with-codes2) → let late = c .before .before in let early = late .before in let a = c .before .before .before .before .before .before .before .before .before .args in
     external .print (numberAt (now (a .words)) (a .from))
@@ -37,7 +37,7 @@ whole c =
     let b = c .before .before .before .before .before .before .before .before .before in
     let p = sym (early .bits .ensures) in
     let q = sym (late .bits2 .ensures) in
-    number-runs (now (b .args .words)) (b .args .from) (b .pre .0) (small b) _ _ _ _
+    number-runs (now (b .args .words)) (b .args .from) (omega (arith, b .pre .0)) (small b) _ _ _ _
     (omega (arith, v .least .ensures)) (omega (arith, v .least .ensures, u .least2 .ensures)) (c .before .with-codes .ensures 4 refl) (c .with-codes2 .ensures 4 refl)
     ∙ (λ i. number (5 + p i) .print (c .before .with-codes .result / 2 ^ (48 - p i)) ++ number (q i) .print (c .with-codes2 .result / 2 ^ (48 - q i)))
 
