@@ -20,7 +20,7 @@ use words::record::RECORD_WORDS;
 ghost use mathlib.Core.Path.{_≡_};
 ghost use lib.ListN.{length};
 ghost use Rattle.grammar.specs.Grammar.{interrogate, interrogateAck, fromRecord, pdu};
-ghost use Rattle.words.specs.RecordWords.{recordFrom, areRecord};
+ghost use Rattle.words.specs.RecordWords.{recordFrom};
 ghost use Rattle.tally.specs.Tally.{nothing, Tallies, TalliesWords};
 ghost use Rattle.tally.specs.Inner.{Fits};
 
@@ -77,7 +77,7 @@ fn tally_record(words: &[u32]) -> Tally
 
 // The words of a record; words of another count are no record's.
 pub fn tally_words(words: &[u32]) -> Tally
-    ensures { λ r. ⌜ TalliesWords (areRecord (length (now (words .entry)))) (now (words .entry)) r ⌝ }
+    ensures { λ r. ⌜ TalliesWords (now (words .entry)) r ⌝ }
 {
     if words.len() != RECORD_WORDS {
         return Tally {

@@ -3,7 +3,6 @@ use mathlib.Core.Path.{_≡_, sym, ap, ap₂, _∙_}
 use Prim.Native.Nat.{ℕ}
 use native.Mathlib.Nat.{zero-add}
 use borrow.Author.Tests.{eq-eqb}
-use lib.ListN.{length}
 use lib.Dec.{leb}
 use Rattle.bits.specs.Bits.{pick}
 use Rattle.bits.specs.Frame.{bytesFor}
@@ -29,7 +28,7 @@ returns c =
 
 -- the words are a record's
 tallied : (c : tie.After-tally-words) → Tallies pdu (recordFrom (now (c .before .before .before .before .before .args .words))) nothing (c .tally-words .result)
-tallied c = let b = c .before .before .before .before .before in rw (eq-eqb (length (now (b .args .words))) 514 (b .pre)) at (c .tally-words .ensures)
+tallied c = c .tally-words .ensures .of-record (eq-eqb _ 514 (c .before .before .before .before .before .pre))
 
 returns-2 : tie.Need-returns-2
 returns-2 c =
