@@ -44,20 +44,23 @@ first-both false b = refl
 
 -- a list of m digits, of which the PDU carries the first n
 module _ where
-  digits-fault : (m n : ℕ) (l : List ℕ) → length l ≡ m → places (element 4 digitRefusal) absent m n .fault (narrowed l) ≡ pick (noneAbove 12 (take n l)) 0 3
+  digits-fault : (m n : ℕ) (l : List ℕ) → length l ≡ m → places (element 4 digitRefusal) absent m n .fault (narrowed l) ≡ pick
+      (noneAbove 12 (take n l)) 0 3
   unfolding places cons nil element tested number absent narrowed noneAbove every
   digits-fault zero n [] e = ap (λ (l : List ℕ). pick {A = ℕ} (noneAbove 12 l) 0 3) (sym (take-nil n))
   digits-fault zero n (d ∷ l) e = absurd (omega arith)
   digits-fault (suc m) n [] e = absurd (omega arith)
   digits-fault (suc m) zero (d ∷ l) e = digits-fault m zero l (omega arith)
-  digits-fault (suc m) (suc n) (d ∷ l) e = ap₂ first (narrow-fault d) (digits-fault m n l (omega arith)) ∙ first-both (leb d 12) (noneAbove 12 (take n l))
+  digits-fault (suc m) (suc n) (d ∷ l) e = ap₂ first (narrow-fault d) (digits-fault m n l (omega arith)) ∙ first-both (leb d 12)
+      (noneAbove 12 (take n l))
 
   digits-clean : (m n : ℕ) (l : List ℕ) → length l ≡ m → places (element 4 digitRefusal) absent m n .clean (narrowed l) ≡ noneAbove 0 (drop n l)
   unfolding places cons nil element tested number absent narrowed noneAbove every
   digits-clean zero n [] e = ap (noneAbove 0) (sym (drop-nil n))
   digits-clean zero n (d ∷ l) e = absurd (omega arith)
   digits-clean (suc m) n [] e = absurd (omega arith)
-  digits-clean (suc m) zero (d ∷ l) e = ap₂ (λ (a b : Bool). a && b) (zero-leb (narrow d) ∙ narrow-leb d 0 (omega arith)) (digits-clean m zero l (omega arith))
+  digits-clean (suc m) zero (d ∷ l) e = ap₂ (λ (a b : Bool). a && b) (zero-leb (narrow d) ∙ narrow-leb d 0 (omega arith))
+      (digits-clean m zero l (omega arith))
   digits-clean (suc m) (suc n) (d ∷ l) e = digits-clean m n l (omega arith)
 
   digits-size : (m n : ℕ) (l : List ℕ) → length l ≡ m → length (places (element 4 digitRefusal) absent m n .print (narrowed l)) ≡ 4 * min n m
@@ -94,13 +97,15 @@ module _ (w : List ℕ) (n from used : ℕ) (room : from + 24 ≤ length w) (few
       in
       sym (drop-min n l) ∙ ap (λ (k : ℕ). drop k l) (ap (min n) full ∙ sym few)
       ∙ ap (drop used) two
-      ∙ drop-at (take used (drop from w)) (take (24 - used) (drop used (drop from w))) used (length-take-le used (drop from w) (omega (arith, length-drop from w)))
+      ∙ drop-at (take used (drop from w)) (take (24 - used) (drop used (drop from w))) used
+      (length-take-le used (drop from w) (omega (arith, length-drop from w)))
       ∙ ap (take (24 - used)) (drop-drop used from w)
 
   pub digits-fit : {t : Tally} → Fits (places (element 4 digitRefusal) absent 24 n) (narrowed (take 24 (drop from w))) t → t .bits + 4 * used ≤ 4096
   digits-fit h = omega (arith, h .short, digits-size 24 n (take 24 (drop from w)) full)
 
-  pub digits-tallied : {clean legal : Bool} {t r : Tally} → legal ≡ noneAbove 12 (take used (drop from w)) → clean ≡ noneAbove 0 (take (24 - used) (drop (from + used) w))
+  pub digits-tallied : {clean legal : Bool} {t r : Tally} → legal ≡ noneAbove 12 (take used (drop from w)) → clean ≡ noneAbove 0
+      (take (24 - used) (drop (from + used) w))
       → r .clean ≡ t .clean && clean → r .refusal ≡ first (t .refusal) (pick legal 0 3) → r .bits ≡ t .bits + 4 * used
       → Tallies (places (element 4 digitRefusal) absent 24 n) (narrowed (take 24 (drop from w))) t r
   digits-tallied {clean} {legal} {t} hl hc rc rr rb =
@@ -108,7 +113,8 @@ module _ (w : List ℕ) (n from used : ℕ) (room : from + 24 ≤ length w) (few
       let fault : pick legal 0 3 ≡ places (element 4 digitRefusal) absent 24 n .fault (narrowed l) =
       ap (λ (b : Bool). pick b 0 3) (hl ∙ ap (noneAbove 12) (sym early)) ∙ sym (digits-fault 24 n l full)
       in
-      let zero : clean ≡ places (element 4 digitRefusal) absent 24 n .clean (narrowed l) = hc ∙ ap (noneAbove 0) (sym late) ∙ sym (digits-clean 24 n l full) in
+      let zero : clean ≡ places (element 4 digitRefusal) absent 24 n .clean (narrowed l) = hc ∙ ap (noneAbove 0) (sym late) ∙ sym
+      (digits-clean 24 n l full) in
       record {
         clean = rc ∙ ap (λ (b : Bool). t .clean && b) zero;
         refusal = rr ∙ ap (first (t .refusal)) fault;

@@ -17,7 +17,8 @@ use Rattle.tally.proofs.Parts.{then, fits-first, fits-next}
 use Rattle.tally.proofs.Unused.{Uncarried, uncarried-places, skipped}
 
 -- of the places from i on, the next is used, and the others are those from i + 1 on
-pub places-next : {A : Type 0} (c z : Codec A) (m n i : ℕ) → i < m → i < n → places c z (m - i) (n - i) ≡ cons c (places c z (m - (i + 1)) (n - (i + 1)))
+pub places-next : {A : Type 0} (c z : Codec A) (m n i : ℕ) → i < m → i < n → places c z (m - i) (n - i) ≡ cons c
+    (places c z (m - (i + 1)) (n - (i + 1)))
 unfolding places
 places-next c z m n i h k =
     let p : m - i ≡ suc (m - (i + 1)) = omega arith in
@@ -44,7 +45,8 @@ places-most c z (suc m) (suc n) =
 
 -- of m entries of k words each from `from` on, of which the PDU carries the first n, the first i are counted and the next stands at `place`;
 -- the others fit, and whatever they come to is what all of them come to
-pub record Tallying {A : Type 0} (c z : Codec A) (f : List ℕ → A) (k m n : ℕ) (words : List ℕ) (from : ℕ) (start : Tally) (i place : ℕ) (t : Tally) : Type 0 where
+pub record Tallying {A : Type 0} (c z : Codec A) (f : List ℕ → A) (k m n : ℕ) (words : List ℕ) (from : ℕ) (start : Tally) (i place : ℕ)
+    (t : Tally) : Type 0 where
   pub done : i ≤ n
   pub there : place ≡ from + k * i
   pub fits : Fits (places c z (m - i) (n - i)) (entriesFrom f k (m - i) (drop place words)) t
@@ -63,11 +65,18 @@ module _ {A : Type 0} (c : Codec A) (d : Codec (List A)) {a : A} {l : List A} {t
 
 module _ {A : Type 0} {c z : Codec A} {f : List ℕ → A} {k m n : ℕ} {words : List ℕ} {from : ℕ} {start : Tally} where
   pub tallying-start : Fits (places c z m n) (entriesFrom f k m (drop from words)) start → Tallying c z f k m n words from start 0 from start
-  tallying-start h = record { done = omega arith; there = omega arith; fits = rw (sub-zero m, sub-zero n) h; rest = λ r p. rw (sub-zero m, sub-zero n) at p }
+  tallying-start h = record {
+    done = omega arith;
+    there = omega arith;
+    fits = rw (sub-zero m, sub-zero n) h;
+    rest = λ r p. rw
+        (sub-zero m, sub-zero n) at p;
+  }
 
   module _ {i place : ℕ} {t : Tally} (h : Tallying c z f k m n words from start i place t) where
     module _ (inside : i < n) (few : n ≤ m) where
-      here : Fits (seq c (λ x. places c z (m - (i + 1)) (n - (i + 1)))) (f (drop place words), entriesFrom f k (m - (i + 1)) (drop (place + k) words)) t
+      here : Fits (seq c (λ x. places c z (m - (i + 1)) (n - (i + 1))))
+          (f (drop place words), entriesFrom f k (m - (i + 1)) (drop (place + k) words)) t
       here = fits-before _ _ (rw (places-next c z m n i (omega arith) inside, entries-next f k m i words place (omega arith)) at (h .fits))
 
       pub tallying-fits : Fits c (f (drop place words)) t

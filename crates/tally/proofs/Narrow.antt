@@ -44,7 +44,8 @@ zero-leb (suc d) = sym (lt-leb (suc d) 0 (omega arith))
 length-fault : (x : ℕ) → first (numberFault 5 (narrow x)) (lengthRefusal (narrow x)) ≡ first (numberFault 5 x) (lengthRefusal x)
 length-fault x = rw (narrow-ltb x 32 (omega arith), leb-narrow x 1 (omega arith), narrow-leb x 24 (omega arith))
 
-pub length-narrowed : {x k : ℕ} {t s : Tally} → Tallies (element 5 (λ v. k)) x t s → k ≡ lengthRefusal x → Tallies (element 5 lengthRefusal) (narrow x) t s
+pub length-narrowed : {x k : ℕ} {t s : Tally} → Tallies (element 5 (λ v. k)) x t s → k ≡ lengthRefusal x → Tallies (element 5 lengthRefusal)
+    (narrow x) t s
 unfolding element tested number
 length-narrowed {x} {t = t} h e = record {
   clean = h .clean;

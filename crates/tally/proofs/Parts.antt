@@ -34,7 +34,12 @@ module _ (w : ℕ) {v : ℕ} {t s : Tally} where
   -- an element by its own refusal number
   pub refusing : {k : ℕ} (refuse : ℕ → ℕ) → Tallies (element w (λ x. k)) v t s → k ≡ refuse v → Tallies (element w refuse) v t s
   unfolding element tested number
-  refusing refuse h e = record { clean = h .clean; refusal = h .refusal ∙ ap (λ (n : ℕ). first (t .refusal) (first (numberFault w v) n)) e; bits = h .bits }
+  refusing refuse h e = record {
+    clean = h .clean;
+    refusal = h .refusal ∙ ap
+        (λ (n : ℕ). first (t .refusal) (first (numberFault w v) n)) e;
+    bits = h .bits;
+  }
 
   -- an element none of whose values is refused
   pub numbered : Tallies (element w (λ x. 0)) v t s → Tallies (number w) v t s
@@ -87,7 +92,8 @@ module _ {A : Type 0} {c : Codec A} (refuse into : A → ℕ) {a : A} {t : Tally
   unfolding tested
   test {k = k} h e f = record {
     clean = h .clean;
-    refusal = f ∙ ap (λ (m : ℕ). first m k) (h .refusal) ∙ ap (first (first (t .refusal) (c .fault a))) e ∙ first-assoc (t .refusal) (c .fault a) (refuse a);
+    refusal = f ∙ ap (λ (m : ℕ). first m k) (h .refusal) ∙ ap (first (first (t .refusal) (c .fault a))) e ∙ first-assoc (t .refusal) (c .fault a)
+        (refuse a);
     bits = h .bits;
   }
 

@@ -13,7 +13,8 @@ use Rattle.codec.specs.Codec.{Codec, first}
 use Rattle.codec.specs.Parts.{isZero, absent, seq, shaped}
 use Rattle.codec.specs.Places.{nil, cons, places}
 use Rattle.grammar.specs.Grammar.{noIdentity, noIdentities, noExternal, noExternals, noServices, noPart}
-use Rattle.words.specs.RecordWords.{word, narrow, narrowed, entriesFrom, identityFrom, identitiesFrom, numberFrom, numbersFrom, servicesFrom, listsFrom}
+use Rattle.words.specs.RecordWords.{word, narrow, narrowed, entriesFrom, identityFrom}
+use Rattle.words.specs.RecordWords.{identitiesFrom, numberFrom, numbersFrom, servicesFrom, listsFrom}
 use Rattle.words.proofs.Filling.{words-taken, words-narrowed}
 use Rattle.tally.specs.Tally.{Tallies}
 use Rattle.tally.specs.Inner.{noneAbove, Skips}
@@ -24,7 +25,8 @@ use Rattle.tally.proofs.Narrow.{zero-leb, narrow-leb}
 pub none-append : (most : ℕ) (a b : List ℕ) → noneAbove most (a ++ b) ≡ noneAbove most a && noneAbove most b
 unfolding noneAbove every
 none-append most [] b = refl
-none-append most (x ∷ a) b = ap (λ (t : Bool). leb x most && t) (none-append most a b) ∙ sym (and-assoc (leb x most) (noneAbove most a) (noneAbove most b))
+none-append most (x ∷ a) b = ap (λ (t : Bool). leb x most && t) (none-append most a b) ∙ sym
+    (and-assoc (leb x most) (noneAbove most a) (noneAbove most b))
 
 -- of the value a the PDU carries nothing, and its words are all zero or it is not clean
 pub record Absent {A : Type 0} (c : Codec A) (a : A) (words : List ℕ) : Type 0 where
@@ -47,7 +49,8 @@ skipped {t = t} h s = record {
 
 -- ---- one law for each way to build such a part
 
-absent-seq : {A B : Type 0} {c : Codec A} {d : Codec B} {a : A} {b : B} {u v : List ℕ} → Absent c a u → Absent d b v → Absent (seq c (λ x. d)) (a, b) (u ++ v)
+absent-seq : {A B : Type 0} {c : Codec A} {d : Codec B} {a : A} {b : B} {u v : List ℕ} → Absent c a u → Absent d b v → Absent (seq c (λ x. d))
+    (a, b) (u ++ v)
 unfolding seq
 absent-seq {u = u} {v = v} h k = record {
   clean = ap₂ (λ (x y : Bool). x && y) (h .clean) (k .clean) ∙ sym (none-append 0 u v);
@@ -55,7 +58,8 @@ absent-seq {u = u} {v = v} h k = record {
   empty = ap₂ (λ (x y : List Bool). x ++ y) (h .empty) (k .empty);
 }
 
-absent-cons : {A : Type 0} {c : Codec A} {d : Codec (List A)} {a : A} {l : List A} {u v : List ℕ} → Absent c a u → Absent d l v → Absent (cons c d) (a ∷ l) (u ++ v)
+absent-cons : {A : Type 0} {c : Codec A} {d : Codec (List A)} {a : A} {l : List A} {u v : List ℕ} → Absent c a u → Absent d l v → Absent
+    (cons c d) (a ∷ l) (u ++ v)
 unfolding cons seq
 absent-cons h k = let s = absent-seq h k in record { clean = s .clean; faultless = s .faultless; empty = s .empty }
 
@@ -68,13 +72,15 @@ module _ {A : Type 0} where
   uncarried-seq {B} {m} {n} {c} {d} {f} {g} h k w l =
       rw (take-add m n w) (absent-seq (h w (omega arith)) (k (drop m w) (omega (arith, length-drop m w))))
 
-  uncarried-shape : {B : Type 0} {n : ℕ} {c : Codec A} (to : A → B) (from : B → A) (there : (a : A) → c .clean a ≡ true → c .fault a ≡ 0 → from (to a) ≡ a)
+  uncarried-shape : {B : Type 0} {n : ℕ} {c : Codec A} (to : A → B) (from : B → A)
+      (there : (a : A) → c .clean a ≡ true → c .fault a ≡ 0 → from (to a) ≡ a)
       (back : (b : B) → to (from b) ≡ b) {g : List ℕ → B} → Uncarried n c (λ w. from (g w)) → Uncarried n (shaped c to from there back) g
   unfolding shaped
   uncarried-shape to from there back h w l = let s = h w l in record { clean = s .clean; faultless = s .faultless; empty = s .empty }
 
   -- places none of which is used
-  pub uncarried-places : (c : Codec A) {z : Codec A} {f : List ℕ → A} {k : ℕ} → Uncarried k z f → (m : ℕ) → Uncarried (k * m) (places c z m 0) (entriesFrom f k m)
+  pub uncarried-places : (c : Codec A) {z : Codec A} {f : List ℕ → A} {k : ℕ} → Uncarried k z f → (m : ℕ) → Uncarried (k * m) (places c z m 0)
+      (entriesFrom f k m)
   unfolding places nil entriesFrom noneAbove every
   uncarried-places c {z} {f} {k} h zero w l =
       let none : k * 0 ≡ 0 = omega arith in
@@ -92,7 +98,12 @@ uncarried-word (x ∷ w) l = record { clean = zero-leb x ∙ sym (and-true (leb 
 uncarried-byte : Uncarried 1 absent (λ w. narrow (word w 0))
 unfolding absent noneAbove every
 uncarried-byte [] l = absurd (omega arith)
-uncarried-byte (x ∷ w) l = record { clean = zero-leb (narrow x) ∙ narrow-leb x 0 (omega arith) ∙ sym (and-true (leb x 0)); faultless = refl; empty = refl }
+uncarried-byte (x ∷ w) l = record {
+  clean = zero-leb (narrow x) ∙ narrow-leb x 0 (omega arith) ∙ sym
+      (and-true (leb x 0));
+  faultless = refl;
+  empty = refl;
+}
 
 -- ---- the parts of a record
 
@@ -144,7 +155,8 @@ uncarried-part =
         ),
       ),
     ))
-    (uncarried-seq uncarried-identities (uncarried-seq uncarried-identities (uncarried-seq uncarried-identities (uncarried-seq uncarried-numbers uncarried-numbers)))))
+    (uncarried-seq uncarried-identities (uncarried-seq uncarried-identities
+    (uncarried-seq uncarried-identities (uncarried-seq uncarried-numbers uncarried-numbers)))))
 
 -- interrogation result, delivery status, services and lists
 pub uncarried-rest : Uncarried 487 (seq absent (λ x. seq absent (λ y. seq noServices (λ z. noPart))))

@@ -13,7 +13,8 @@ use Rattle.grammar.specs.declared.record.Number.{Number}
 use Rattle.grammar.specs.declared.record.Numbers.{Numbers}
 use Rattle.grammar.specs.declared.record.Services.{Services}
 use Rattle.grammar.specs.declared.record.Lists.{Lists}
-use Rattle.words.specs.RecordWords.{word, narrow, narrowed, entriesFrom, identityFrom, identitiesFrom, numberFrom, numbersFrom, servicesFrom, listsFrom}
+use Rattle.words.specs.RecordWords.{word, narrow, narrowed, entriesFrom, identityFrom}
+use Rattle.words.specs.RecordWords.{identitiesFrom, numberFrom, numbersFrom, servicesFrom, listsFrom}
 use Rattle.words.proofs.Filling.{first-word}
 use Rattle.tally.proofs.Unused.{Absent, uncarried-word, uncarried-two-numbers, uncarried-rest}
 
@@ -83,16 +84,19 @@ module _ (w : List ℕ) (at : ℕ) where
   numbers-unused h =
       let e : at + 75 + 201 ≡ at + 276 = omega arith in
       let p : drop 201 (drop (at + 75) w) ≡ drop (at + 276) w = drop-drop 201 (at + 75) w ∙ ap (λ (n : ℕ). drop n w) e in
-      subst (λ (v : List ℕ). Absent (seq noExternals (λ x. noExternals)) (numbersFrom (drop (at + 75) w), numbersFrom v) (take 402 (drop (at + 75) w))) p
+      subst (λ (v : List ℕ). Absent (seq noExternals (λ x. noExternals)) (numbersFrom (drop (at + 75) w), numbersFrom v)
+      (take 402 (drop (at + 75) w))) p
       (uncarried-two-numbers (drop (at + 75) w) (omega (arith, length-drop (at + 75) w)))
 
 pub extension-unused : (w : List ℕ) (at : ℕ) → at + 3 ≤ length w → Absent absent (identityFrom (drop at w) .extension) (take 1 (drop (at + 2) w))
 unfolding identityFrom
-extension-unused w at h = subst (λ (x : ℕ). Absent absent x (take 1 (drop (at + 2) w))) (sym (getD-drop at w 2 0)) (word-unused w (at + 2) (omega arith))
+extension-unused w at h = subst (λ (x : ℕ). Absent absent x (take 1 (drop (at + 2) w))) (sym (getD-drop at w 2 0))
+    (word-unused w (at + 2) (omega arith))
 
 -- what an INTERROGATE has none of
 pub rest-unused : (w : List ℕ) → length w ≡ 514
-    → Absent (seq absent (λ x. seq absent (λ y. seq noServices (λ z. noPart)))) (word w 27, (word w 28, (servicesFrom (drop 29 w), listsFrom (drop 37 w)))) (take 487 (drop 27 w))
+    → Absent (seq absent (λ x. seq absent (λ y. seq noServices (λ z. noPart))))
+    (word w 27, (word w 28, (servicesFrom (drop 29 w), listsFrom (drop 37 w)))) (take 487 (drop 27 w))
 rest-unused w h =
     let v : List ℕ = drop 27 w in
     subst (λ (x : ℕ × (ℕ × (Services × Lists))). Absent (seq absent (λ x. seq absent (λ y. seq noServices (λ z. noPart)))) x (take 487 (drop 27 w)))

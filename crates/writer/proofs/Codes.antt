@@ -28,7 +28,8 @@ module _ (w : ℕ) where
   codeBits-append : (a b : List ℕ) → codeBits w (a ++ b) ≡ codeBits w a ++ codeBits w b
   unfolding codeBits
   codeBits-append [] b = refl
-  codeBits-append (d ∷ a) b = ap (λ (l : List Bool). bitsOf w d ++ l) (codeBits-append a b) ∙ sym (append-assoc (bitsOf w d) (codeBits w a) (codeBits w b))
+  codeBits-append (d ∷ a) b = ap (λ (l : List Bool). bitsOf w d ++ l) (codeBits-append a b) ∙ sym
+      (append-assoc (bitsOf w d) (codeBits w a) (codeBits w b))
 
   length-codeBits : (l : List ℕ) → length (codeBits w l) ≡ w * length l
   unfolding codeBits
@@ -54,7 +55,8 @@ module _ (w : ℕ) where
       ∙ ap (λ (l : List Bool). l ++ bitsOf w d) (sofar v)
       ∙ append-assoc (bitsOf v start) (codeBits w (take i t)) (bitsOf w d)
       ∙ ap (λ (l : List Bool). bitsOf v start ++ l)
-      (sym (ap (codeBits w) next ∙ codeBits-append (take i t) (d ∷ []) ∙ ap (λ (l : List Bool). codeBits w (take i t) ++ l) (append-nil (bitsOf w d))))
+      (sym (ap (codeBits w) next ∙ codeBits-append (take i t) (d ∷ []) ∙ ap (λ (l : List Bool). codeBits w (take i t) ++ l)
+      (append-nil (bitsOf w d))))
 
   -- of j + k codes after a number, the first j
   fewer-codes : (t : List ℕ) (j k start run : ℕ) → j + k ≤ length t → CodesAfter w (j + k) start (take (j + k) t) run
@@ -86,7 +88,8 @@ module _ (w : ℕ) where
   print-codes refuse (suc m) (suc n) (d ∷ l) e = ap (λ (x : List Bool). bitsOf w d ++ x) (print-codes refuse m n l (omega arith))
 
 -- of `count` codes of w bits after a number, the first j, where m bits stand after them
-first-codes : (w count m : ℕ) (t : List ℕ) (j start run : ℕ) → j ≤ count → count ≤ length t → m ≡ w * (count - j) → CodesAfter w count start (take count t) run
+first-codes : (w count m : ℕ) (t : List ℕ) (j start run : ℕ) → j ≤ count → count ≤ length t → m ≡ w * (count - j) → CodesAfter w count start
+    (take count t) run
     → CodesAfter w j start (take j t) (run / 2 ^ m)
 first-codes w count m t j start run few long e whole =
     let all : count ≡ j + (count - j) = omega arith in
@@ -104,7 +107,8 @@ narrowed-small (x ∷ s) (h, t) = let e : narrow x ≡ x = omega arith in λ i. 
 -- the first n of 24 digits, in two halves
 halves : (n early late : ℕ) (v : List ℕ) → 24 ≤ length v → early ≡ min n 12 → early + late ≡ min n 24
     → take n (take 24 v) ≡ take early v ++ take late (drop 12 v)
-halves n early late v long he hl = sym (take-used (take 24 v) n (length-take-le 24 v long) hl) ∙ take-take (early + late) 24 v (omega arith) ∙ go (leb n 12) refl
+halves n early late v long he hl = sym (take-used (take 24 v) n (length-take-le 24 v long) hl) ∙ take-take (early + late) 24 v (omega arith) ∙ go
+    (leb n 12) refl
   where
     go : (b : Bool) → leb n 12 ≡ b → take (early + late) v ≡ take early v ++ take late (drop 12 v)
     go true h =
@@ -123,7 +127,8 @@ module _ (s : List ℕ) (at : ℕ) (long : at + 25 ≤ length s) (small : SmallN
 
   pub number-runs : (early late x y : ℕ) → early ≡ min (word s at) 12 → early + late ≡ min (word s at) 24
       → CodesAfter 4 12 (word s at) (take 12 (drop (at + 1) s)) x → CodesAfter 4 12 0 (take 12 (drop (at + 13) s)) y
-      → external .print (numberAt s at) ≡ number (5 + 4 * early) .print (x / 2 ^ (48 - 4 * early)) ++ number (4 * late) .print (y / 2 ^ (48 - 4 * late))
+      → external .print (numberAt s at) ≡ number (5 + 4 * early) .print (x / 2 ^ (48 - 4 * early)) ++ number (4 * late) .print
+      (y / 2 ^ (48 - 4 * late))
   unfolding external shaped seq element tested number bitsOf
   number-runs early late x y he hl hx hy =
       let n : ℕ = word s at in
@@ -151,7 +156,8 @@ module _ (s : List ℕ) (at : ℕ) (long : at + 25 ≤ length s) (small : SmallN
 -- ---- services
 
 pub services-run : (s : List ℕ) (at used x : ℕ) → at + 8 ≤ length s → used ≡ min (word s at) 7
-    → CodesAfter 3 7 (word s at % 8) (take 7 (drop (at + 1) s)) x → services .print (servicesAt s at) ≡ bitsOf (3 + 3 * used) (x / 2 ^ (21 - 3 * used))
+    → CodesAfter 3 7 (word s at % 8) (take 7 (drop (at + 1) s)) x → services .print (servicesAt s at) ≡ bitsOf (3 + 3 * used)
+    (x / 2 ^ (21 - 3 * used))
 unfolding services shaped seq element tested number
 services-run s at used x long few hx =
     let n : ℕ = word s at in

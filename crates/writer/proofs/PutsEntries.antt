@@ -42,9 +42,11 @@ size-unused {A} c z h m =
 
 -- ---- the loop
 
--- of m entries of k words each from `from` on, of which the PDU carries the first n, the first i are put; the next stands at `place` and goes to `at`,
+-- of m entries of k words each from `from` on, of which the PDU carries the first n, the first i are put; the next stands at `place` and goes to
+-- `at`,
 -- and with the others put there all of them are
-pub record Putting {A : Type 0} (c z : Codec A) (f : List ℕ → A) (k m n : ℕ) (words : List ℕ) (from : ℕ) (s : List ℕ) (start i place : ℕ) (t : List ℕ) (at : ℕ) : Type 0 where
+pub record Putting {A : Type 0} (c z : Codec A) (f : List ℕ → A) (k m n : ℕ) (words : List ℕ) (from : ℕ) (s : List ℕ) (start i place : ℕ)
+    (t : List ℕ) (at : ℕ) : Type 0 where
   pub done : i ≤ n
   pub there : place ≡ from + k * i
   pub kept : length t ≡ length s
@@ -64,7 +66,8 @@ module _ {A : Type 0} {c z : Codec A} {f : List ℕ → A} {k m n : ℕ} {words 
 
   module _ {i place : ℕ} {t : List ℕ} {at : ℕ} (h : Putting c z f k m n words from s start i place t at) where
     module _ (inside : i < n) (few : n ≤ m) where
-      here : Room (cons c (places c z (m - (i + 1)) (n - (i + 1)))) (f (drop place words) ∷ entriesFrom f k (m - (i + 1)) (drop (place + k) words)) t at
+      here : Room (cons c (places c z (m - (i + 1)) (n - (i + 1))))
+          (f (drop place words) ∷ entriesFrom f k (m - (i + 1)) (drop (place + k) words)) t at
       here = rw (places-next c z m n i (omega arith) inside, entries-next f k m i words place (omega arith)) at (h .room)
 
       pub putting-room : Room c (f (drop place words)) t at
@@ -77,7 +80,8 @@ module _ {A : Type 0} {c z : Codec A} {f : List ℕ → A} {k m n : ℕ} {words 
         there = omega (arith, h .there);
         kept = e ∙ h .kept;
         room = entry-next _ here p;
-        rest = λ v end q. h .rest v end (rw (places-next c z m n i (omega arith) inside, entries-next f k m i words place (omega arith)) (entry-then _ here p q));
+        rest = λ v end q. h .rest v end (rw (places-next c z m n i (omega arith) inside, entries-next f k m i words place (omega arith))
+            (entry-then _ here p q));
       }
 
     -- after the last that is used
@@ -87,7 +91,8 @@ module _ {A : Type 0} {c z : Codec A} {f : List ℕ → A} {k m n : ℕ} {words 
         h .rest t at (rw last (put-none (size-unused c z none (m - i))))
 
 -- what is so of every entry is so of the one at a place
-pub each-entry : {A : Type 0} (P : A → Type 0) (f : List ℕ → A) (k m i : ℕ) (w : List ℕ) (from : ℕ) {place : ℕ} → Each P (entriesFrom f k m (drop from w)) → i < m
+pub each-entry : {A : Type 0} (P : A → Type 0) (f : List ℕ → A) (k m i : ℕ) (w : List ℕ) (from : ℕ) {place : ℕ} → Each P
+    (entriesFrom f k m (drop from w)) → i < m
     → place ≡ from + k * i → P (f (drop place w))
 unfolding entriesFrom
 each-entry P f k zero i w from e h p = absurd (omega arith)

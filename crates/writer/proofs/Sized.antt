@@ -37,7 +37,11 @@ module _ (x : Number) (vs : List Val) (t : Is (row number-type.the-type) x vs) w
   sized-number : SizedNumber x
   sized-number = record {
     digits = digits-length x vs t;
-    bytes = bytes (x .length .0 ∷ x .digits) (t .1 .1 .0 .1 .1 .0 .1, all (λ (b : ℕ). b < 256) _ (λ v. v) (λ v u h. h .1) (x .digits) _ (t .1 .1 .1 .0 .1 .1));
+    bytes = bytes (x .length .0 ∷ x .digits) (
+      t .1 .1 .0 .1 .1 .0 .1,
+      all (λ (b : ℕ). b < 256) _ (λ v. v) (λ v u h. h .1) (x .digits) _
+          (t .1 .1 .1 .0 .1 .1),
+    );
   }
 
 module _ (x : Numbers) (vs : List Val) (t : Is (row numbers-type.the-type) x vs) where

@@ -35,7 +35,8 @@ module _ (r : Record) (room : ℕ) where
   unfolding writeRefusal recordRefusal
   not-clean e = rw (e, and-false (isZero (kindRefusal (r .kind))))
 
-  pub then-fault : kindRefusal (r .kind) ≡ 0 → pdu .clean r ≡ true → writeRefusal r room ≡ first (pdu .fault r) (pick (leb (bytesFor (lengthOf r)) room) 0 8)
+  pub then-fault : kindRefusal (r .kind) ≡ 0 → pdu .clean r ≡ true → writeRefusal r room ≡ first (pdu .fault r)
+      (pick (leb (bytesFor (lengthOf r)) room) 0 8)
   unfolding writeRefusal recordRefusal
   then-fault kind clean = rw (kind, clean)
 

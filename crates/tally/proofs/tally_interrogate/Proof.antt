@@ -23,4 +23,7 @@ returns c =
     (skipped (rest-unused (now (b .args .words)) (b .pre .0)) (c .tally-unused .ensures))
 
 pub tally-interrogate-spec : {M : Type 1} → statement M
-tally-interrogate-spec = tie.close (tie.spec (λ c. omega arith) (λ c κs. search needs) tally-element-requires (λ c κs. omega arith) returns)
+tally-interrogate-spec =
+    tie.close
+    (tie.spec
+    (λ c. search needs) (λ c κs. search needs) tally-element-requires (λ c κs. search needs) returns)

@@ -26,7 +26,9 @@ after-ss : (c : tie.After-tally-element) → let r = recordFrom (now (c .before 
     Fits (seq (element 5 kindRefusal) (λ kind. seq (identities Users) (λ users. restOf kind))) (fromRecord r) (c .tally-element .result)
 unfolding pdu mark
 after-ss c =
-    fits-shape _ _ _ _ (fits-next _ (fits-shape _ _ _ _ (fits (recordFrom (now (c .before .before .before .args .words))))) (refusing 6 (only ssType) (c .tally-element .ensures) refl))
+    let p = c .before .before .before in
+    fits-shape _ _ _ _ (fits-next _ (fits-shape _ _ _ _ (fits (recordFrom (now (p .args .words)))))
+    (refusing 6 (only ssType) (c .tally-element .ensures) refl))
 
 tally-element-requires-2 : tie.Need-tally-element-requires-2
 tally-element-requires-2 c κs = (omega arith, fits-element 5 kindRefusal (fits-first _ (after-ss (c .before))))
@@ -51,9 +53,12 @@ tally-interrogate-requires c κs =
 returns : tie.Need-returns
 unfolding pdu mark recordFrom
 returns c =
-    let b = c .before .before .before .before .before .before .before .before in
-    shape _ _ _ _ (then _ (refusing 6 (only ssType) (c .before .before .before .before .before .tally-element .ensures) refl)
-    (shape _ _ _ _ (then _ (refusing 5 kindRefusal (c .before .before .before .tally-element2 .ensures) (c .before .before .before .before .kind-refusal .ensures))
+    let p = c .before .before .before in
+    let q = p .before in
+    let r = q .before in
+    let b = r .before .before .before in
+    shape _ _ _ _ (then _ (refusing 6 (only ssType) (r .tally-element .ensures) refl)
+    (shape _ _ _ _ (then _ (refusing 5 kindRefusal (p .tally-element2 .ensures) (q .kind-refusal .ensures))
     (then _ (c .before .before .tally-identities .ensures)
     (rw (eq-eqb (word (now (b .args .words)) 0) 11 (c .before .if1 .taken)) (c .tally-interrogate .ensures))))))
 
@@ -67,9 +72,12 @@ tally-interrogate-ack-requires c κs =
 returns-2 : tie.Need-returns-2
 unfolding pdu mark recordFrom
 returns-2 c =
-    let b = c .before .before .before .before .before .before .before .before in
-    shape _ _ _ _ (then _ (refusing 6 (only ssType) (c .before .before .before .before .before .tally-element .ensures) refl)
-    (shape _ _ _ _ (then _ (refusing 5 kindRefusal (c .before .before .before .tally-element2 .ensures) (c .before .before .before .before .kind-refusal .ensures))
+    let p = c .before .before .before in
+    let q = p .before in
+    let r = q .before in
+    let b = r .before .before .before in
+    shape _ _ _ _ (then _ (refusing 6 (only ssType) (r .tally-element .ensures) refl)
+    (shape _ _ _ _ (then _ (refusing 5 kindRefusal (p .tally-element2 .ensures) (q .kind-refusal .ensures))
     (then _ (c .before .before .tally-identities .ensures)
     (rw (ne-eqb (word (now (b .args .words)) 0) 11 (c .before .if1 .left)) (c .tally-interrogate-ack .ensures))))))
 
@@ -77,12 +85,5 @@ pub tally-record-spec : {M : Type 1} → statement M
 tally-record-spec =
     tie.close
     (tie.spec
-    (λ c. omega arith)
-    (λ c κs. search needs)
-    (λ c κs. search needs)
-    tally-element-requires-2
-    tally-identities-requires
-    tally-interrogate-requires
-    returns
-    tally-interrogate-ack-requires
-    returns-2)
+    (λ c. search needs) (λ c κs. search needs) (λ c κs. search needs) tally-element-requires-2 tally-identities-requires
+    tally-interrogate-requires returns tally-interrogate-ack-requires returns-2)

@@ -27,7 +27,8 @@ returns c =
     rw (other-kind (recordFrom (now (a .words))) (a .room) (λ e. c .if1 .taken (c .before .kind-refusal .ensures ∙ e)))
 
 -- the words are a record's
-tallied : (c : tie.After-tally-words) → Tallies pdu (recordFrom (now (c .before .before .before .before .before .args .words))) nothing (c .tally-words .result)
+tallied : (c : tie.After-tally-words) → Tallies pdu (recordFrom (now (c .before .before .before .before .before .args .words))) nothing
+    (c .tally-words .result)
 tallied c = c .tally-words .ensures .of-record (eq-eqb _ 514 (c .before .before .before .before .before .pre))
 
 returns-2 : tie.Need-returns-2
@@ -35,7 +36,8 @@ returns-2 c =
     let a = c .before .before .before .before .before .before .before .args in
     rw (not-clean (recordFrom (now (a .words))) (a .room) (said-no (tallied (c .before .before) .clean) (c .if2 .taken)))
 
-size : (c : tie.After-tally-words) → c .tally-words .result .bits ≡ lengthOf (recordFrom (now (c .before .before .before .before .before .args .words)))
+size : (c : tie.After-tally-words) → c .tally-words .result .bits ≡ lengthOf
+    (recordFrom (now (c .before .before .before .before .before .args .words)))
 size c = tallied c .bits ∙ zero-add (lengthOf (recordFrom (now (c .before .before .before .before .before .args .words))))
 
 -- the first fault, then the room
@@ -43,16 +45,22 @@ given : (c : tie.After-room-refusal) → let t = c .before .before .before in le
     writeRefusal (recordFrom (now (a .words))) (a .room) ≡ first (t .tally-words .result .refusal) (c .room-refusal .result)
 unfolding recordFrom
 given c =
+    let p = c .before .before .before .before in
+    let q = p .before in
+    let r = q .before .before .before in
     let t = c .before .before .before in
-    let a = c .before .before .before .before .before .before .before .before .args in
-    then-fault (recordFrom (now (a .words))) (a .room) (sym (c .before .before .before .before .before .kind-refusal .ensures) ∙ c .before .before .before .before .if1 .left) (said-yes (tallied t .clean) (c .before .if2 .left))
+    let a = r .args in
+    then-fault (recordFrom (now (a .words))) (a .room) (sym (q .kind-refusal .ensures) ∙ p .if1 .left)
+    (said-yes (tallied t .clean) (c .before .if2 .left))
     ∙ sym (ap₂ first (tallied t .refusal) (c .room-refusal .ensures ∙ ap (λ (n : ℕ). pick (leb (bytesFor n) (a .room)) 0 8) (size t)))
 
 returns-3 : tie.Need-returns-3
 returns-3 c =
+    let p = c .before .before .before .before in
+    let q = p .before .before .before .before .before in
     let g = c .before in
-    let n : ℕ = lengthOf (recordFrom (now (c .before .before .before .before .before .before .before .before .before .args .words))) in
-    sym (ap (written n) (given g) ∙ written-first n (c .before .before .before .before .tally-words .result .refusal) (g .room-refusal .result) (c .if3 .taken))
+    let n : ℕ = lengthOf (recordFrom (now (q .args .words))) in
+    sym (ap (written n) (given g) ∙ written-first n (p .tally-words .result .refusal) (g .room-refusal .result) (c .if3 .taken))
 
 -- where there is no fault
 faultless : (c : tie.Else3) → let a = c .before .before .before .before .before .before .before .before .before .args in
@@ -61,24 +69,20 @@ faultless c = given (c .before) ∙ ap (λ (n : ℕ). first n (c .before .room-r
 
 returns-4 : tie.Need-returns-4
 returns-4 c =
-    let n : ℕ = lengthOf (recordFrom (now (c .before .before .before .before .before .before .before .before .before .before .args .words))) in
+    let p = c .before .before .before .before .before .before .before .before .before .before in
+    let n : ℕ = lengthOf (recordFrom (now (p .args .words))) in
     sym (ap (written n) (faultless (c .before)) ∙ written-some n (c .before .before .room-refusal .result) (c .if4 .taken))
 
 returns-5 : tie.Need-returns-5
 returns-5 c =
-    ap (λ (n : ℕ). Bits (record { 0 = n })) (size (c .before .before .before .before .before))
-    ∙ sym (ap (written (lengthOf (recordFrom (now (c .before .before .before .before .before .before .before .before .before .before .args .words))))) (faultless (c .before) ∙ c .if4 .left))
+    let p = c .before .before .before .before .before in
+    let q = p .before .before .before .before .before in
+    ap (λ (n : ℕ). Bits (record { 0 = n })) (size p)
+    ∙ sym (ap (written (lengthOf (recordFrom (now (q .args .words))))) (faultless (c .before) ∙ c .if4 .left))
 
 pub checked-spec : {M : Type 1} → statement M
 checked-spec =
     tie.close
     (tie.spec
-    (λ c. omega arith)
-    (λ c κs. search needs)
-    returns
-    (λ c κs. search needs)
-    returns-2
-    (λ c κs. search needs)
-    returns-3
-    returns-4
+    (λ c. search needs) (λ c κs. search needs) returns (λ c κs. search needs) returns-2 (λ c κs. search needs) returns-3 returns-4
     returns-5)

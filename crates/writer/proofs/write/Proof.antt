@@ -11,9 +11,10 @@ use Rattle.writer.proofs.write.Tie as tie
 
 returns : tie.Need-returns
 returns c =
-    let b = c .before .before .before .before .before .before .before .before .before in
+    let p = c .before .before .before .before .before .before in
+    let b = p .before .before .before in
     let sized = sized-record (b .args .r) _ (b .good .0) in
-    let spelt = c .before .before .before .before .before .before .put-record .ensures ∙ put-spelt (b .args .r) (replicate 514 0) (length-replicate {A = ℕ} 514 0) in
+    let spelt = p .put-record .ensures ∙ put-spelt (b .args .r) (replicate 514 0) (length-replicate {A = ℕ} 514 0) in
     let e = c .before .before .write-words .ensures in
     (e .0 ∙ answer-back (b .args .r) sized spelt (now (b .args .out)), e .1 ∙ out-back (b .args .r) sized spelt (now (b .args .out)))
 
@@ -21,9 +22,4 @@ pub write-spec : {M : Type 1} → statement M
 write-spec =
     tie.close
     (tie.spec
-    (λ c. search needs)
-    (λ c κs. search needs)
-    (λ c. search needs)
-    (λ c κs. search needs)
-    (λ c. search needs)
-    returns)
+    (λ c. search needs) (λ c κs. search needs) (λ c. search needs) (λ c κs. search needs) (λ c. search needs) returns)

@@ -6,11 +6,13 @@ use Rattle.tally.proofs.elements.tally_unused.Statement.{statement}
 use Rattle.tally.proofs.elements.tally_unused.Tie as tie
 
 returns : tie.Need-returns
-returns c = record {
-  clean = c .both .ensures ∙ ap (λ (b : Bool). c .before .before .before .args .start .clean && b) (c .before .none-above .ensures);
-  refusal = refl;
-  bits = refl;
-}
+returns c =
+    let p = c .before .before .before in
+    record {
+      clean = c .both .ensures ∙ ap (λ (b : Bool). p .args .start .clean && b) (c .before .none-above .ensures);
+      refusal = refl;
+      bits = refl;
+    }
 
 pub tally-unused-spec : {M : Type 1} → statement M
 tally-unused-spec = tie.close (tie.spec (λ c κs. search needs) (λ c κs. search needs) returns)

@@ -17,9 +17,11 @@ returns c = sym (not-nine _ (c .if1 .taken) _)
 returns-2 : tie.Need-returns-2
 unfolding rangeEnds entriesFrom
 returns-2 c =
-    let a = c .before .before .before .before .before .args in
+    let p = c .before .before .before in
+    let q = p .before .before in
+    let a = q .args in
     let w = now (a .words) in
-    rw (eq-eqb (a .code) 9 (c .before .before .before .if1 .left))
+    rw (eq-eqb (a .code) 9 (p .if1 .left))
     (c .ends-refusal .ensures ∙ ap₂ endsRefusal (c .before .before .identity-from .ensures)
     (c .before .identity-from2 .ensures ∙ (λ i. identityFrom (sym (drop-drop 3 (a .from) w) i))))
 
@@ -27,9 +29,4 @@ pub range-ends-spec : {M : Type 1} → statement M
 range-ends-spec =
     tie.close
     (tie.spec
-    returns
-    (λ c κs. search needs)
-    (λ c. search needs)
-    (λ c κs. search needs)
-    (λ c κs. search needs)
-    returns-2)
+    returns (λ c κs. search needs) (λ c. search needs) (λ c κs. search needs) (λ c κs. search needs) returns-2)

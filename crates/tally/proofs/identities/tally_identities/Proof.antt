@@ -18,12 +18,15 @@ use Rattle.tally.proofs.identities.tally_identities.Tie as tie
 fits : (c : tie.Start) → Fits (identities (c .args .list)) (identitiesAt (now (c .args .words)) (c .args .at)) (c .args .start)
 fits c = rw identities-at at (c .pre .1)
 
-entries : (c : tie.After-row-of) → let a = c .before .before .before .args in c .row-of .result .entries ≡ entriesOf (word (now (a .words)) (a .at))
+entries : (c : tie.After-row-of) → let a = c .before .before .before .args in c .row-of .result .entries ≡ entriesOf
+    (word (now (a .words)) (a .at))
 entries c = ap (λ (row : Row). row .entries) (c .row-of .ensures)
 
 tally-element-requires : tie.Need-tally-element-requires
 unfolding identities
-tally-element-requires c κs = let b = c .before .before .before .before in (omega arith, fits-element 4 (rangeRefusal (b .args .list)) (fits-first _ (fits-shape _ _ _ _ (fits b))))
+tally-element-requires c κs =
+    let p = c .before .before .before .before in
+    let b = p in (omega arith, fits-element 4 (rangeRefusal (b .args .list)) (fits-first _ (fits-shape _ _ _ _ (fits b))))
 
 tally-identity-entries-requires : tie.Need-tally-identity-entries-requires
 unfolding identities
@@ -39,24 +42,17 @@ tally-identity-entries-requires c κs =
 returns : tie.Need-returns
 unfolding identities
 returns c =
-    let b = c .before .before .before .before .before .before .before .before .before in
-    let e = refusing 4 (rangeRefusal (b .args .list)) (c .before .before .before .before .tally-element .ensures) (c .before .before .before .before .before .range-refusal .ensures) in
-    let l = tallies-as (ap (places identity noIdentity 8) (entries (c .before .before .before .before .before .before))) (c .before .before .tally-identity-entries .ensures) in
+    let p = c .before .before .before .before in
+    let q = p .before in
+    let r = q .before in
+    let b = r .before .before .before in
+    let e = refusing 4 (rangeRefusal (b .args .list)) (p .tally-element .ensures) (q .range-refusal .ensures) in
+    let l = tallies-as (ap (places identity noIdentity 8) (entries r)) (c .before .before .tally-identity-entries .ensures) in
     rw identities-at (shape _ _ _ _ (then _ e (test _ _ l (c .before .range-ends .ensures) (c .first-refusal .ensures))))
 
 pub tally-identities-spec : {M : Type 1} → statement M
 tally-identities-spec =
     tie.close
     (tie.spec
-    (λ c. search needs)
-    (λ c. search needs)
-    (λ c κs. search needs)
-    (λ c κs. search needs)
-    tally-element-requires
-    (λ c. omega arith)
-    (λ c. search needs)
-    tally-identity-entries-requires
-    (λ c. omega arith)
-    (λ c κs. omega arith)
-    (λ c κs. search needs)
-    returns)
+    (λ c. search needs) (λ c. search needs) (λ c κs. search needs) (λ c κs. search needs) tally-element-requires (λ c. search needs)
+    (λ c. search needs) tally-identity-entries-requires (λ c. search needs) (λ c κs. search needs) (λ c κs. search needs) returns)

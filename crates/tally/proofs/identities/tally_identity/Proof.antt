@@ -11,6 +11,7 @@ use Rattle.tally.specs.Inner.{Fits}
 use Rattle.tally.proofs.Parts.{numbered, then, shape, fits-number, fits-first, fits-next, fits-shape}
 use Rattle.tally.proofs.Unused.{Absent, skipped}
 use Rattle.tally.proofs.Words.{extension-unused}
+use borrow.Author.Needs.{needs}
 use native.Mathlib.Omega.{arith}
 use denote.Ref.{now}
 use Rattle.tally.proofs.identities.tally_identity.Statement.{statement}
@@ -32,38 +33,40 @@ tally-element-requires-2 c κs =
 tally-element-requires-3 : tie.Need-tally-element-requires-3
 unfolding identity extension
 tally-element-requires-3 c κs =
-    let f = c .before .before .before .before in
-    let h = fits-next _ (fits-next _ (fits-shape _ _ _ _ (fits f)) (numbered 24 (c .before .before .before .tally-element .ensures))) (numbered 1 (c .before .before .tally-element2 .ensures)) in
+    let p = c .before .before .before in
+    let f = p .before in
+    let h = fits-next _ (fits-next _ (fits-shape _ _ _ _ (fits f)) (numbered 24 (p .tally-element .ensures)))
+    (numbered 1 (c .before .before .tally-element2 .ensures)) in
     (omega arith, fits-number 24 (rw (eq-eqb (f .identity-from .result .present) 1 (c .if1 .taken)) at h))
 
 returns : tie.Need-returns
 unfolding identity extension
 returns c =
-    let f = c .before .before .before .before .before in
-    subst (λ (x : Identity). Tallies identity x (c .before .before .before .before .before .before .before .args .start) (c .tally-element3 .result)) (f .identity-from .ensures)
-    (shape _ _ _ _ (then _ (numbered 24 (c .before .before .before .before .tally-element .ensures)) (then _ (numbered 1 (c .before .before .before .tally-element2 .ensures))
+    let p = c .before .before .before in
+    let q = p .before in
+    let r = q .before .before .before in
+    let f = q .before in
+    subst (λ (x : Identity). Tallies identity x (r .args .start) (c .tally-element3 .result)) (f .identity-from .ensures)
+    (shape _ _ _ _ (then _ (numbered 24 (q .tally-element .ensures)) (then _ (numbered 1 (p .tally-element2 .ensures))
     (rw (eq-eqb (f .identity-from .result .present) 1 (c .before .if1 .taken)) (numbered 24 (c .tally-element3 .ensures))))))
 
 returns-2 : tie.Need-returns-2
 unfolding identity extension
 returns-2 c =
-    let f = c .before .before .before .before .before in
-    let b = c .before .before .before .before .before .before .before in
+    let p = c .before .before .before in
+    let q = p .before in
+    let f = q .before in
+    let b = q .before .before .before in
     let w = now (b .args .words) in
-    let none = subst (λ (x : Identity). Absent absent (x .extension) (take 1 (drop (b .args .at + 2) w))) (sym (f .identity-from .ensures)) (extension-unused w (b .args .at) (b .pre .0)) in
+    let none = subst (λ (x : Identity). Absent absent (x .extension) (take 1 (drop (b .args .at + 2) w))) (sym (f .identity-from .ensures))
+    (extension-unused w (b .args .at) (b .pre .0)) in
     subst (λ (x : Identity). Tallies identity x (b .args .start) (c .tally-unused .result)) (f .identity-from .ensures)
-    (shape _ _ _ _ (then _ (numbered 24 (c .before .before .before .before .tally-element .ensures)) (then _ (numbered 1 (c .before .before .before .tally-element2 .ensures))
+    (shape _ _ _ _ (then _ (numbered 24 (q .tally-element .ensures)) (then _ (numbered 1 (p .tally-element2 .ensures))
     (rw (ne-eqb (f .identity-from .result .present) 1 (c .before .if1 .left)) (skipped none (c .tally-unused .ensures))))))
 
 pub tally-identity-spec : {M : Type 1} → statement M
 tally-identity-spec =
     tie.close
     (tie.spec
-    (λ c κs. omega arith)
-    tally-element-requires
-    tally-element-requires-2
-    tally-element-requires-3
-    returns
-    (λ c. omega arith)
-    (λ c κs. omega arith)
-    returns-2)
+    (λ c κs. search needs) tally-element-requires tally-element-requires-2 tally-element-requires-3 returns (λ c. search needs)
+    (λ c κs. search needs) returns-2)

@@ -19,7 +19,11 @@ tally-identities-requires c κs = (omega arith, fits-first _ (fits-shape _ _ _ _
 
 tally-identities-requires-2 : tie.Need-tally-identities-requires-2
 unfolding identityPart
-tally-identities-requires-2 c κs = (omega arith, fits-first _ (fits-next _ (fits-shape _ _ _ _ (fits (c .before .before))) (c .tally-identities .ensures)))
+tally-identities-requires-2 c κs = (
+  omega arith,
+  fits-first _ (fits-next _ (fits-shape _ _ _ _ (fits (c .before .before)))
+      (c .tally-identities .ensures)),
+)
 
 tally-identities-requires-3 : tie.Need-tally-identities-requires-3
 unfolding identityPart
@@ -30,20 +34,15 @@ tally-identities-requires-3 c κs =
 returns : tie.Need-returns
 unfolding identityPart
 returns c =
-    let b = c .before .before .before .before .before in
+    let p = c .before .before .before in
+    let b = p .before .before in
     let none = skipped (numbers-unused (now (b .args .words)) (b .args .at) (b .pre .0)) (c .tally-unused .ensures) in
-    rw lists-at (shape _ _ _ _ (then _ (c .before .before .before .tally-identities .ensures) (then _ (c .before .before .tally-identities2 .ensures)
+    rw lists-at (shape _ _ _ _ (then _ (p .tally-identities .ensures) (then _ (c .before .before .tally-identities2 .ensures)
     (then _ (c .before .tally-identities3 .ensures) none))))
 
 pub tally-identity-part-spec : {M : Type 1} → statement M
 tally-identity-part-spec =
     tie.close
     (tie.spec
-    tally-identities-requires
-    (λ c. search needs)
-    tally-identities-requires-2
-    (λ c. search needs)
-    tally-identities-requires-3
-    (λ c. search needs)
-    (λ c κs. search needs)
-    returns)
+    tally-identities-requires (λ c. search needs) tally-identities-requires-2 (λ c. search needs) tally-identities-requires-3
+    (λ c. search needs) (λ c κs. search needs) returns)

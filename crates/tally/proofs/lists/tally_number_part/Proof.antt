@@ -39,7 +39,8 @@ numbers-fit : (c : tie.After-tally-unused2) → let a = c .before .before .befor
     Fits (seq externals (λ x. externals)) (numbersFrom (drop (a .at + 75) w), numbersFrom (drop (a .at + 276) w)) (c .tally-unused2 .result)
 unfolding numberPart
 numbers-fit c =
-    let h = fits-next _ (fits-shape _ _ _ _ (fits (c .before .before .before .before))) (c .before .before .tally-identities .ensures) in
+    let p = c .before .before .before .before in
+    let h = fits-next _ (fits-shape _ _ _ _ (fits p)) (c .before .before .tally-identities .ensures) in
     fits-next _ (fits-next _ h (no-restricted (c .before))) (no-exceptions c)
 
 tally-numbers-requires : tie.Need-tally-numbers-requires
@@ -51,20 +52,14 @@ tally-numbers-requires-2 c κs = (omega arith, fits-next _ (numbers-fit (c .befo
 returns : tie.Need-returns
 unfolding numberPart
 returns c =
-    rw lists-at (shape _ _ _ _ (then _ (c .before .before .before .before .tally-identities .ensures) (then _ (no-restricted (c .before .before .before))
+    let p = c .before .before .before in
+    let q = p .before in
+    rw lists-at (shape _ _ _ _ (then _ (q .tally-identities .ensures) (then _ (no-restricted p)
     (then _ (no-exceptions (c .before .before)) (then _ (c .before .tally-numbers .ensures) (c .tally-numbers2 .ensures))))))
 
 pub tally-number-part-spec : {M : Type 1} → statement M
 tally-number-part-spec =
     tie.close
     (tie.spec
-    tally-identities-requires
-    (λ c. search needs)
-    (λ c κs. search needs)
-    (λ c. search needs)
-    (λ c κs. search needs)
-    (λ c. search needs)
-    tally-numbers-requires
-    (λ c. search needs)
-    tally-numbers-requires-2
-    returns)
+    tally-identities-requires (λ c. search needs) (λ c κs. search needs) (λ c. search needs) (λ c κs. search needs)
+    (λ c. search needs) tally-numbers-requires (λ c. search needs) tally-numbers-requires-2 returns)

@@ -2,6 +2,7 @@
 use lib.ListN.{length-drop}
 use borrow.Author.Tests.{eq-eqb, ne-eqb}
 use Rattle.tally.proofs.Unused.{uncarried-part, skipped}
+use borrow.Author.Needs.{needs}
 use native.Mathlib.Omega.{arith}
 use denote.Ref.{now}
 use Rattle.tally.proofs.lists.tally_part.Statement.{statement}
@@ -34,9 +35,4 @@ pub tally-part-spec : {M : Type 1} → statement M
 tally-part-spec =
     tie.close
     (tie.spec
-    tally-identity-part-requires
-    returns
-    tally-number-part-requires
-    returns-2
-    (λ c κs. omega arith)
-    returns-3)
+    tally-identity-part-requires returns tally-number-part-requires returns-2 (λ c κs. search needs) returns-3)

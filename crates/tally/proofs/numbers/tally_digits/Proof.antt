@@ -18,31 +18,31 @@ add-t8 c =
     let b = c .before .before .before .before .before .before .before .before .before .before in
     let a = b .args in
     let u = c .before .before .before .before .before .before .before .before in
-    omega (arith, c .before .before .bits .ensures, digits-fit (now (a .words)) (narrow (a .n)) (a .from) (u .least .result) (b .pre .0) (few u) (b .pre .1))
+    omega (
+      arith,
+      c .before .before .bits .ensures,
+      digits-fit (now (a .words)) (narrow (a .n)) (a .from) (u .least .result) (b .pre .0) (few u)
+          (b .pre .1),
+    )
 
 returns : tie.Need-returns
 returns c =
-    let b = c .before .before .before .before .before .before .before .before .before .before in
+    let p = c .before .before .before in
+    let q = p .before in
+    let r = q .before in
+    let s = r .before in
+    let t = s .before in
+    let b = t .before .before .before in
     let a = b .args in
-    let u = c .before .before .before .before .before .before .before .before in
+    let u = t .before in
     digits-tallied (now (a .words)) (narrow (a .n)) (a .from) (u .least .result) (b .pre .0) (few u)
-    (c .before .before .before .before .before .before .before .none-above .ensures) (c .before .before .before .before .before .before .none-above2 .ensures) (c .before .before .before .before .before .both .ensures)
-    (c .before .before .before .first-refusal .ensures ∙ ap (first (a .start .refusal)) (c .before .before .before .before .refusal-unless .ensures))
+    (t .none-above .ensures) (s .none-above2 .ensures) (r .both .ensures)
+    (p .first-refusal .ensures ∙ ap (first (a .start .refusal)) (q .refusal-unless .ensures))
     (ap (_+_ (a .start .bits)) (c .before .before .bits .ensures))
 
 pub tally-digits-spec : {M : Type 1} → statement M
 tally-digits-spec =
     tie.close
     (tie.spec
-    (λ c κs. search needs)
-    (λ c κs. omega (arith, c .least .ensures))
-    (λ c. omega (arith, c .before .least .ensures))
-    (λ c. omega (arith, c .before .least .ensures))
-    (λ c κs. omega (arith, c .before .least .ensures))
-    (λ c κs. search needs)
-    (λ c κs. search needs)
-    (λ c κs. search needs)
-    (λ c. omega (arith, c .before .before .before .before .before .least .ensures))
-    (λ c κs. search needs)
-    add-t8
-    returns)
+    (λ c κs. search needs) (λ c κs. search needs) (λ c. search needs) (λ c. search needs) (λ c κs. search needs)
+    (λ c κs. search needs) (λ c κs. search needs) (λ c κs. search needs) (λ c. search needs) (λ c κs. search needs) add-t8 returns)

@@ -16,13 +16,16 @@ fits c = rw number-at at (c .pre .1)
 
 tally-element-requires : tie.Need-tally-element-requires
 unfolding external
-tally-element-requires c κs = (omega arith, fits-element 5 lengthRefusal (fits-first _ (fits-shape _ _ _ _ (fits (c .before .before .before)))))
+tally-element-requires c κs =
+    let p = c .before .before .before in
+    (omega arith, fits-element 5 lengthRefusal (fits-first _ (fits-shape _ _ _ _ (fits p))))
 
 tally-digits-requires : tie.Need-tally-digits-requires
 unfolding external
 tally-digits-requires c κs =
+    let p = c .before .before .before .before in
     let e = length-narrowed (c .tally-element .ensures) (c .before .between-refusal .ensures) in
-    (omega (arith, c .before .before .before .before .pre .0), fits-next _ (fits-shape _ _ _ _ (fits (c .before .before .before .before))) e)
+    (omega (arith, p .pre .0), fits-next _ (fits-shape _ _ _ _ (fits p)) e)
 
 returns : tie.Need-returns
 unfolding external
@@ -34,11 +37,6 @@ pub tally-number-spec : {M : Type 1} → statement M
 tally-number-spec =
     tie.close
     (tie.spec
-    (λ c. search needs)
-    (λ c. search needs)
-    (λ c κs. search needs)
-    tally-element-requires
-    (λ c. omega arith)
+    (λ c. search needs) (λ c. search needs) (λ c κs. search needs) tally-element-requires (λ c. search needs)
     (λ c. omega (arith, c .before .before .shared-slice-known2 .given (c .before .before .before .before .args .at) .fits))
-    tally-digits-requires
-    returns)
+    tally-digits-requires returns)

@@ -19,12 +19,15 @@ use Rattle.tally.proofs.numbers.tally_numbers.Tie as tie
 fits : (c : tie.Start) → Fits (externals) (numbersAt (now (c .args .words)) (c .args .at)) (c .args .start)
 fits c = rw numbers-at at (c .pre .1)
 
-entries : (c : tie.After-row-of) → let a = c .before .before .before .args in c .row-of .result .entries ≡ entriesOf (word (now (a .words)) (a .at))
+entries : (c : tie.After-row-of) → let a = c .before .before .before .args in c .row-of .result .entries ≡ entriesOf
+    (word (now (a .words)) (a .at))
 entries c = ap (λ (row : Row). row .entries) (c .row-of .ensures)
 
 tally-element-requires : tie.Need-tally-element-requires
 unfolding externals
-tally-element-requires c κs = let b = c .before .before .before .before in (omega arith, fits-element 4 (rangeRefusal (Numbers)) (fits-first _ (fits-shape _ _ _ _ (fits b))))
+tally-element-requires c κs =
+    let p = c .before .before .before .before in
+    let b = p in (omega arith, fits-element 4 (rangeRefusal (Numbers)) (fits-first _ (fits-shape _ _ _ _ (fits b))))
 
 tally-number-entries-requires : tie.Need-tally-number-entries-requires
 unfolding externals
@@ -40,21 +43,16 @@ tally-number-entries-requires c κs =
 returns : tie.Need-returns
 unfolding externals
 returns c =
-    let b = c .before .before .before .before .before .before .before in
-    let e = refusing 4 (rangeRefusal (Numbers)) (c .before .before .tally-element .ensures) (c .before .before .before .range-refusal .ensures) in
-    let l = tallies-as (ap (places external noExternal 8) (entries (c .before .before .before .before))) (c .tally-number-entries .ensures) in
+    let p = c .before .before .before in
+    let q = p .before in
+    let b = q .before .before .before in
+    let e = refusing 4 (rangeRefusal (Numbers)) (c .before .before .tally-element .ensures) (p .range-refusal .ensures) in
+    let l = tallies-as (ap (places external noExternal 8) (entries q)) (c .tally-number-entries .ensures) in
     rw numbers-at (shape _ _ _ _ (then _ e l))
 
 pub tally-numbers-spec : {M : Type 1} → statement M
 tally-numbers-spec =
     tie.close
     (tie.spec
-    (λ c. search needs)
-    (λ c. search needs)
-    (λ c κs. search needs)
-    (λ c κs. search needs)
-    tally-element-requires
-    (λ c. omega arith)
-    (λ c. search needs)
-    tally-number-entries-requires
-    returns)
+    (λ c. search needs) (λ c. search needs) (λ c κs. search needs) (λ c κs. search needs) tally-element-requires (λ c. search needs)
+    (λ c. search needs) tally-number-entries-requires returns)

@@ -25,7 +25,9 @@ most c = ap (places (element 3 serviceRefusal) absent 7) (c .least .ensures) ∙
 
 tally-element-requires : tie.Need-tally-element-requires
 unfolding services
-tally-element-requires c κs = (omega arith, fits-element 3 countRefusal (fits-first _ (fits-shape _ _ _ _ (fits (c .before .before .before .before)))))
+tally-element-requires c κs =
+    let p = c .before .before .before .before in
+    (omega arith, fits-element 3 countRefusal (fits-first _ (fits-shape _ _ _ _ (fits p))))
 
 tally-service-entries-requires : tie.Need-tally-service-entries-requires
 unfolding services
@@ -45,12 +47,5 @@ pub tally-services-spec : {M : Type 1} → statement M
 tally-services-spec =
     tie.close
     (tie.spec
-    (λ c. search needs)
-    (λ c. search needs)
-    (λ c. omega (arith, c .shared-slice-known2 .given (c .before .before .args .at) .fits))
-    (λ c κs. search needs)
-    (λ c κs. search needs)
-    tally-element-requires
-    (λ c. omega arith)
-    tally-service-entries-requires
-    returns)
+    (λ c. search needs) (λ c. search needs) (λ c. omega (arith, c .shared-slice-known2 .given (c .before .before .args .at) .fits))
+    (λ c κs. search needs) (λ c κs. search needs) tally-element-requires (λ c. search needs) tally-service-entries-requires returns)

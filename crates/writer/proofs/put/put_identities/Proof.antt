@@ -19,12 +19,15 @@ use Rattle.writer.proofs.put.put_identities.Tie as tie
 room : (c : tie.Start) → Room (identities Identities) (identitiesAt (now (c .args .words)) (c .args .from)) (now (c .args .out)) (c .args .at)
 room c = rw identities-at at (c .pre .1)
 
-entries : (c : tie.After-row-of) → let a = c .before .before .before .before .args in c .row-of .result .entries ≡ entriesOf (word (now (a .words)) (a .from))
+entries : (c : tie.After-row-of) → let a = c .before .before .before .before .args in c .row-of .result .entries ≡ entriesOf
+    (word (now (a .words)) (a .from))
 entries c = ap (λ (row : Row). row .entries) (c .row-of .ensures)
 
 put-element-requires : tie.Need-put-element-requires
 unfolding identities
-put-element-requires c κs = (omega arith, room-element 4 (rangeRefusal Identities) (room-first _ (room-shape _ _ _ _ (room (c .before .before .before .before .before)))))
+put-element-requires c κs =
+    let p = c .before .before .before .before .before in
+    (omega arith, room-element 4 (rangeRefusal Identities) (room-first _ (room-shape _ _ _ _ (room p))))
 
 put-identity-entries-requires : tie.Need-put-identity-entries-requires
 unfolding identities
@@ -40,20 +43,16 @@ put-identity-entries-requires c κs =
 returns : tie.Need-returns
 unfolding identities
 returns c =
-    let code = put-element 4 (rangeRefusal Identities) (c .before .before .before .before .before .before .before .put-element .ensures) in
-    rw identities-at (put-shape _ _ _ _ (put-then _ (room-shape _ _ _ _ (room (c .before .before .before .before .before .before .before .before .before .before .before .before .before))) code
-    (λ h. put-test _ _ (put-used identity noIdentity 8 (entries (c .before .before .before .before .before .before .before .before .before)) (c .before .before .put-identity-entries .ensures)))))
+    let p = c .before .before .before .before .before .before .before in
+    let q = p .before .before in
+    let r = q .before .before .before .before in
+    let code = put-element 4 (rangeRefusal Identities) (p .put-element .ensures) in
+    rw identities-at (put-shape _ _ _ _ (put-then _ (room-shape _ _ _ _ (room r)) code
+    (λ h. put-test _ _ (put-used identity noIdentity 8 (entries q) (c .before .before .put-identity-entries .ensures)))))
 
 pub put-identities-spec : {M : Type 1} → statement M
 put-identities-spec =
     tie.close
     (tie.spec
-    (λ c. search needs)
-    (λ c. search needs)
-    (λ c κs. search needs)
-    put-element-requires
-    (λ c. omega arith)
-    (λ c. search needs)
-    put-identity-entries-requires
-    (λ c. search needs)
-    returns)
+    (λ c. search needs) (λ c. search needs) (λ c κs. search needs) put-element-requires (λ c. search needs) (λ c. search needs)
+    put-identity-entries-requires (λ c. search needs) returns)

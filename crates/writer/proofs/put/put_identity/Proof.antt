@@ -19,8 +19,10 @@ put-run-requires c κs =
 
 returns : tie.Need-returns
 returns c =
-    let b = c .before .before .before .before .before .before .before .before .before .before in
-    rw identity-at (put-as-run 49 _ (extended-run (identityAt (now (b .args .words)) (b .args .from)) (c .before .before .before .before .if1 .taken)) (c .before .before .put-run .ensures))
+    let p = c .before .before .before .before in
+    let b = p .before .before .before .before .before .before in
+    rw identity-at (put-as-run 49 _ (extended-run (identityAt (now (b .args .words)) (b .args .from)) (p .if1 .taken))
+    (c .before .before .put-run .ensures))
 
 put-run-requires-2 : tie.Need-put-run-requires-2
 put-run-requires-2 c κs =
@@ -29,31 +31,30 @@ put-run-requires-2 c κs =
 
 returns-2 : tie.Need-returns-2
 returns-2 c =
-    let b = c .before .before .before .before .before .before .before .before .before .before in
-    rw identity-at (put-as-run 25 _ (plain-run (identityAt (now (b .args .words)) (b .args .from)) (c .before .before .before .before .if1 .left)) (c .before .before .put-run2 .ensures))
+    let p = c .before .before .before .before in
+    let b = p .before .before .before .before .before .before in
+    rw identity-at (put-as-run 25 _ (plain-run (identityAt (now (b .args .words)) (b .args .from)) (p .if1 .left))
+    (c .before .before .put-run2 .ensures))
 
 pub put-identity-spec : {M : Type 1} → statement M
 put-identity-spec =
     tie.close
     (tie.spec
-    (λ c. search needs)
-    (λ c. search needs)
-    (λ c. search needs)
-    (λ c. search needs)
-    (λ c. search needs)
-    (λ c. search needs)
-    (λ c. search needs)
-    (λ c. search needs)
+    (λ c. search needs) (λ c. search needs) (λ c. search needs) (λ c. search needs) (λ c. search needs) (λ c. search needs)
+    (λ c. search needs) (λ c. search needs)
     (λ c. omega (arith, c .shared-slice-known4 .given (c .before .before .before .before .before .args .from) .fits))
     (λ c. omega (arith, c .shared-slice-known4 .given (c .before .before .before .before .before .args .from) .fits))
     (λ c. search needs)
     (λ c. omega (arith, c .shared-slice-known4 .given (c .before .before .before .before .before .args .from) .fits))
-    (λ c. omega (arith, c .before .before .shared-slice-known4 .given (c .before .before .before .before .before .before .before .args .from) .fits))
+    (λ c. omega (
+      arith,
+      c .before .before .shared-slice-known4 .given
+          (c .before .before .before .before .before .before .before .args .from) .fits,
+    ))
     (λ c. search needs)
-    (λ c. omega (arith, c .before .before .shared-slice-known4 .given (c .before .before .before .before .before .before .before .args .from) .fits))
-    put-run-requires
-    (λ c. search needs)
-    returns
-    put-run-requires-2
-    (λ c. search needs)
-    returns-2)
+    (λ c. omega (
+      arith,
+      c .before .before .shared-slice-known4 .given
+          (c .before .before .before .before .before .before .before .args .from) .fits,
+    ))
+    put-run-requires (λ c. search needs) returns put-run-requires-2 (λ c. search needs) returns-2)

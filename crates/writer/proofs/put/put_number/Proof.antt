@@ -25,7 +25,8 @@ small c = rw number-at at (c .pre .1)
 few : (c : tie.Start) → word (now (c .args .words)) (c .args .from) < 255
 few c = length-small (now (c .args .words)) (c .args .from) (omega (arith, c .pre .0)) (small c)
 
-whole : (c : tie.After-with-codes2) → let late = c .before .before in let early = late .before in let a = c .before .before .before .before .before .before .before .before .before .args in
+whole : (c : tie.After-with-codes2) → let late = c .before .before in let early = late .before in
+    let a = c .before .before .before .before .before .before .before .before .before .args in
     external .print (numberAt (now (a .words)) (a .from))
     ≡ number (5 + early .bits .result .0) .print (c .before .with-codes .result / 2 ^ (48 - early .bits .result .0))
     ++ number (late .bits2 .result .0) .print (c .with-codes2 .result / 2 ^ (48 - late .bits2 .result .0))
@@ -38,54 +39,59 @@ whole c =
     let p = sym (early .bits .ensures) in
     let q = sym (late .bits2 .ensures) in
     number-runs (now (b .args .words)) (b .args .from) (omega (arith, b .pre .0)) (small b) _ _ _ _
-    (omega (arith, v .least .ensures)) (omega (arith, v .least .ensures, u .least2 .ensures)) (c .before .with-codes .ensures 4 refl) (c .with-codes2 .ensures 4 refl)
-    ∙ (λ i. number (5 + p i) .print (c .before .with-codes .result / 2 ^ (48 - p i)) ++ number (q i) .print (c .with-codes2 .result / 2 ^ (48 - q i)))
+    (omega (arith, v .least .ensures)) (omega (arith, v .least .ensures, u .least2 .ensures)) (c .before .with-codes .ensures 4 refl)
+    (c .with-codes2 .ensures 4 refl)
+    ∙ (λ i. number (5 + p i) .print (c .before .with-codes .result / 2 ^ (48 - p i)) ++ number (q i) .print
+    (c .with-codes2 .result / 2 ^ (48 - q i)))
 
 with-codes-requires : tie.Need-with-codes-requires
-with-codes-requires c κs = let b = c .before .before .before .before .before .before .before in (omega (arith, few b), omega arith, omega arith, omega arith, omega (arith, b .pre .0))
+with-codes-requires c κs =
+    let p = c .before .before .before .before .before .before .before in
+    let b = p in (omega (arith, few b), omega arith, omega arith, omega arith, omega (arith, b .pre .0))
 
 with-codes-requires-2 : tie.Need-with-codes-requires-2
-with-codes-requires-2 c κs = (omega arith, omega arith, omega arith, omega arith, omega (arith, c .before .before .before .before .before .before .before .before .pre .0))
+with-codes-requires-2 c κs =
+    let p = c .before .before .before .before .before .before .before .before in
+    (omega arith, omega arith, omega arith, omega arith, omega (arith, p .pre .0))
 
 put-run-requires : tie.Need-put-run-requires
 put-run-requires c κs =
-    (omega (arith, c .before .before .before .before .bits .ensures, c .before .before .before .before .before .before .least .ensures), left (number _) _ (whole (c .before)) (room (c .before .before .before .before .before .before .before .before .before .before)))
+    let p = c .before .before .before .before in
+    let q = p .before .before in
+    let r = q .before .before .before .before in
+    (omega (arith, p .bits .ensures, q .least .ensures), left (number _) _ (whole (c .before)) (room r))
 
 put-run-requires-2 : tie.Need-put-run-requires-2
-put-run-requires-2 c κs = (
-  omega (arith, c .before .before .before .before .before .before .before .bits2 .ensures, c .before .before .before .before .before .before .before .before .before .least2 .ensures, c .before .before .before .before .before .before .before .before .before .before .least .ensures),
-  right (whole (c .before .before .before .before .before)) (room (c .before .before .before .before .before .before .before .before .before .before .before .before .before .before)) (c .before .before .before .put-run .ensures),
-)
+put-run-requires-2 c κs =
+    let p = c .before .before .before in
+    let q = p .before .before in
+    let r = q .before .before in
+    let s = r .before .before in
+    let t = s .before in
+    let u = t .before .before .before .before in (
+      omega (arith, r .bits2 .ensures, s .least2 .ensures, t .least .ensures),
+      right (whole q) (room u) (p .put-run .ensures),
+    )
 
 returns : tie.Need-returns
-returns c = rw number-at (join (whole (c .before .before .before .before .before .before .before .before)) (room (c .before .before .before .before .before .before .before .before .before .before .before .before .before .before .before .before .before)) (c .before .before .before .before .before .before .put-run .ensures) (c .before .before .put-run2 .ensures))
+returns c =
+    let p = c .before .before .before .before .before .before in
+    let q = p .before .before in
+    let r = q .before .before .before .before .before .before .before .before .before in
+    rw number-at (join (whole q) (room r) (p .put-run .ensures) (c .before .before .put-run2 .ensures))
 
 pub put-number-spec : {M : Type 1} → statement M
 put-number-spec =
     tie.close
     (tie.spec
-    (λ c. search needs)
-    (λ c. search needs)
-    (λ c. omega (arith, c .shared-slice-known2 .given (c .before .before .before .args .from) .fits))
-    (λ c κs. search needs)
+    (λ c. search needs) (λ c. search needs)
+    (λ c. omega (arith, c .shared-slice-known2 .given (c .before .before .before .args .from) .fits)) (λ c κs. search needs)
     (λ c. omega (arith, c .before .shared-slice-known2 .given (c .before .before .before .before .args .from) .fits))
-    (λ c κs. search needs)
-    (λ c. omega (arith, c .before .least .ensures, c .least2 .ensures))
-    (λ c. omega (arith, c .before .least .ensures))
-    (λ c κs. search needs)
-    (λ c. omega (arith, c .before .before .least .ensures, c .before .least2 .ensures))
-    (λ c κs. search needs)
-    (λ c. omega (arith, c .before .before .before .before .shared-slice-known2 .given (c .before .before .before .before .before .before .before .args .from) .fits))
-    (λ c. omega arith)
-    with-codes-requires
-    (λ c. omega (arith, c .before .before .bits .ensures, c .before .before .before .before .least .ensures))
-    (λ c. omega (arith, c .before .before .bits .ensures, c .before .before .before .before .least .ensures))
-    (λ c. omega arith)
-    with-codes-requires-2
-    (λ c. omega (arith, c .before .before .bits2 .ensures, c .before .before .before .before .before .least .ensures, c .before .before .before .before .least2 .ensures))
-    (λ c. omega (arith, c .before .before .bits2 .ensures, c .before .before .before .before .before .least .ensures, c .before .before .before .before .least2 .ensures))
-    (λ c. omega (arith, c .before .before .before .before .bits .ensures, c .before .before .before .before .before .before .least .ensures))
-    put-run-requires
-    put-run-requires-2
-    (λ c. search needs)
-    returns)
+    (λ c κs. search needs) (λ c. search needs) (λ c. search needs) (λ c κs. search needs) (λ c. search needs) (λ c κs. search needs)
+    (λ c. omega (
+      arith,
+      c .before .before .before .before .shared-slice-known2 .given
+          (c .before .before .before .before .before .before .before .args .from) .fits,
+    ))
+    (λ c. search needs) with-codes-requires (λ c. search needs) (λ c. search needs) (λ c. search needs) with-codes-requires-2
+    (λ c. search needs) (λ c. search needs) (λ c. search needs) put-run-requires put-run-requires-2 (λ c. search needs) returns)

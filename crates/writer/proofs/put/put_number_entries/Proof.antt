@@ -20,13 +20,21 @@ abbrev μ-loop : tie.MeasureT-loop
 put-number-requires : tie.Need-put-number-requires Inv-loop μ-loop
 put-number-requires c κs =
     let l = c .before .before .loop in
-    let b = c .before .before .before .before .before in
-    (omega (arith, l .inv .there, b .pre .0, b .pre .1, c .before .loop-test .taken), each-entry SmallNumber numberFrom 25 8 (l .i) (now (b .args .words)) (b .args .from) (b .pre .2) (omega (arith, b .pre .1, c .before .loop-test .taken)) (l .inv .there), putting-room (l .inv) (c .before .loop-test .taken) (b .pre .1))
+    let b = c .before .before .before .before .before in (
+      omega (arith, l .inv .there, b .pre .0, b .pre .1, c .before .loop-test .taken),
+      each-entry SmallNumber numberFrom 25 8 (l .i)
+          (now (b .args .words)) (b .args .from) (b .pre .2) (omega (arith, b .pre .1, c .before .loop-test .taken)) (l .inv .there),
+      putting-room
+          (l .inv) (c .before .loop-test .taken) (b .pre .1),
+    )
 
 loop-again : tie.Need-loop-again Inv-loop μ-loop
 loop-again c =
+    let q = c .before .before .before .before in
+    let r = q .before in
+    let s = r .before .before .before in
     let p = c .before .before .put-number in
-    putting-next (c .before .before .before .before .before .loop .inv) (c .before .before .before .before .loop-test .taken) (c .before .before .before .before .before .before .before .before .pre .1) (p .kept .0) (p .ensures)
+    putting-next (r .loop .inv) (q .loop-test .taken) (s .pre .1) (p .kept .0) (p .ensures)
 
 returns : tie.Need-returns Inv-loop μ-loop
 returns c = putting-done (c .before .loop .inv) size-noExternal (c .loop-test .left)
@@ -35,13 +43,5 @@ pub put-number-entries-spec : {M : Type 1} → statement M
 put-number-entries-spec =
     tie.close
     (tie.spec
-    Inv-loop
-    μ-loop
-    (λ c. putting-start (c .before .before .pre .3))
-    put-number-requires
-    (λ c. omega (arith, c .before .before .before .before .before .loop .inv .there, c .before .before .before .before .before .before .before .before .pre .0, c .before .before .before .before .before .before .before .before .pre .1, c .before .before .before .before .loop-test .taken))
-    (λ c. omega (arith, c .before .before .before .before .before .before .before .before .pre .1, c .before .before .before .before .loop-test .taken))
-    (λ c. omega (arith, c .before .before .before .before .loop-test .taken))
-    loop-again
-    (λ c. search needs)
-    returns)
+    Inv-loop μ-loop (λ c. putting-start (c .before .before .pre .3)) put-number-requires (λ c. search needs) (λ c. search needs)
+    (λ c. search needs) loop-again (λ c. search needs) returns)

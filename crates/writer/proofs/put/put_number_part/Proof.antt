@@ -26,34 +26,39 @@ put-identities-requires c κs = (omega arith, room-first _ (room-shape _ _ _ _ (
 
 -- after the groups
 numbers-room : (c : tie.After-put-identities) → let a = c .before .before .before .before .args in let w = now (a .words) in
-    Room (seq externals (λ x. externals)) (numbersFrom (drop (a .from + 75) w), numbersFrom (drop (a .from + 276) w)) (c .put-identities .last .0) (c .put-identities .result)
+    Room (seq externals (λ x. externals)) (numbersFrom (drop (a .from + 75) w), numbersFrom (drop (a .from + 276) w))
+    (c .put-identities .last .0) (c .put-identities .result)
 unfolding numberPart
 numbers-room c =
     let h = room-next _ (room-shape _ _ _ _ (room (c .before .before .before .before))) (c .put-identities .ensures) in
     room-next _ (room-next _ h (put-none size-noIdentities)) (put-none size-noIdentities)
 
 put-numbers-requires : tie.Need-put-numbers-requires
-put-numbers-requires c κs = (omega (arith, c .before .before .before .before .before .before .before .pre .0), small (c .before .before .before .before .before .before .before) .0, room-first _ (numbers-room (c .before .before .before)))
+put-numbers-requires c κs =
+    let p = c .before .before .before in
+    let q = p .before .before .before .before in
+    (omega (arith, q .pre .0), small q .0, room-first _ (numbers-room p))
 
 put-numbers-requires-2 : tie.Need-put-numbers-requires-2
 put-numbers-requires-2 c κs =
-    (omega (arith, c .before .before .before .before .before .before .before .before .before .before .before .pre .0), small (c .before .before .before .before .before .before .before .before .before .before .before) .1, room-next _ (numbers-room (c .before .before .before .before .before .before .before)) (c .before .before .before .put-numbers .ensures))
+    let p = c .before .before .before in
+    let q = p .before .before .before .before in
+    let r = q .before .before .before .before in
+    (omega (arith, r .pre .0), small r .1, room-next _ (numbers-room q) (p .put-numbers .ensures))
 
 returns : tie.Need-returns
 unfolding numberPart
 returns c =
-    rw lists-at (put-shape _ _ _ _ (put-then _ (room-shape _ _ _ _ (room (c .before .before .before .before .before .before .before .before .before .before .before .before .before .before))) (c .before .before .before .before .before .before .before .before .before .before .put-identities .ensures)
+    let p = c .before .before .before .before .before .before in
+    let q = p .before .before .before .before in
+    let r = q .before .before .before .before in
+    rw lists-at (put-shape _ _ _ _ (put-then _ (room-shape _ _ _ _ (room r)) (q .put-identities .ensures)
     (λ h. put-then _ h (put-none size-noIdentities) (λ k. put-then _ k (put-none size-noIdentities)
-    (λ m. put-then _ m (c .before .before .before .before .before .before .put-numbers .ensures) (λ n. c .before .before .put-numbers2 .ensures))))))
+    (λ m. put-then _ m (p .put-numbers .ensures) (λ n. c .before .before .put-numbers2 .ensures))))))
 
 pub put-number-part-spec : {M : Type 1} → statement M
 put-number-part-spec =
     tie.close
     (tie.spec
-    put-identities-requires
-    (λ c. omega (arith, c .before .before .before .before .before .before .before .pre .0))
-    put-numbers-requires
-    (λ c. omega (arith, c .before .before .before .before .before .before .before .before .before .before .before .pre .0))
-    put-numbers-requires-2
-    (λ c. search needs)
+    put-identities-requires (λ c. search needs) put-numbers-requires (λ c. search needs) put-numbers-requires-2 (λ c. search needs)
     returns)

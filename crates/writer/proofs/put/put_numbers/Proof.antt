@@ -24,12 +24,15 @@ room c = rw numbers-at at (c .pre .2)
 small : (c : tie.Start) → Each SmallNumber (numbersAt (now (c .args .words)) (c .args .from) .entries)
 small c = rw numbers-at at (c .pre .1)
 
-entries : (c : tie.After-row-of) → let a = c .before .before .before .before .args in c .row-of .result .entries ≡ entriesOf (word (now (a .words)) (a .from))
+entries : (c : tie.After-row-of) → let a = c .before .before .before .before .args in c .row-of .result .entries ≡ entriesOf
+    (word (now (a .words)) (a .from))
 entries c = ap (λ (row : Row). row .entries) (c .row-of .ensures)
 
 put-element-requires : tie.Need-put-element-requires
 unfolding externals
-put-element-requires c κs = (omega arith, room-element 4 (rangeRefusal Numbers) (room-first _ (room-shape _ _ _ _ (room (c .before .before .before .before .before)))))
+put-element-requires c κs =
+    let p = c .before .before .before .before .before in
+    (omega arith, room-element 4 (rangeRefusal Numbers) (room-first _ (room-shape _ _ _ _ (room p))))
 
 put-number-entries-requires : tie.Need-put-number-entries-requires
 unfolding externals
@@ -46,20 +49,16 @@ put-number-entries-requires c κs =
 returns : tie.Need-returns
 unfolding externals
 returns c =
-    let code = put-element 4 (rangeRefusal Numbers) (c .before .before .before .before .before .before .before .put-element .ensures) in
-    rw numbers-at (put-shape _ _ _ _ (put-then _ (room-shape _ _ _ _ (room (c .before .before .before .before .before .before .before .before .before .before .before .before .before))) code
-    (λ h. put-used external noExternal 8 (entries (c .before .before .before .before .before .before .before .before .before)) (c .before .before .put-number-entries .ensures))))
+    let p = c .before .before .before .before .before .before .before in
+    let q = p .before .before in
+    let r = q .before .before .before .before in
+    let code = put-element 4 (rangeRefusal Numbers) (p .put-element .ensures) in
+    rw numbers-at (put-shape _ _ _ _ (put-then _ (room-shape _ _ _ _ (room r)) code
+    (λ h. put-used external noExternal 8 (entries q) (c .before .before .put-number-entries .ensures))))
 
 pub put-numbers-spec : {M : Type 1} → statement M
 put-numbers-spec =
     tie.close
     (tie.spec
-    (λ c. search needs)
-    (λ c. search needs)
-    (λ c κs. search needs)
-    put-element-requires
-    (λ c. omega arith)
-    (λ c. search needs)
-    put-number-entries-requires
-    (λ c. search needs)
-    returns)
+    (λ c. search needs) (λ c. search needs) (λ c κs. search needs) put-element-requires (λ c. search needs) (λ c. search needs)
+    put-number-entries-requires (λ c. search needs) returns)

@@ -23,10 +23,14 @@ whole c =
     services-run (now (b .args .words)) (b .args .from) _ _ (b .pre .0) (c .before .least .ensures) (c .with-codes .ensures 3 refl)
 
 with-codes-requires : tie.Need-with-codes-requires
-with-codes-requires c κs = (omega arith, omega arith, omega arith, omega arith, omega (arith, c .before .before .before .before .pre .0))
+with-codes-requires c κs =
+    let p = c .before .before .before .before in
+    (omega arith, omega arith, omega arith, omega arith, omega (arith, p .pre .0))
 
 put-run-requires : tie.Need-put-run-requires
-put-run-requires c κs = (omega (arith, c .before .before .least .ensures), room-run _ _ (whole (c .before)) (room (c .before .before .before .before .before .before)))
+put-run-requires c κs =
+    let p = c .before .before .before .before .before .before in
+    (omega (arith, c .before .before .least .ensures), room-run _ _ (whole (c .before)) (room p))
 
 returns : tie.Need-returns
 returns c = rw services-at (put-as-run _ _ (whole (c .before .before .before .before)) (c .before .before .put-run .ensures))
@@ -35,17 +39,7 @@ pub put-services-spec : {M : Type 1} → statement M
 put-services-spec =
     tie.close
     (tie.spec
-    (λ c. search needs)
-    (λ c. search needs)
-    (λ c. omega (arith, c .shared-slice-known2 .given (c .before .before .before .args .from) .fits))
-    (λ c κs. search needs)
-    (λ c. omega (arith, c .least .ensures))
-    (λ c. omega arith)
-    (λ c. omega arith)
-    with-codes-requires
-    (λ c. omega (arith, c .before .least .ensures))
-    (λ c. omega (arith, c .before .least .ensures))
-    (λ c. omega (arith, c .before .before .least .ensures))
-    put-run-requires
-    (λ c. search needs)
-    returns)
+    (λ c. search needs) (λ c. search needs)
+    (λ c. omega (arith, c .shared-slice-known2 .given (c .before .before .before .args .from) .fits)) (λ c κs. search needs)
+    (λ c. search needs) (λ c. search needs) (λ c. search needs) with-codes-requires (λ c. search needs) (λ c. search needs)
+    (λ c. search needs) put-run-requires (λ c. search needs) returns)
