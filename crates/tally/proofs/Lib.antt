@@ -1,3 +1,6 @@
 pub mod Parts
-pub mod Places
+pub mod Entries
+pub mod Narrow
 pub mod Digits
+pub mod Unused
+pub mod Words

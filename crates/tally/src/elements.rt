@@ -1,12 +1,14 @@
-// What elements come to: one that the PDU carries, and a number that it does not.
+// What elements come to: one that the PDU carries, and words that it does not.
 use crate::Tally;
 ghost use mathlib.Core.Path.{_≡_};
 ghost use mathlib.Core.Bool.{_&&_};
 ghost use Prim.Native.Nat.{_+_, _≤_};
+ghost use lib.ListN.{length, take, drop};
 ghost use Rattle.bits.specs.Bits.{pick};
 ghost use Rattle.codec.specs.Codec.{first};
-ghost use Rattle.codec.specs.Parts.{numberFault, absent, element};
+ghost use Rattle.codec.specs.Parts.{numberFault, element};
 ghost use Rattle.tally.specs.Tally.{Tallies};
+ghost use Rattle.tally.specs.Inner.{noneAbove, Skips};
 
 // The refusal number of a value by its width: one wider than its element is refused.
 fn width_refusal(width: usize, value: u32) -> u32
@@ -49,15 +51,29 @@ pub(crate) fn tally_element(start: Tally, width: usize, value: u32, refusal: u32
     }
 }
 
-// A number that the PDU does not carry.
-pub(crate) fn tally_absent(start: Tally, value: u32) -> Tally
-    ensures { λ r. ⌜ Tallies absent value start r ⌝ }
+// Whether none of so many words from a place on is above `most`. A loop that tests all of them is quicker than one that stops.
+pub(crate) fn none_above(words: &[u32], from: usize, count: usize, most: u32) -> bool
+    requires { ⌜ from + count ≤ length (now words) ⌝ }
+    ensures { λ r. ⌜ r ≡ noneAbove most (take count (drop from (now (words .entry)))) ⌝ }
 {
-    if value == 0 {
-        return start;
+    let mut none = true;
+    let mut i: usize = 0;
+    while i < count {
+        if most < words[from + i] {
+            none = false;
+        }
+        i += 1;
     }
+    none
+}
+
+// So many words from a place on that the PDU does not carry.
+pub(crate) fn tally_unused(start: Tally, words: &[u32], from: usize, count: usize) -> Tally
+    requires { ⌜ from + count ≤ length (now words) ⌝ }
+    ensures { λ r. ⌜ Skips (take count (drop from (now (words .entry)))) start r ⌝ }
+{
     Tally {
-        clean: false,
+        clean: both(start.clean, none_above(words, from, count, 0)),
         refusal: start.refusal,
         bits: start.bits,
     }

@@ -1,9 +1,8 @@
-// What identities come to: one, the places of a list, and a range type with its entries.
+// What identities among the words come to: one, the entries of a list, and a range type with its entries.
 use crate::Tally;
 use crate::elements::first_refusal;
-use crate::elements::tally_absent;
 use crate::elements::tally_element;
-use grammar::record::Identities;
+use crate::elements::tally_unused;
 use grammar::record::Identity;
 use grammar::site::ListKind;
 use grammar::site::ends_refusal;
@@ -11,87 +10,81 @@ use grammar::site::range_refusal;
 use grammar::site::row_of;
 ghost use mathlib.Core.Path.{_≡_};
 ghost use Prim.Native.Nat.{_+_, _≤_};
-ghost use Rattle.bits.specs.Bits.{pick};
+ghost use lib.ListN.{length, drop};
 ghost use Rattle.codec.specs.Places.{places};
-ghost use Rattle.grammar.specs.Grammar.{identity, noIdentity, rangeEnds, identities, noIdentities};
+ghost use Rattle.grammar.specs.Grammar.{identity, noIdentity, rangeEnds, identities};
+ghost use Rattle.words.specs.RecordWords.{entriesFrom, identityFrom, identitiesFrom};
 ghost use Rattle.tally.specs.Tally.{Tallies};
+ghost use Rattle.tally.specs.Inner.{Fits};
+
+// The three words of an identity.
+fn identity_from(words: &[u32], at: usize) -> Identity
+    requires { ⌜ at + 3 ≤ length (now words) ⌝ }
+    ensures { λ r. ⌜ r ≡ identityFrom (drop at (now (words .entry))) ⌝ }
+{
+    Identity {
+        ssi: words[at],
+        present: words[at + 1],
+        extension: words[at + 2],
+    }
+}
 
 // SSI, extension present, and the extension exactly if that is 1.
-fn tally_identity(start: Tally, e: Identity) -> Tally
-    requires { ⌜ start .bits + 49 ≤ 4096 ⌝ }
-    ensures { λ r. ⌜ Tallies identity e start r ⌝ }
+fn tally_identity(start: Tally, words: &[u32], at: usize) -> Tally
+    requires { ⌜ (at + 3 ≤ length (now words)) × Fits identity (identityFrom (drop at (now words))) start ⌝ }
+    ensures { λ r. ⌜ Tallies identity (identityFrom (drop at (now (words .entry)))) start r ⌝ }
 {
-    let present = e.present;
-    let named = tally_element(start, 24, e.ssi, 0);
-    let told = tally_element(named, 1, present, 0);
-    if present == 1 {
-        return tally_element(told, 24, e.extension, 0);
+    let e = identity_from(words, at);
+    let after_ssi = tally_element(start, 24, e.ssi, 0);
+    let after_present = tally_element(after_ssi, 1, e.present, 0);
+    if e.present == 1 {
+        return tally_element(after_present, 24, e.extension, 0);
     }
-    tally_absent(told, e.extension)
+    tally_unused(after_present, words, at + 2, 1)
 }
 
-// A place of a list, which the PDU carries if it is used.
-fn tally_identity_place(start: Tally, used: bool, e: Identity) -> Tally
-    requires { ⌜ start .bits + 49 ≤ 4096 ⌝ }
-    ensures { λ r. ⌜ Tallies (pick used identity noIdentity) e start r ⌝ }
+// The first n of eight entries are used.
+fn tally_identity_entries(start: Tally, words: &[u32], from: usize, n: usize) -> Tally
+    requires { ⌜ (from + 24 ≤ length (now words)) × (n ≤ 8) × Fits (places identity noIdentity 8 n) (entriesFrom identityFrom 3 8 (drop from (now words))) start ⌝ }
+    ensures { λ r. ⌜ Tallies (places identity noIdentity 8 n) (entriesFrom identityFrom 3 8 (drop from (now (words .entry)))) start r ⌝ }
 {
-    if used {
-        return tally_identity(start, e);
-    }
-    let unnamed = tally_absent(start, e.ssi);
-    let untold = tally_absent(unnamed, e.present);
-    tally_absent(untold, e.extension)
-}
-
-// The first n of eight places are used.
-fn tally_identity_places(start: Tally, entries: [Identity; 8], n: usize) -> Tally
-    requires { ⌜ start .bits + 392 ≤ 4096 ⌝ }
-    ensures { λ r. ⌜ Tallies (places identity noIdentity 8 n) entries start r ⌝ }
-{
+    let end = from + 24;
     let mut sum = start;
+    let mut place = from;
     let mut i: usize = 0;
-    while i < 8 {
-        let e = entries[i];
-        sum = tally_identity_place(sum, i < n, e);
+    while i < n {
+        sum = tally_identity(sum, words, place);
+        place += 3;
         i += 1;
     }
-    sum
+    tally_unused(sum, words, place, end - place)
 }
 
 // Only range type 9 has two ends.
-fn range_ends(code: u32, entries: [Identity; 8]) -> u32
-    ensures { λ r. ⌜ r ≡ rangeEnds code entries ⌝ }
+fn range_ends(code: u32, words: &[u32], from: usize) -> u32
+    requires { ⌜ from + 6 ≤ length (now words) ⌝ }
+    ensures { λ r. ⌜ r ≡ rangeEnds code (entriesFrom identityFrom 3 8 (drop from (now (words .entry)))) ⌝ }
 {
     if code != 9 {
         return 0;
     }
-    let a = entries[0];
-    let b = entries[1];
-    ends_refusal(a, b)
+    let first = identity_from(words, from);
+    let last = identity_from(words, from + 3);
+    ends_refusal(first, last)
 }
 
 // The range type, as many entries as it says, and the test of a range.
-pub(crate) fn tally_identities(start: Tally, list: ListKind, l: Identities) -> Tally
-    requires { ⌜ start .bits + 396 ≤ 4096 ⌝ }
-    ensures { λ r. ⌜ Tallies (identities list) l start r ⌝ }
+pub(crate) fn tally_identities(start: Tally, list: ListKind, words: &[u32], at: usize) -> Tally
+    requires { ⌜ (at + 25 ≤ length (now words)) × Fits (identities list) (identitiesFrom (drop at (now words))) start ⌝ }
+    ensures { λ r. ⌜ Tallies (identities list) (identitiesFrom (drop at (now (words .entry)))) start r ⌝ }
 {
-    let code = l.code;
-    let entries = l.entries;
+    let code = words[at];
     let row = row_of(code);
-    let coded = tally_element(start, 4, code, range_refusal(list, code));
-    let listed = tally_identity_places(coded, entries, row.entries as usize);
+    let after_code = tally_element(start, 4, code, range_refusal(list, code));
+    let after_entries = tally_identity_entries(after_code, words, at + 1, row.entries as usize);
     Tally {
-        clean: listed.clean,
-        refusal: first_refusal(listed.refusal, range_ends(code, entries)),
-        bits: listed.bits,
+        clean: after_entries.clean,
+        refusal: first_refusal(after_entries.refusal, range_ends(code, words, at + 1)),
+        bits: after_entries.bits,
     }
-}
-
-// A list that the PDU does not carry.
-pub(crate) fn tally_no_identities(start: Tally, l: Identities) -> Tally
-    requires { ⌜ start .bits + 392 ≤ 4096 ⌝ }
-    ensures { λ r. ⌜ Tallies noIdentities l start r ⌝ }
-{
-    let entries = l.entries;
-    tally_identity_places(tally_absent(start, l.code), entries, 0)
 }

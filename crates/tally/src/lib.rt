@@ -1,27 +1,28 @@
-// What a record comes to before anything is stored, part by part in the order of reading: whether all that its PDU does not carry is zero,
-// the first refusal, and the length of the PDU.
+// What the words of a record come to before anything is stored, part by part in the order of reading: whether all that its PDU does not
+// carry is zero, the first refusal, and the length of the PDU.
 mod elements;
 mod identities;
 mod lists;
 mod numbers;
 mod services;
 
-use elements::tally_absent;
 use elements::tally_element;
-use grammar::record::Record;
+use elements::tally_unused;
 use grammar::site::ListKind;
 use grammar::site::SS_TYPE;
 use grammar::site::between_refusal;
 use grammar::site::kind_refusal;
 use grammar::site::result_refusal;
 use identities::tally_identities;
-use lists::tally_no_part;
 use lists::tally_part;
-use services::tally_no_services;
 use services::tally_services;
-ghost use Prim.Native.Nat.{_+_, _≤_};
+use words::record::RECORD_WORDS;
+ghost use mathlib.Core.Path.{_≡_};
+ghost use lib.ListN.{length};
 ghost use Rattle.grammar.specs.Grammar.{interrogate, interrogateAck, fromRecord, pdu};
-ghost use Rattle.tally.specs.Tally.{nothing, Tallies};
+ghost use Rattle.words.specs.RecordWords.{recordFrom};
+ghost use Rattle.tally.specs.Tally.{nothing, Tallies, TalliesWords};
+ghost use Rattle.tally.specs.Inner.{Fits};
 
 // What the parts so far come to: all is zero that must be, the first refusal number or 0, and the length in bits.
 // Each function counts one part more, from `start` on.
@@ -32,46 +33,58 @@ pub struct Tally {
 }
 
 // What follows the affected users in an INTERROGATE.
-fn tally_interrogate(start: Tally, r: Record) -> Tally
-    requires { ⌜ start .bits + 2049 ≤ 4096 ⌝ }
-    ensures { λ t. ⌜ Tallies interrogate (fromRecord r .1 .1) start t ⌝ }
+fn tally_interrogate(start: Tally, words: &[u32]) -> Tally
+    requires { ⌜ (length (now words) ≡ 514) × Fits interrogate (fromRecord (recordFrom (now words)) .1 .1) start ⌝ }
+    ensures { λ r. ⌜ Tallies interrogate (fromRecord (recordFrom (now (words .entry))) .1 .1) start r ⌝ }
 {
-    let services = r.services;
-    let lists = r.lists;
-    let asked = tally_element(start, 2, r.asked, between_refusal(1, 3, r.asked));
-    let rest = tally_absent(tally_absent(asked, r.result), r.delivery);
-    tally_no_part(tally_no_services(rest, services), lists)
+    let asked = words[26];
+    let after_asked = tally_element(start, 2, asked, between_refusal(1, 3, asked));
+    tally_unused(after_asked, words, 27, 487)
 }
 
 // And in an INTERROGATE ACK.
-fn tally_interrogate_ack(start: Tally, r: Record) -> Tally
-    requires { ⌜ start .bits + 2049 ≤ 4096 ⌝ }
-    ensures { λ t. ⌜ Tallies interrogateAck (fromRecord r .1 .1) start t ⌝ }
+fn tally_interrogate_ack(start: Tally, words: &[u32]) -> Tally
+    requires { ⌜ (length (now words) ≡ 514) × Fits interrogateAck (fromRecord (recordFrom (now words)) .1 .1) start ⌝ }
+    ensures { λ r. ⌜ Tallies interrogateAck (fromRecord (recordFrom (now (words .entry))) .1 .1) start r ⌝ }
 {
-    let services = r.services;
-    let lists = r.lists;
-    let unasked = tally_absent(start, r.asked);
-    let told = tally_element(unasked, 3, r.result, result_refusal(r.result));
-    let status = tally_element(told, 2, r.delivery, 0);
-    tally_part(tally_services(status, services), r.result, lists)
+    let result = words[27];
+    let not_asked = tally_unused(start, words, 26, 1);
+    let after_result = tally_element(not_asked, 3, result, result_refusal(result));
+    let after_delivery = tally_element(after_result, 2, words[28], 0);
+    let after_services = tally_services(after_delivery, words, 29);
+    tally_part(after_services, result, words, 37)
 }
 
-// The whole record: SS type, PDU type, affected users, and what follows them.
-pub fn tally_record(r: Record) -> Tally
-    ensures { λ t. ⌜ Tallies pdu r nothing t ⌝ }
+// SS type, PDU type, affected users, and what follows them.
+fn tally_record(words: &[u32]) -> Tally
+    requires { ⌜ length (now words) ≡ 514 ⌝ }
+    ensures { λ r. ⌜ Tallies pdu (recordFrom (now (words .entry))) nothing r ⌝ }
 {
-    let kind = r.kind;
-    let affected = r.affected;
+    let kind = words[0];
     let start = Tally {
         clean: true,
         refusal: 0,
         bits: 0,
     };
-    let ss = tally_element(start, 6, SS_TYPE, 0);
-    let typed = tally_element(ss, 5, kind, kind_refusal(kind));
-    let users = tally_identities(typed, ListKind::Users, affected);
+    let after_ss = tally_element(start, 6, SS_TYPE, 0);
+    let after_kind = tally_element(after_ss, 5, kind, kind_refusal(kind));
+    let after_users = tally_identities(after_kind, ListKind::Users, words, 1);
     if kind == 11 {
-        return tally_interrogate(users, r);
+        return tally_interrogate(after_users, words);
     }
-    tally_interrogate_ack(users, r)
+    tally_interrogate_ack(after_users, words)
+}
+
+// The words of a record; words of another count are no record's.
+pub fn tally_words(words: &[u32]) -> Tally
+    ensures { λ r. ⌜ TalliesWords (now (words .entry)) r ⌝ }
+{
+    if words.len() != RECORD_WORDS {
+        return Tally {
+            clean: false,
+            refusal: 0,
+            bits: 0,
+        };
+    }
+    tally_record(words)
 }

@@ -1,76 +1,49 @@
-// What the lists come to, by the interrogation result.
+// What the lists among the words come to, by the interrogation result.
 use crate::Tally;
+use crate::elements::tally_unused;
 use crate::identities::tally_identities;
-use crate::identities::tally_no_identities;
-use crate::numbers::tally_no_numbers;
 use crate::numbers::tally_numbers;
-use grammar::record::Lists;
 use grammar::site::ListKind;
 ghost use Prim.Native.Nat.{_+_, _≤_};
-ghost use Rattle.grammar.specs.Grammar.{identityPart, numberPart, noPart, partOf};
+ghost use lib.ListN.{length, drop};
+ghost use Rattle.grammar.specs.Grammar.{identityPart, numberPart, partOf};
+ghost use Rattle.words.specs.RecordWords.{listsFrom};
 ghost use Rattle.tally.specs.Tally.{Tallies};
+ghost use Rattle.tally.specs.Inner.{Fits};
 
 // Accepted, TETRA identities provided.
-fn tally_identity_part(start: Tally, l: Lists) -> Tally
-    requires { ⌜ start .bits + 2020 ≤ 4096 ⌝ }
-    ensures { λ r. ⌜ Tallies identityPart l start r ⌝ }
+fn tally_identity_part(start: Tally, words: &[u32], at: usize) -> Tally
+    requires { ⌜ (at + 477 ≤ length (now words)) × Fits identityPart (listsFrom (drop at (now words))) start ⌝ }
+    ensures { λ r. ⌜ Tallies identityPart (listsFrom (drop at (now (words .entry)))) start r ⌝ }
 {
-    let groups = l.groups;
-    let restricted = l.restricted;
-    let exceptions = l.exceptions;
-    let numbers = l.numbers;
-    let excepted = l.excepted;
-    let a = tally_identities(start, ListKind::Identities, groups);
-    let b = tally_identities(a, ListKind::Identities, restricted);
-    let c = tally_identities(b, ListKind::Identities, exceptions);
-    let d = tally_no_numbers(c, numbers);
-    tally_no_numbers(d, excepted)
+    let after_groups = tally_identities(start, ListKind::Identities, words, at);
+    let after_restricted = tally_identities(after_groups, ListKind::Identities, words, at + 25);
+    let after_exceptions = tally_identities(after_restricted, ListKind::Identities, words, at + 50);
+    tally_unused(after_exceptions, words, at + 75, 402)
 }
 
 // Accepted, external subscriber numbers provided.
-fn tally_number_part(start: Tally, l: Lists) -> Tally
-    requires { ⌜ start .bits + 2020 ≤ 4096 ⌝ }
-    ensures { λ r. ⌜ Tallies numberPart l start r ⌝ }
+fn tally_number_part(start: Tally, words: &[u32], at: usize) -> Tally
+    requires { ⌜ (at + 477 ≤ length (now words)) × Fits numberPart (listsFrom (drop at (now words))) start ⌝ }
+    ensures { λ r. ⌜ Tallies numberPart (listsFrom (drop at (now (words .entry)))) start r ⌝ }
 {
-    let groups = l.groups;
-    let restricted = l.restricted;
-    let exceptions = l.exceptions;
-    let numbers = l.numbers;
-    let excepted = l.excepted;
-    let a = tally_identities(start, ListKind::Identities, groups);
-    let b = tally_no_identities(a, restricted);
-    let c = tally_no_identities(b, exceptions);
-    let d = tally_numbers(c, numbers);
-    tally_numbers(d, excepted)
+    let after_groups = tally_identities(start, ListKind::Identities, words, at);
+    let no_restricted = tally_unused(after_groups, words, at + 25, 25);
+    let no_exceptions = tally_unused(no_restricted, words, at + 50, 25);
+    let after_numbers = tally_numbers(no_exceptions, words, at + 75);
+    tally_numbers(after_numbers, words, at + 276)
 }
 
-// Any other result.
-pub(crate) fn tally_no_part(start: Tally, l: Lists) -> Tally
-    requires { ⌜ start .bits + 2020 ≤ 4096 ⌝ }
-    ensures { λ r. ⌜ Tallies noPart l start r ⌝ }
-{
-    let groups = l.groups;
-    let restricted = l.restricted;
-    let exceptions = l.exceptions;
-    let numbers = l.numbers;
-    let excepted = l.excepted;
-    let a = tally_no_identities(start, groups);
-    let b = tally_no_identities(a, restricted);
-    let c = tally_no_identities(b, exceptions);
-    let d = tally_no_numbers(c, numbers);
-    tally_no_numbers(d, excepted)
-}
-
-// The part that the interrogation result says.
-pub(crate) fn tally_part(start: Tally, result: u32, l: Lists) -> Tally
-    requires { ⌜ start .bits + 2020 ≤ 4096 ⌝ }
-    ensures { λ r. ⌜ Tallies (partOf result) l start r ⌝ }
+// The part that the interrogation result says; any other result has none.
+pub(crate) fn tally_part(start: Tally, result: u32, words: &[u32], at: usize) -> Tally
+    requires { ⌜ (at + 477 ≤ length (now words)) × Fits (partOf result) (listsFrom (drop at (now words))) start ⌝ }
+    ensures { λ r. ⌜ Tallies (partOf result) (listsFrom (drop at (now (words .entry)))) start r ⌝ }
 {
     if result == 1 {
-        return tally_identity_part(start, l);
+        return tally_identity_part(start, words, at);
     }
     if result == 2 {
-        return tally_number_part(start, l);
+        return tally_number_part(start, words, at);
     }
-    tally_no_part(start, l)
+    tally_unused(start, words, at, 477)
 }

@@ -1,60 +1,44 @@
-// What services come to: the places of their list, and their number with as many of them.
+// What services among the words come to: the entries of their list, and their number with as many of them.
 use crate::Tally;
-use crate::elements::tally_absent;
 use crate::elements::tally_element;
-use grammar::record::Services;
+use crate::elements::tally_unused;
 use grammar::site::between_refusal;
 use grammar::site::service_refusal;
 ghost use Prim.Native.Nat.{_+_, _≤_};
-ghost use Rattle.bits.specs.Bits.{pick};
+ghost use lib.ListN.{length, take, drop};
 ghost use Rattle.codec.specs.Parts.{absent, element};
 ghost use Rattle.codec.specs.Places.{places};
 ghost use Rattle.grammar.specs.SiteSheet.{serviceRefusal};
-ghost use Rattle.grammar.specs.Grammar.{services, noServices};
+ghost use Rattle.grammar.specs.Grammar.{services};
+ghost use Rattle.words.specs.RecordWords.{servicesFrom};
 ghost use Rattle.tally.specs.Tally.{Tallies};
+ghost use Rattle.tally.specs.Inner.{Fits};
 
-// A service, if its place is used.
-fn tally_service_place(start: Tally, used: bool, service: u32) -> Tally
-    requires { ⌜ start .bits + 3 ≤ 4096 ⌝ }
-    ensures { λ r. ⌜ Tallies (pick used (element 3 serviceRefusal) absent) service start r ⌝ }
+// The first n of seven services are used.
+fn tally_service_entries(start: Tally, words: &[u32], from: usize, n: usize) -> Tally
+    requires { ⌜ (from + 7 ≤ length (now words)) × (n ≤ 7) × Fits (places (element 3 serviceRefusal) absent 7 n) (take 7 (drop from (now words))) start ⌝ }
+    ensures { λ r. ⌜ Tallies (places (element 3 serviceRefusal) absent 7 n) (take 7 (drop from (now (words .entry)))) start r ⌝ }
 {
-    if used {
-        return tally_element(start, 3, service, service_refusal(service));
-    }
-    tally_absent(start, service)
-}
-
-// The first n of seven places are used.
-fn tally_service_places(start: Tally, list: [u32; 7], n: usize) -> Tally
-    requires { ⌜ start .bits + 21 ≤ 4096 ⌝ }
-    ensures { λ r. ⌜ Tallies (places (element 3 serviceRefusal) absent 7 n) list start r ⌝ }
-{
+    let end = from + 7;
     let mut sum = start;
+    let mut place = from;
     let mut i: usize = 0;
-    while i < 7 {
-        let service = list[i];
-        sum = tally_service_place(sum, i < n, service);
+    while i < n {
+        let service = words[place];
+        sum = tally_element(sum, 3, service, service_refusal(service));
+        place += 1;
         i += 1;
     }
-    sum
+    tally_unused(sum, words, place, end - place)
 }
 
 // The number of services, and as many services.
-pub(crate) fn tally_services(start: Tally, s: Services) -> Tally
-    requires { ⌜ start .bits + 24 ≤ 4096 ⌝ }
-    ensures { λ r. ⌜ Tallies services s start r ⌝ }
+pub(crate) fn tally_services(start: Tally, words: &[u32], at: usize) -> Tally
+    requires { ⌜ (at + 8 ≤ length (now words)) × Fits services (servicesFrom (drop at (now words))) start ⌝ }
+    ensures { λ r. ⌜ Tallies services (servicesFrom (drop at (now (words .entry)))) start r ⌝ }
 {
-    let count = s.count;
-    let list = s.list;
-    let counted = tally_element(start, 3, count, between_refusal(1, 7, count));
-    tally_service_places(counted, list, count as usize)
-}
-
-// Services that the PDU does not carry.
-pub(crate) fn tally_no_services(start: Tally, s: Services) -> Tally
-    requires { ⌜ start .bits + 21 ≤ 4096 ⌝ }
-    ensures { λ r. ⌜ Tallies noServices s start r ⌝ }
-{
-    let list = s.list;
-    tally_service_places(tally_absent(start, s.count), list, 0)
+    let count = words[at];
+    let used = bits::least(count as usize, 7);
+    let after_count = tally_element(start, 3, count, between_refusal(1, 7, count));
+    tally_service_entries(after_count, words, at + 1, used)
 }

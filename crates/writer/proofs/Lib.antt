@@ -1,6 +1,7 @@
 pub mod Fills
 pub mod Puts
-pub mod PutsPlaces
+pub mod PutsEntries
 pub mod Writes
 pub mod Runs
-pub mod NumberRuns
+pub mod Codes
+pub mod Sized

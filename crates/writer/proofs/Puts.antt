@@ -18,7 +18,8 @@ use Rattle.grammar.specs.declared.record.Identities.{Identities}
 use Rattle.codec.proofs.Sizes.{Within}
 
 -- the buffer stays as long as it is
-kept : {A : Type 0} {c : Codec A} {a : A} {s t : List ℕ} {at m : ℕ} → at + length (c .print a) ≤ 8 * length s → Puts c a s t at m → length t ≡ length s
+kept : {A : Type 0} {c : Codec A} {a : A} {s t : List ℕ} {at m : ℕ} → at + length (c .print a) ≤ 8 * length s → Puts c a s t at m → length t
+    ≡ length s
 kept {c} {a} {s} {t} {at} h p =
     omega (arith, length-bits s, length-bits t, ap length (p .there), length-splice (bits s) at (c .print a) (omega (arith, length-bits s)))
 

@@ -1,6 +1,6 @@
--- Writing worked out by antt: profile A and the INTERROGATE of document 01's P13 and P14, and the order of refusals.
+-- Writing worked out by antt: profile A and the INTERROGATE of document 01's P13 and P14, the order of refusals, and words.
 use mathlib.Core.Path.{_≡_, refl}
-use mathlib.Core.List.{[], _∷_}
+use mathlib.Core.List.{List, [], _∷_, _++_}
 use Prim.Native.Nat.{ℕ}
 use lib.ListN.{replicate}
 use Rattle.bits.specs.Frame.{bytesOf, pack}
@@ -10,7 +10,8 @@ use Rattle.grammar.specs.ProfileRecords.{user, A, asking}
 use Rattle.grammar.specs.declared.record.Identities.{Identities}
 use Rattle.grammar.specs.declared.record.Numbers.{Numbers}
 use Rattle.grammar.specs.declared.record.Record.{Record}
-use Rattle.writer.specs.Write.{recordRefusal, writeRefusal, writeIs, outIs}
+use Rattle.words.specs.RecordWords.{records}
+use Rattle.writer.specs.Write.{recordRefusal, writeRefusal, writeIs, outIs, writeWordsIs}
 use Rattle.writer.specs.declared.Written.{Written}
 use Rattle.writer.specs.declared.Written.the-variants.{Bits, Refused}
 
@@ -121,3 +122,23 @@ too-wide = (refl, refl, refl)
 nothing-written : outIs (told (pair 9 200 199) 0 0 0) (replicate 12 0xff) ≡ replicate 12 0xff
 unfolding writing
 nothing-written = refl
+-- ---- from words
+
+-- an ACK for user 5 with service 1 and one restricted number: its length and the digit 1
+abbrev oneNumber : ℕ → List ℕ
+oneNumber length =
+    12 ∷ 1 ∷ 5 ∷ replicate 23 0 ++ (0 ∷ 2 ∷ 0 ∷ 1 ∷ 1 ∷ replicate 81 0 ++ (1 ∷ length ∷ 1 ∷ replicate 399 0))
+
+from-words : writeWordsIs (oneNumber 1) (replicate 9 0) ≡ Bits (record { 0 = 72 })
+unfolding writing records writeWordsIs
+from-words = refl
+
+-- 257, whose low bits are those of 1, is no length
+wide-word : writeWordsIs (oneNumber 257) (replicate 9 0) ≡ Refused 3
+unfolding writing records writeWordsIs
+wide-word = refl
+
+-- a word too many: 9, before anything else
+word-more : writeWordsIs (257 ∷ oneNumber 1) [] ≡ Refused 9
+unfolding writing records writeWordsIs
+word-more = refl

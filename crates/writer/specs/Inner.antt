@@ -5,7 +5,10 @@ use mathlib.Core.List.{List, [], _∷_, _++_}
 use Prim.Native.Nat.{ℕ, _+_, _*_, _≤_}
 use lib.ListN.{length}
 use Rattle.bits.specs.Bits.{bits, bitsOf, splice}
+use Rattle.bits.specs.Lists.{Each}
 use Rattle.codec.specs.Codec.{Codec}
+use Rattle.grammar.specs.declared.record.Lists.{Lists}
+use Rattle.words.proofs.LegalRecords.{SmallNumber}
 
 -- the buffer has room for the part a of c at a place, and no PDU is longer than 4,096 bits
 pub record Room {A : Type 0} (c : Codec A) (a : A) (out : List ℕ) (at : ℕ) : Type 0 where
@@ -17,11 +20,15 @@ pub record Puts {A : Type 0} (c : Codec A) (a : A) (before after : List ℕ) (at
   pub there : bits after ≡ splice (bits before) at (c .print a)
   pub next : end ≡ at + length (c .print a)
 
--- the bits of digits, four each
-unfoldable pub digitBits : List ℕ → List Bool
-digitBits [] = []
-digitBits (d ∷ l) = bitsOf 4 d ++ digitBits l
+-- no length and no digit is 255, which stands for a word that is wider than a byte
+abbrev pub Small : Lists → Type 0
+Small l = Each SmallNumber (l .numbers .entries) × Each SmallNumber (l .excepted .entries)
 
--- a number that is another with n digits after it, whatever the width of that one
-abbrev pub DigitsAfter : ℕ → ℕ → List ℕ → ℕ → Type 0
-DigitsAfter n start digits run = (w : ℕ) → bitsOf (w + 4 * n) run ≡ bitsOf w start ++ digitBits digits
+-- the bits of codes, w each
+unfoldable pub codeBits : ℕ → List ℕ → List Bool
+codeBits w [] = []
+codeBits w (d ∷ l) = bitsOf w d ++ codeBits w l
+
+-- a number that is another with n codes of w bits after it, whatever the width of that one
+abbrev pub CodesAfter : ℕ → ℕ → ℕ → List ℕ → ℕ → Type 0
+CodesAfter w n start codes run = (v : ℕ) → bitsOf (v + w * n) run ≡ bitsOf v start ++ codeBits w codes

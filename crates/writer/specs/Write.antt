@@ -11,6 +11,7 @@ use Rattle.codec.specs.Parts.{isZero}
 use Rattle.grammar.specs.SiteSheet.{kindRefusal}
 use Rattle.grammar.specs.Grammar.{pdu}
 use Rattle.grammar.specs.declared.record.Record.{Record}
+use Rattle.words.specs.RecordWords.{areRecord, recordFrom}
 use Rattle.writer.specs.declared.Written.{Written}
 use Rattle.writer.specs.declared.Written.the-variants.{Bits, Refused}
 
@@ -43,3 +44,11 @@ writeIs r out = written (lengthOf r) (writeRefusal r (length out))
 -- the lent buffer at exit: the PDU and the bytes after it as they were; on a refusal as it was
 unfoldable pub outIs : Record → List ℕ → List ℕ
 outIs r out = pick (isZero (writeRefusal r (length out))) (pack (pdu .print r) ++ drop (bytesFor (lengthOf r)) out) out
+
+-- ---- from words: another number of them than a record's gives 9, before anything else
+
+unfoldable pub writeWordsIs : List ℕ → List ℕ → Written
+writeWordsIs words out = pick (areRecord (length words)) (writeIs (recordFrom words) out) (Refused 9)
+
+unfoldable pub writeWordsOut : List ℕ → List ℕ → List ℕ
+writeWordsOut words out = pick (areRecord (length words)) (outIs (recordFrom words) out) out

@@ -1,11 +1,14 @@
-// A record written as a PDU into a lent buffer. Everything is checked before the first bit is stored, so a refusal changes no byte.
+// A record written as a PDU into a lent buffer, straight from its words. Everything is checked before the first bit is stored, so a refusal
+// changes no byte.
 mod put;
 
 use crate::put::put_record;
 use bits::BitCount;
 use grammar::record::Record;
 use grammar::site::kind_refusal;
-use tally::tally_record;
+use tally::tally_words;
+use words::record;
+use words::record::RECORD_WORDS;
 ghost use mathlib.Core.Path.{_≡_};
 ghost use mathlib.Core.List.{_++_};
 ghost use Prim.Native.Nat.{_≤_};
@@ -14,7 +17,9 @@ ghost use lib.Dec.{leb};
 ghost use Rattle.bits.specs.Bits.{pick};
 ghost use Rattle.bits.specs.Frame.{bytesFor, pack};
 ghost use Rattle.grammar.specs.Grammar.{pdu};
-ghost use Rattle.writer.specs.Write.{lengthOf, writeRefusal, written, writeIs, outIs};
+ghost use Rattle.words.specs.RecordWords.{recordFrom};
+ghost use Rattle.writer.specs.Inner.{Small};
+ghost use Rattle.writer.specs.Write.{lengthOf, writeRefusal, written, writeIs, outIs, writeWordsIs, writeWordsOut};
 
 // The length of a PDU that was written, or the number with which its record is refused.
 pub enum Written {
@@ -26,23 +31,36 @@ pub enum Written {
 pub fn write(r: Record, out: &mut [u8]) -> Written
     ensures { λ w. ⌜ (w ≡ writeIs r (now (out .entry))) × (now (out .exit) ≡ outIs r (now (out .entry))) ⌝ }
 {
-    let answer = checked(r, out.len());
+    let mut spelt = [0u32; RECORD_WORDS];
+    record::put_record(&mut spelt, r);
+    write_words(&spelt, out)
+}
+
+// The same for a record in 514 words; another number of words gives 9.
+pub fn write_words(words: &[u32], out: &mut [u8]) -> Written
+    ensures { λ w. ⌜ (w ≡ writeWordsIs (now (words .entry)) (now (out .entry))) × (now (out .exit) ≡ writeWordsOut (now (words .entry)) (now (out .entry))) ⌝ }
+{
+    if words.len() != RECORD_WORDS {
+        return Written::Refused(9);
+    }
+    let answer = checked(words, out.len());
     let Written::Bits(_) = answer else {
         return answer;
     };
-    fill(out, r);
+    fill(out, words);
     answer
 }
 
 // The answer for a buffer of `room` bytes: 3 for a PDU type that we do not read or for what must be zero and is not; then the first fault; then 8.
-fn checked(r: Record, room: usize) -> Written
-    ensures { λ w. ⌜ w ≡ written (lengthOf r) (writeRefusal r room) ⌝ }
+fn checked(words: &[u32], room: usize) -> Written
+    requires { ⌜ length (now words) ≡ 514 ⌝ }
+    ensures { λ w. ⌜ w ≡ written (lengthOf (recordFrom (now (words .entry)))) (writeRefusal (recordFrom (now (words .entry))) room) ⌝ }
 {
-    let kind = r.kind;
+    let kind = words[0];
     if kind_refusal(kind) != 0 {
         return Written::Refused(3);
     }
-    let sum = tally_record(r);
+    let sum = tally_words(words);
     if !sum.clean {
         return Written::Refused(3);
     }
@@ -66,10 +84,10 @@ fn room_refusal(room: usize, length: BitCount) -> u32
 }
 
 // The record's elements, and zeros in the unused bits of the last byte.
-fn fill(out: &mut [u8], r: Record)
-    requires { ⌜ bytesFor (lengthOf r) ≤ length (now out) ⌝ }
-    ensures { λ u. ⌜ now (out .exit) ≡ pack (pdu .print r) ++ drop (bytesFor (lengthOf r)) (now (out .entry)) ⌝ }
+fn fill(out: &mut [u8], words: &[u32])
+    requires { ⌜ (length (now words) ≡ 514) × Small (recordFrom (now words) .lists) × (bytesFor (lengthOf (recordFrom (now words))) ≤ length (now out)) ⌝ }
+    ensures { λ u. ⌜ now (out .exit) ≡ pack (pdu .print (recordFrom (now (words .entry)))) ++ drop (bytesFor (lengthOf (recordFrom (now (words .entry))))) (now (out .entry)) ⌝ }
 {
-    let end = put_record(out, r);
+    let end = put_record(out, words);
     bits::put(out, end, 8 * BitCount(end).bytes() - end, 0);
 }

@@ -1,22 +1,18 @@
-// A record that is not refused, put into the lent buffer part by part, each element straight into its place.
+// A record that is not refused, put into the lent buffer part by part, each element straight from its words into its place.
 use bits::DigitCount;
-use grammar::record::Identities;
-use grammar::record::Identity;
-use grammar::record::Lists;
-use grammar::record::Number;
-use grammar::record::Numbers;
-use grammar::record::Record;
-use grammar::record::Services;
 use grammar::site::SS_TYPE;
 use grammar::site::row_of;
-ghost use Prim.Native.Nat.{_+_, _≤_, _<_};
-ghost use lib.ListN.{take, drop};
-ghost use Rattle.codec.specs.Parts.{number, absent, element};
+ghost use mathlib.Core.Path.{_≡_};
+ghost use Prim.Native.Nat.{ℕ, _+_, _^_, _≤_, _<_};
+ghost use lib.ListN.{length, take, drop};
+ghost use Rattle.bits.specs.Lists.{Each};
+ghost use Rattle.codec.specs.Parts.{number};
 ghost use Rattle.codec.specs.Places.{places};
-ghost use Rattle.grammar.specs.SiteSheet.{serviceRefusal};
 ghost use Rattle.grammar.specs.Grammar.{identity, noIdentity, identities, external, noExternal, externals, services, identityPart, numberPart, partOf, interrogateAck, restOf, fromRecord, pdu};
 ghost use Rattle.grammar.specs.declared.site.ListKind.the-variants as of;
-ghost use Rattle.writer.specs.Inner.{Room, Puts, DigitsAfter};
+ghost use Rattle.words.specs.RecordWords.{entriesFrom, identityFrom, identitiesFrom, numberFrom, numbersFrom, servicesFrom, listsFrom, recordFrom};
+ghost use Rattle.words.proofs.LegalRecords.{SmallNumber};
+ghost use Rattle.writer.specs.Inner.{Room, Puts, Small, CodesAfter};
 
 // Puts a run of up to 57 bits, the low ones of a number, at a place, and gives the next place, as each function below does.
 fn put_run(out: &mut [u8], at: usize, width: usize, run: u64) -> usize
@@ -34,189 +30,154 @@ fn put_element(out: &mut [u8], at: usize, width: usize, value: u32) -> usize
     put_run(out, at, width, value as u64)
 }
 
+// A number, and so many codes after it: the words from a place on, each below `scale`.
+fn with_codes(start: u64, words: &[u32], from: usize, count: usize, scale: u64) -> u64
+    requires { ⌜ (start < 256) × (1 ≤ scale) × (scale ≤ 16) × (count ≤ 12) × (from + count ≤ length (now words)) ⌝ }
+    ensures { λ r. ⌜ ((w : ℕ) → scale ≡ 2 ^ w → CodesAfter w count start (take count (drop from (now (words .entry)))) r) ⌝ }
+{
+    let mut run = start;
+    let mut i: usize = 0;
+    while i < count {
+        run = run * scale + (words[from + i] as u64) % scale;
+        i += 1;
+    }
+    run
+}
+
 // ---- identities
 
 // SSI, extension present, and the extension exactly if that is 1.
-fn put_identity(out: &mut [u8], at: usize, e: Identity) -> usize
-    requires { ⌜ Room identity e (now out) at ⌝ }
-    ensures { λ r. ⌜ Puts identity e (now (out .entry)) (now (out .exit)) at r ⌝ }
+fn put_identity(out: &mut [u8], at: usize, words: &[u32], from: usize) -> usize
+    requires { ⌜ (from + 3 ≤ length (now words)) × Room identity (identityFrom (drop from (now words))) (now out) at ⌝ }
+    ensures { λ r. ⌜ Puts identity (identityFrom (drop from (now (words .entry)))) (now (out .entry)) (now (out .exit)) at r ⌝ }
 {
-    let present = e.present;
-    let told = (e.ssi as u64) * 2 + (present % 2) as u64;
+    let ssi = words[from];
+    let present = words[from + 1];
+    let extension = words[from + 2];
+    let head = (ssi as u64) * 2 + (present % 2) as u64;
     if present == 1 {
-        return put_run(
-            out,
-            at,
-            49,
-            told * 16777216 + (e.extension % 16777216) as u64,
-        );
+        return put_run(out, at, 49, head * 16777216 + (extension % 16777216) as u64);
     }
-    put_run(out, at, 25, told)
+    put_run(out, at, 25, head)
 }
 
-// The first n places of a list.
-fn put_identity_places(out: &mut [u8], at: usize, entries: [Identity; 8], n: usize) -> usize
-    requires { ⌜ Room (places identity noIdentity 8 n) entries (now out) at ⌝ }
-    ensures { λ r. ⌜ Puts (places identity noIdentity 8 n) entries (now (out .entry)) (now (out .exit)) at r ⌝ }
+// The first n of eight entries.
+fn put_identity_entries(out: &mut [u8], at: usize, words: &[u32], from: usize, n: usize) -> usize
+    requires { ⌜ (from + 24 ≤ length (now words)) × (n ≤ 8) × Room (places identity noIdentity 8 n) (entriesFrom identityFrom 3 8 (drop from (now words))) (now out) at ⌝ }
+    ensures { λ r. ⌜ Puts (places identity noIdentity 8 n) (entriesFrom identityFrom 3 8 (drop from (now (words .entry)))) (now (out .entry)) (now (out .exit)) at r ⌝ }
 {
     let mut next = at;
+    let mut place = from;
     let mut i: usize = 0;
-    while i < 8 {
-        if n <= i {
-            return next;
-        }
-        let e = entries[i];
-        next = put_identity(out, next, e);
+    while i < n {
+        next = put_identity(out, next, words, place);
+        place += 3;
         i += 1;
     }
     next
 }
 
 // The range type, and as many entries as it says.
-fn put_identities(out: &mut [u8], at: usize, l: Identities) -> usize
-    requires { ⌜ Room (identities of.Identities) l (now out) at ⌝ }
-    ensures { λ r. ⌜ Puts (identities of.Identities) l (now (out .entry)) (now (out .exit)) at r ⌝ }
+fn put_identities(out: &mut [u8], at: usize, words: &[u32], from: usize) -> usize
+    requires { ⌜ (from + 25 ≤ length (now words)) × Room (identities of.Identities) (identitiesFrom (drop from (now words))) (now out) at ⌝ }
+    ensures { λ r. ⌜ Puts (identities of.Identities) (identitiesFrom (drop from (now (words .entry)))) (now (out .entry)) (now (out .exit)) at r ⌝ }
 {
-    let code = l.code;
-    let entries = l.entries;
+    let code = words[from];
     let row = row_of(code);
-    let coded = put_element(out, at, 4, code);
-    put_identity_places(out, coded, entries, row.entries as usize)
+    let after_code = put_element(out, at, 4, code);
+    put_identity_entries(out, after_code, words, from + 1, row.entries as usize)
 }
 
 // ---- external numbers
 
-// A number, and twelve digits after it.
-fn with_twelve(start: u64, digits: [u8; 24], from: usize) -> u64
-    requires { ⌜ (start < 256) × (from + 12 ≤ 24) ⌝ }
-    ensures { λ r. ⌜ DigitsAfter 12 start (take 12 (drop from digits)) r ⌝ }
-{
-    let mut run = start;
-    let mut i: usize = 0;
-    while i < 12 {
-        run = run * 16 + (digits[from + i] % 16) as u64;
-        i += 1;
-    }
-    run
-}
-
 // The length, and as many digits: up to twelve with it, and up to twelve more.
-fn put_number(out: &mut [u8], at: usize, e: Number) -> usize
-    requires { ⌜ Room external e (now out) at ⌝ }
-    ensures { λ r. ⌜ Puts external e (now (out .entry)) (now (out .exit)) at r ⌝ }
+fn put_number(out: &mut [u8], at: usize, words: &[u32], from: usize) -> usize
+    requires { ⌜ (from + 25 ≤ length (now words)) × SmallNumber (numberFrom (drop from (now words))) × Room external (numberFrom (drop from (now words))) (now out) at ⌝ }
+    ensures { λ r. ⌜ Puts external (numberFrom (drop from (now (words .entry)))) (now (out .entry)) (now (out .exit)) at r ⌝ }
 {
-    let length = e.length;
-    let count = length.0;
-    let digits = e.digits;
+    let count = words[from];
     let early = bits::least(count as usize, 12);
     let late = bits::least(count as usize, 24) - early;
     let early_bits = DigitCount(early as u8).bits().0;
     let late_bits = DigitCount(late as u8).bits().0;
-    let first = with_twelve(count as u64, digits, 0) >> (48 - early_bits);
-    let second = with_twelve(0, digits, 12) >> (48 - late_bits);
+    let first = with_codes(count as u64, words, from + 1, 12, 16) >> (48 - early_bits);
+    let second = with_codes(0, words, from + 13, 12, 16) >> (48 - late_bits);
     let middle = put_run(out, at, 5 + early_bits, first);
     put_run(out, middle, late_bits, second)
 }
 
-// The first n places of a list.
-fn put_number_places(out: &mut [u8], at: usize, entries: [Number; 8], n: usize) -> usize
-    requires { ⌜ Room (places external noExternal 8 n) entries (now out) at ⌝ }
-    ensures { λ r. ⌜ Puts (places external noExternal 8 n) entries (now (out .entry)) (now (out .exit)) at r ⌝ }
+// The first n of eight entries.
+fn put_number_entries(out: &mut [u8], at: usize, words: &[u32], from: usize, n: usize) -> usize
+    requires { ⌜ (from + 200 ≤ length (now words)) × (n ≤ 8) × Each SmallNumber (entriesFrom numberFrom 25 8 (drop from (now words))) × Room (places external noExternal 8 n) (entriesFrom numberFrom 25 8 (drop from (now words))) (now out) at ⌝ }
+    ensures { λ r. ⌜ Puts (places external noExternal 8 n) (entriesFrom numberFrom 25 8 (drop from (now (words .entry)))) (now (out .entry)) (now (out .exit)) at r ⌝ }
 {
     let mut next = at;
+    let mut place = from;
     let mut i: usize = 0;
-    while i < 8 {
-        if n <= i {
-            return next;
-        }
-        let e = entries[i];
-        next = put_number(out, next, e);
+    while i < n {
+        next = put_number(out, next, words, place);
+        place += 25;
         i += 1;
     }
     next
 }
 
 // The range type, and as many numbers as it says.
-fn put_numbers(out: &mut [u8], at: usize, l: Numbers) -> usize
-    requires { ⌜ Room externals l (now out) at ⌝ }
-    ensures { λ r. ⌜ Puts externals l (now (out .entry)) (now (out .exit)) at r ⌝ }
+fn put_numbers(out: &mut [u8], at: usize, words: &[u32], from: usize) -> usize
+    requires { ⌜ (from + 201 ≤ length (now words)) × Each SmallNumber (numbersFrom (drop from (now words)) .entries) × Room externals (numbersFrom (drop from (now words))) (now out) at ⌝ }
+    ensures { λ r. ⌜ Puts externals (numbersFrom (drop from (now (words .entry)))) (now (out .entry)) (now (out .exit)) at r ⌝ }
 {
-    let code = l.code;
-    let entries = l.entries;
+    let code = words[from];
     let row = row_of(code);
-    let coded = put_element(out, at, 4, code);
-    put_number_places(out, coded, entries, row.entries as usize)
+    let after_code = put_element(out, at, 4, code);
+    put_number_entries(out, after_code, words, from + 1, row.entries as usize)
 }
 
 // ---- services
 
-// The first n services.
-fn put_service_places(out: &mut [u8], at: usize, list: [u32; 7], n: usize) -> usize
-    requires { ⌜ Room (places (element 3 serviceRefusal) absent 7 n) list (now out) at ⌝ }
-    ensures { λ r. ⌜ Puts (places (element 3 serviceRefusal) absent 7 n) list (now (out .entry)) (now (out .exit)) at r ⌝ }
+// The number of services, and as many services, as one run.
+fn put_services(out: &mut [u8], at: usize, words: &[u32], from: usize) -> usize
+    requires { ⌜ (from + 8 ≤ length (now words)) × Room services (servicesFrom (drop from (now words))) (now out) at ⌝ }
+    ensures { λ r. ⌜ Puts services (servicesFrom (drop from (now (words .entry)))) (now (out .entry)) (now (out .exit)) at r ⌝ }
 {
-    let mut next = at;
-    let mut i: usize = 0;
-    while i < 7 {
-        if n <= i {
-            return next;
-        }
-        let service = list[i];
-        next = put_element(out, next, 3, service);
-        i += 1;
-    }
-    next
-}
-
-// The number of services, and as many services.
-fn put_services(out: &mut [u8], at: usize, s: Services) -> usize
-    requires { ⌜ Room services s (now out) at ⌝ }
-    ensures { λ r. ⌜ Puts services s (now (out .entry)) (now (out .exit)) at r ⌝ }
-{
-    let count = s.count;
-    let list = s.list;
-    let counted = put_element(out, at, 3, count);
-    put_service_places(out, counted, list, count as usize)
+    let count = words[from];
+    let used_bits = 3 * bits::least(count as usize, 7);
+    let run = with_codes((count % 8) as u64, words, from + 1, 7, 8) >> (21 - used_bits);
+    put_run(out, at, 3 + used_bits, run)
 }
 
 // ---- the lists, by the interrogation result
 
 // Accepted, TETRA identities provided.
-fn put_identity_part(out: &mut [u8], at: usize, l: Lists) -> usize
-    requires { ⌜ Room identityPart l (now out) at ⌝ }
-    ensures { λ r. ⌜ Puts identityPart l (now (out .entry)) (now (out .exit)) at r ⌝ }
+fn put_identity_part(out: &mut [u8], at: usize, words: &[u32], from: usize) -> usize
+    requires { ⌜ (from + 477 ≤ length (now words)) × Room identityPart (listsFrom (drop from (now words))) (now out) at ⌝ }
+    ensures { λ r. ⌜ Puts identityPart (listsFrom (drop from (now (words .entry)))) (now (out .entry)) (now (out .exit)) at r ⌝ }
 {
-    let groups = l.groups;
-    let restricted = l.restricted;
-    let exceptions = l.exceptions;
-    let a = put_identities(out, at, groups);
-    let b = put_identities(out, a, restricted);
-    put_identities(out, b, exceptions)
+    let after_groups = put_identities(out, at, words, from);
+    let after_restricted = put_identities(out, after_groups, words, from + 25);
+    put_identities(out, after_restricted, words, from + 50)
 }
 
 // Accepted, external subscriber numbers provided.
-fn put_number_part(out: &mut [u8], at: usize, l: Lists) -> usize
-    requires { ⌜ Room numberPart l (now out) at ⌝ }
-    ensures { λ r. ⌜ Puts numberPart l (now (out .entry)) (now (out .exit)) at r ⌝ }
+fn put_number_part(out: &mut [u8], at: usize, words: &[u32], from: usize) -> usize
+    requires { ⌜ (from + 477 ≤ length (now words)) × Small (listsFrom (drop from (now words))) × Room numberPart (listsFrom (drop from (now words))) (now out) at ⌝ }
+    ensures { λ r. ⌜ Puts numberPart (listsFrom (drop from (now (words .entry)))) (now (out .entry)) (now (out .exit)) at r ⌝ }
 {
-    let groups = l.groups;
-    let numbers = l.numbers;
-    let excepted = l.excepted;
-    let a = put_identities(out, at, groups);
-    let b = put_numbers(out, a, numbers);
-    put_numbers(out, b, excepted)
+    let after_groups = put_identities(out, at, words, from);
+    let after_numbers = put_numbers(out, after_groups, words, from + 75);
+    put_numbers(out, after_numbers, words, from + 276)
 }
 
 // The part that the interrogation result says; any other result has none.
-fn put_part(out: &mut [u8], at: usize, result: u32, l: Lists) -> usize
-    requires { ⌜ Room (partOf result) l (now out) at ⌝ }
-    ensures { λ r. ⌜ Puts (partOf result) l (now (out .entry)) (now (out .exit)) at r ⌝ }
+fn put_part(out: &mut [u8], at: usize, result: u32, words: &[u32], from: usize) -> usize
+    requires { ⌜ (from + 477 ≤ length (now words)) × Small (listsFrom (drop from (now words))) × Room (partOf result) (listsFrom (drop from (now words))) (now out) at ⌝ }
+    ensures { λ r. ⌜ Puts (partOf result) (listsFrom (drop from (now (words .entry)))) (now (out .entry)) (now (out .exit)) at r ⌝ }
 {
     if result == 1 {
-        return put_identity_part(out, at, l);
+        return put_identity_part(out, at, words, from);
     }
     if result == 2 {
-        return put_number_part(out, at, l);
+        return put_number_part(out, at, words, from);
     }
     at
 }
@@ -224,38 +185,28 @@ fn put_part(out: &mut [u8], at: usize, result: u32, l: Lists) -> usize
 // ---- the two PDUs
 
 // What follows the affected users in an INTERROGATE ACK.
-fn put_interrogate_ack(out: &mut [u8], at: usize, r: Record) -> usize
-    requires { ⌜ Room interrogateAck (fromRecord r .1 .1) (now out) at ⌝ }
-    ensures { λ p. ⌜ Puts interrogateAck (fromRecord r .1 .1) (now (out .entry)) (now (out .exit)) at p ⌝ }
+fn put_interrogate_ack(out: &mut [u8], at: usize, words: &[u32]) -> usize
+    requires { ⌜ (length (now words) ≡ 514) × Small (recordFrom (now words) .lists) × Room interrogateAck (fromRecord (recordFrom (now words)) .1 .1) (now out) at ⌝ }
+    ensures { λ r. ⌜ Puts interrogateAck (fromRecord (recordFrom (now (words .entry))) .1 .1) (now (out .entry)) (now (out .exit)) at r ⌝ }
 {
-    let services = r.services;
-    let lists = r.lists;
-    let told = put_element(out, at, 3, r.result);
-    let status = put_element(out, told, 2, r.delivery);
-    let listed = put_services(out, status, services);
-    put_part(out, listed, r.result, lists)
+    let result = words[27];
+    let after_result = put_element(out, at, 3, result);
+    let after_delivery = put_element(out, after_result, 2, words[28]);
+    let after_services = put_services(out, after_delivery, words, 29);
+    put_part(out, after_services, result, words, 37)
 }
 
-// What follows the affected users: in an INTERROGATE the interrogation type alone.
-fn put_rest(out: &mut [u8], at: usize, r: Record) -> usize
-    requires { ⌜ Room (restOf (r .kind)) (fromRecord r .1 .1) (now out) at ⌝ }
-    ensures { λ p. ⌜ Puts (restOf (r .kind)) (fromRecord r .1 .1) (now (out .entry)) (now (out .exit)) at p ⌝ }
+// The whole record, from the first bit on: SS type, PDU type, affected users, and what follows them.
+pub(crate) fn put_record(out: &mut [u8], words: &[u32]) -> usize
+    requires { ⌜ (length (now words) ≡ 514) × Small (recordFrom (now words) .lists) × Room pdu (recordFrom (now words)) (now out) 0 ⌝ }
+    ensures { λ r. ⌜ Puts pdu (recordFrom (now (words .entry))) (now (out .entry)) (now (out .exit)) 0 r ⌝ }
 {
-    let kind = r.kind;
+    let kind = words[0];
+    let after_ss = put_element(out, 0, 6, SS_TYPE);
+    let after_kind = put_element(out, after_ss, 5, kind);
+    let after_users = put_identities(out, after_kind, words, 1);
     if kind == 11 {
-        return put_element(out, at, 2, r.asked);
+        return put_element(out, after_users, 2, words[26]);
     }
-    put_interrogate_ack(out, at, r)
-}
-
-// The whole record, from the first bit on.
-pub(crate) fn put_record(out: &mut [u8], r: Record) -> usize
-    requires { ⌜ Room pdu r (now out) 0 ⌝ }
-    ensures { λ p. ⌜ Puts pdu r (now (out .entry)) (now (out .exit)) 0 p ⌝ }
-{
-    let affected = r.affected;
-    let ss = put_element(out, 0, 6, SS_TYPE);
-    let typed = put_element(out, ss, 5, r.kind);
-    let users = put_identities(out, typed, affected);
-    put_rest(out, users, r)
+    put_interrogate_ack(out, after_users, words)
 }

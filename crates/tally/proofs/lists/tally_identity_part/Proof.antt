@@ -1,53 +1,48 @@
--- The lists of identities are carried, those of numbers are not. Assumes nothing.
-use native.Mathlib.Omega.{arith}
-use borrow.Author.Needs.{needs}
+-- The three lists of identities; the numbers are not carried. Assumes nothing.
 use Rattle.grammar.specs.Grammar.{identityPart}
-use Rattle.grammar.specs.declared.site.ListKind.the-variants.{Identities}
-use Rattle.grammar.proofs.Sizes.{size-identities, size-noExternals}
-use Rattle.tally.proofs.Parts.{then, shape, within}
+use Rattle.tally.specs.Inner.{Fits}
+use Rattle.tally.proofs.Parts.{then, shape, fits-first, fits-next, fits-shape}
+use Rattle.tally.proofs.Unused.{skipped}
+use Rattle.tally.proofs.Words.{listsAt, lists-at, numbers-unused}
+use borrow.Author.Needs.{needs}
+use native.Mathlib.Omega.{arith}
+use denote.Ref.{now}
 use Rattle.tally.proofs.lists.tally_identity_part.Statement.{statement}
 use Rattle.tally.proofs.lists.tally_identity_part.Tie as tie
 
+fits : (c : tie.Start) → Fits identityPart (listsAt (now (c .args .words)) (c .args .at)) (c .args .start)
+fits c = rw lists-at at (c .pre .1)
+
+tally-identities-requires : tie.Need-tally-identities-requires
+unfolding identityPart
+tally-identities-requires c κs = (omega arith, fits-first _ (fits-shape _ _ _ _ (fits (c .before))))
+
 tally-identities-requires-2 : tie.Need-tally-identities-requires-2
-tally-identities-requires-2 c κs =
-    let groups = within (size-identities Identities) (c .tally-identities .ensures) in
-    omega arith
+unfolding identityPart
+tally-identities-requires-2 c κs = (
+  omega arith,
+  fits-first _ (fits-next _ (fits-shape _ _ _ _ (fits (c .before .before)))
+      (c .tally-identities .ensures)),
+)
 
 tally-identities-requires-3 : tie.Need-tally-identities-requires-3
+unfolding identityPart
 tally-identities-requires-3 c κs =
-    let groups = within (size-identities Identities) (c .before .tally-identities .ensures) in
-    let restricted = within (size-identities Identities) (c .tally-identities2 .ensures) in
-    omega arith
-
-tally-no-numbers-requires : tie.Need-tally-no-numbers-requires
-tally-no-numbers-requires c κs =
-    let groups = within (size-identities Identities) (c .before .before .tally-identities .ensures) in
-    let restricted = within (size-identities Identities) (c .before .tally-identities2 .ensures) in
-    let exceptions = within (size-identities Identities) (c .tally-identities3 .ensures) in
-    omega arith
-
-tally-no-numbers-requires-2 : tie.Need-tally-no-numbers-requires-2
-tally-no-numbers-requires-2 c κs =
-    let groups = within (size-identities Identities) (c .before .before .before .tally-identities .ensures) in
-    let restricted = within (size-identities Identities) (c .before .before .tally-identities2 .ensures) in
-    let exceptions = within (size-identities Identities) (c .before .tally-identities3 .ensures) in
-    let numbers = within size-noExternals (c .tally-no-numbers .ensures) in
-    omega arith
+    let h = fits-next _ (fits-shape _ _ _ _ (fits (c .before .before .before))) (c .before .tally-identities .ensures) in
+    (omega arith, fits-first _ (fits-next _ h (c .tally-identities2 .ensures)))
 
 returns : tie.Need-returns
 unfolding identityPart
 returns c =
-    let d = c .before .before in
-    shape _ _ _ _ (then _ (d .before .before .tally-identities .ensures) (then _ (d .before .tally-identities2 .ensures) (then _ (d .tally-identities3 .ensures)
-    (then _ (c .before .tally-no-numbers .ensures) (c .tally-no-numbers2 .ensures)))))
+    let p = c .before .before .before in
+    let b = p .before .before in
+    let none = skipped (numbers-unused (now (b .args .words)) (b .args .at) (b .pre .0)) (c .tally-unused .ensures) in
+    rw lists-at (shape _ _ _ _ (then _ (p .tally-identities .ensures) (then _ (c .before .before .tally-identities2 .ensures)
+    (then _ (c .before .tally-identities3 .ensures) none))))
 
 pub tally-identity-part-spec : {M : Type 1} → statement M
 tally-identity-part-spec =
     tie.close
     (tie.spec
-    (λ c κs. search needs)
-    tally-identities-requires-2
-    tally-identities-requires-3
-    tally-no-numbers-requires
-    tally-no-numbers-requires-2
-    returns)
+    tally-identities-requires (λ c. search needs) tally-identities-requires-2 (λ c. search needs) tally-identities-requires-3
+    (λ c. search needs) (λ c κs. search needs) returns)

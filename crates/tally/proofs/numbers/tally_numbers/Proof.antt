@@ -1,36 +1,58 @@
--- The range type, and as many places as it says. Assumes nothing.
-use mathlib.Core.Path.{ap}
-use native.Mathlib.Omega.{arith}
-use borrow.Author.Needs.{needs}
-use Rattle.grammar.specs.SiteSheet.{rangeRefusal}
+-- The range type, and as many numbers as it says. Assumes nothing.
+use mathlib.Core.Path.{_≡_, sym, ap}
+use Rattle.grammar.specs.SiteSheet.{entriesOf, rangeRefusal}
 use Rattle.grammar.specs.Grammar.{external, noExternal, externals}
-use Rattle.grammar.specs.declared.site.ListKind.the-variants.{Numbers}
 use Rattle.grammar.specs.declared.site.Row.{Row}
-use Rattle.codec.proofs.Sizes.{size-element}
-use Rattle.tally.proofs.Parts.{refusing, then, shape, within}
-use Rattle.tally.proofs.Places.{used}
+use Rattle.grammar.specs.declared.site.ListKind.the-variants.{Numbers}
+use Rattle.grammar.proofs.Codes.{entriesOf-le}
+use Rattle.words.specs.RecordWords.{word}
+use Rattle.tally.specs.Inner.{Fits}
+use Rattle.tally.proofs.Parts.{refusing, then, shape, fits-element, fits-first, fits-next, fits-shape, tallies-as, fits-as}
+use Rattle.codec.specs.Places.{places}
+use Rattle.tally.proofs.Words.{numbersAt, numbers-at}
+use borrow.Author.Needs.{needs}
+use native.Mathlib.Omega.{arith}
+use denote.Ref.{now}
 use Rattle.tally.proofs.numbers.tally_numbers.Statement.{statement}
 use Rattle.tally.proofs.numbers.tally_numbers.Tie as tie
 
-tally-number-places-requires : tie.Need-tally-number-places-requires
-tally-number-places-requires c κs =
-    let coded = within (size-element 4 _) (c .before .tally-element .ensures) in
-    omega arith
+fits : (c : tie.Start) → Fits (externals) (numbersAt (now (c .args .words)) (c .args .at)) (c .args .start)
+fits c = rw numbers-at at (c .pre .1)
+
+entries : (c : tie.After-row-of) → let a = c .before .before .before .args in c .row-of .result .entries ≡ entriesOf
+    (word (now (a .words)) (a .at))
+entries c = ap (λ (row : Row). row .entries) (c .row-of .ensures)
+
+tally-element-requires : tie.Need-tally-element-requires
+unfolding externals
+tally-element-requires c κs =
+    let p = c .before .before .before .before in
+    let b = p in (omega arith, fits-element 4 (rangeRefusal (Numbers)) (fits-first _ (fits-shape _ _ _ _ (fits b))))
+
+tally-number-entries-requires : tie.Need-tally-number-entries-requires
+unfolding externals
+tally-number-entries-requires c κs =
+    let b = c .before .before .before .before .before .before in
+    let r = c .before .before .before in
+    let e = refusing 4 (rangeRefusal (Numbers)) (c .before .tally-element .ensures) (c .before .before .range-refusal .ensures) in (
+      omega (arith, b .pre .0),
+      omega (arith, entries r, entriesOf-le (word (now (b .args .words)) (b .args .at))),
+      fits-as (ap (places external noExternal 8) (entries r)) (fits-next _ (fits-shape _ _ _ _ (fits b)) e),
+    )
 
 returns : tie.Need-returns
 unfolding externals
 returns c =
-    let e = c .before .before in
-    shape _ _ _ _ (then _ (refusing 4 (rangeRefusal Numbers) (e .tally-element .ensures) (e .before .range-refusal .ensures))
-    (used external noExternal 8 (ap (λ (r : Row). r .entries) (e .before .before .row-of .ensures)) (c .tally-number-places .ensures)))
+    let p = c .before .before .before in
+    let q = p .before in
+    let b = q .before .before .before in
+    let e = refusing 4 (rangeRefusal (Numbers)) (c .before .before .tally-element .ensures) (p .range-refusal .ensures) in
+    let l = tallies-as (ap (places external noExternal 8) (entries q)) (c .tally-number-entries .ensures) in
+    rw numbers-at (shape _ _ _ _ (then _ e l))
 
 pub tally-numbers-spec : {M : Type 1} → statement M
 tally-numbers-spec =
     tie.close
     (tie.spec
-    (λ c κs. search needs)
-    (λ c κs. search needs)
-    (λ c κs. search needs)
-    (λ c. search needs)
-    tally-number-places-requires
-    returns)
+    (λ c. search needs) (λ c. search needs) (λ c κs. search needs) (λ c κs. search needs) tally-element-requires (λ c. search needs)
+    (λ c. search needs) tally-number-entries-requires returns)

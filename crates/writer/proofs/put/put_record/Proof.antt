@@ -1,61 +1,119 @@
--- SS type, PDU type, affected users, and what follows them. Assumes nothing.
-use native.Mathlib.Omega.{arith}
-use borrow.Author.Needs.{needs}
-use Rattle.codec.specs.Parts.{mark, only}
-use Rattle.grammar.specs.SiteSheet.{ssType, kindRefusal}
-use Rattle.grammar.specs.Grammar.{pdu}
+-- SS type, PDU type, affected users, and what follows them by the PDU type. Assumes nothing.
+use mathlib.Core.List.{List}
+use Prim.Native.Nat.{ℕ}
+use borrow.Author.Tests.{eq-eqb, ne-eqb}
+use Rattle.codec.specs.Parts.{element, seq, mark, only}
+use Rattle.codec.proofs.Sizes.{size-seq, size-absent}
+use Rattle.grammar.specs.SiteSheet.{ssType, kindRefusal, askedRefusal}
+use Rattle.grammar.specs.Grammar.{identities, interrogate, restOf, fromRecord, pdu}
 use Rattle.grammar.specs.declared.site.ListKind.the-variants.{Users, Identities}
-use Rattle.writer.proofs.Puts.{room-first, room-next, room-shape, room-element, room-listing, put-then, put-shape, put-element, put-listing}
+use Rattle.grammar.proofs.Sizes.{size-noServices, size-noPart}
+use Rattle.words.specs.RecordWords.{word, recordFrom}
+use Rattle.writer.specs.Inner.{Room, Puts}
+use Rattle.writer.proofs.Puts.{room-first, room-next, room-shape, room-element, room-listing}
+use Rattle.writer.proofs.Puts.{put-then, put-shape, put-element, put-listing, put-none}
+use borrow.Author.Needs.{needs}
+use native.Mathlib.Omega.{arith}
+use denote.Ref.{now}
 use Rattle.writer.proofs.put.put_record.Statement.{statement}
 use Rattle.writer.proofs.put.put_record.Tie as tie
 
 put-element-requires : tie.Need-put-element-requires
 unfolding pdu mark
 put-element-requires c κs =
-    (omega arith, room-element 6 (only ssType) (room-first _ (room-shape _ _ _ _ (c .before .before .before .pre))))
+    let p = c .before .before .before .before in
+    (omega arith, room-element 6 (only ssType) (room-first _ (room-shape _ _ _ _ (p .pre .2))))
+
+-- after the SS type
+kind-room : (c : tie.After-put-element) → let r = recordFrom (now (c .before .before .before .before .before .args .words)) in
+    Room (seq (element 5 kindRefusal) (λ kind. seq (identities Users) (λ users. restOf kind))) (fromRecord r) (c .put-element .last .0)
+    (c .put-element .result)
+unfolding pdu mark
+kind-room c =
+    let p = c .before .before .before .before .before in
+    room-shape _ _ _ _ (room-next _ (room-shape _ _ _ _ (p .pre .2)) (put-element 6 (only ssType) (c .put-element .ensures)))
 
 put-element-requires-2 : tie.Need-put-element-requires-2
-unfolding pdu mark
-put-element-requires-2 c κs =
-    let p = c .before .before .before in
-    let h = room-next _ (room-shape _ _ _ _ (p .before .before .before .before .pre)) (put-element 6 (only ssType) (p .put-element .ensures)) in
-    (omega arith, room-element 5 kindRefusal (room-first _ (room-shape _ _ _ _ h)))
+unfolding recordFrom
+put-element-requires-2 c κs = (omega arith, room-element 5 kindRefusal (room-first _ (kind-room (c .before .before .before))))
+
+-- after the PDU type
+users-room : (c : tie.After-put-element2) → let r = recordFrom (now
+    (c .before .before .before .before .before .before .before .before .before .args .words)) in
+    Room (seq (identities Users) (λ users. restOf (r .kind))) (fromRecord r .1) (c .put-element2 .last .0) (c .put-element2 .result)
+unfolding recordFrom
+users-room c = room-next _ (kind-room (c .before .before .before .before)) (put-element 5 kindRefusal (c .put-element2 .ensures))
 
 put-identities-requires : tie.Need-put-identities-requires
-unfolding pdu mark
+unfolding recordFrom
 put-identities-requires c κs =
-    let q = c .before .before .before in
-    let p = q .before .before .before .before in
-    let h = room-next _ (room-shape _ _ _ _ (p .before .before .before .before .pre)) (put-element 6 (only ssType) (p .put-element .ensures)) in
-    room-listing Users Identities (room-first _ (room-next _ (room-shape _ _ _ _ h) (put-element 5 kindRefusal (q .put-element2 .ensures))))
+    let p = c .before .before .before in
+    let q = p .before .before .before .before .before .before .before .before .before in
+    (omega (arith, q .pre .0), room-listing Users Identities (room-first _ (users-room p)))
 
-put-rest-requires : tie.Need-put-rest-requires
-unfolding pdu mark
-put-rest-requires c κs =
-    let r = c .before .before .before in
-    let q = r .before .before .before .before in
-    let p = q .before .before .before .before in
-    let h = room-next _ (room-shape _ _ _ _ (p .before .before .before .before .pre)) (put-element 6 (only ssType) (p .put-element .ensures)) in
-    room-next _ (room-next _ (room-shape _ _ _ _ h) (put-element 5 kindRefusal (q .put-element2 .ensures))) (put-listing Identities Users (r .put-identities .ensures))
+-- after the affected users
+rest-room : (c : tie.After-put-identities) → let r = recordFrom (now
+    (c .before .before .before .before .before .before .before .before .before .before .before .before .before .args .words)) in
+    Room (restOf (r .kind)) (fromRecord r .1 .1) (c .put-identities .last .0) (c .put-identities .result)
+unfolding recordFrom
+rest-room c =
+    let p = c .before .before .before .before in
+    room-next _ (users-room p) (put-listing Identities Users (c .put-identities .ensures))
+
+-- and then the whole
+done : (c : tie.After-put-identities) →
+    let b = c .before .before .before .before .before .before .before .before .before .before .before .before .before in
+    let r = recordFrom (now (b .args .words)) in
+    (out : List ℕ) (end : ℕ) → Puts (restOf (r .kind)) (fromRecord r .1 .1) (c .put-identities .last .0) out (c .put-identities .result) end
+    → Puts pdu r (now (b .args .out)) out 0 end
+unfolding pdu mark recordFrom
+done c out end p =
+    let q = c .before .before .before .before in
+    let r = q .before .before .before .before in
+    let s = r .before .before .before .before .before in
+    put-shape _ _ _ _ (put-then _ (room-shape _ _ _ _ (s .pre .2)) (put-element 6 (only ssType) (r .put-element .ensures))
+    (λ h. put-shape _ _ _ _ (put-then _ (room-shape _ _ _ _ h) (put-element 5 kindRefusal (q .put-element2 .ensures))
+    (λ k. put-then _ k (put-listing Identities Users (c .put-identities .ensures)) (λ m. p)))))
+
+put-element-requires-3 : tie.Need-put-element-requires-3
+unfolding interrogate recordFrom
+put-element-requires-3 c κs =
+    let p = c .before .before .before .before .before in
+    let q = p .before .before .before .before .before .before .before .before .before .before .before .before .before in
+    let e = eq-eqb (word (now (q .args .words)) 0) 11 (c .before .before .if1 .taken) in
+    let h = rw e at (rest-room p) in
+    (omega arith, room-element 2 askedRefusal (room-first _ h))
 
 returns : tie.Need-returns
-unfolding pdu mark
+unfolding interrogate recordFrom
 returns c =
-    let t = c .before .before in
-    let r = t .before .before .before .before in
-    let q = r .before .before .before .before in
-    let p = q .before .before .before .before in
-    put-shape _ _ _ _ (put-then _ (room-shape _ _ _ _ (p .before .before .before .before .pre)) (put-element 6 (only ssType) (p .put-element .ensures))
-    (λ h. put-shape _ _ _ _ (put-then _ (room-shape _ _ _ _ h) (put-element 5 kindRefusal (q .put-element2 .ensures))
-    (λ k. put-then _ k (put-listing Identities Users (r .put-identities .ensures)) (λ m. t .put-rest .ensures)))))
+    let p = c .before .before .before .before .before in
+    let q = p .before .before .before in
+    let r = q .before .before .before .before .before .before .before .before .before .before .before .before .before in
+    let e = eq-eqb (word (now (r .args .words)) 0) 11 (p .if1 .taken) in
+    let h = rw e at (rest-room q) in
+    done q _ _ (rw e (put-then _ h (put-element 2 askedRefusal (c .before .before .put-element3 .ensures))
+    (λ k. put-none (size-seq size-absent (λ x. size-seq size-absent (λ y. size-seq size-noServices (λ z. size-noPart)))))))
+
+put-interrogate-ack-requires : tie.Need-put-interrogate-ack-requires
+unfolding recordFrom
+put-interrogate-ack-requires c κs =
+    let p = c .before .before .before .before in
+    let b = p .before .before .before .before .before .before .before .before .before .before .before .before .before in
+    (b .pre .0, b .pre .1, rw (ne-eqb (word (now (b .args .words)) 0) 11 (c .before .if1 .left)) at (rest-room p))
+
+returns-2 : tie.Need-returns-2
+unfolding recordFrom
+returns-2 c =
+    let p = c .before .before .before .before in
+    let q = p .before .before .before in
+    let r = q .before .before .before .before .before .before .before .before .before .before .before .before .before in
+    done q _ _
+    (rw (ne-eqb (word (now (r .args .words)) 0) 11 (p .if1 .left)) (c .before .before .put-interrogate-ack .ensures))
 
 pub put-record-spec : {M : Type 1} → statement M
 put-record-spec =
     tie.close
     (tie.spec
-    put-element-requires
-    put-element-requires-2
-    put-identities-requires
-    put-rest-requires
-    (λ c. search needs)
-    returns)
+    (λ c. search needs) put-element-requires put-element-requires-2 put-identities-requires (λ c. search needs) put-element-requires-3
+    (λ c. search needs) returns put-interrogate-ack-requires (λ c. search needs) returns-2)

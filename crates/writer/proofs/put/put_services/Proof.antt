@@ -1,37 +1,45 @@
--- The number of services, and as many services. Assumes nothing.
-use native.Mathlib.Omega.{arith}
-use borrow.Author.Needs.{needs}
-use Rattle.grammar.specs.SiteSheet.{countRefusal}
+-- The number of services and the services are one run. Assumes nothing.
+use mathlib.Core.Path.{_≡_, refl}
+use Prim.Native.Nat.{_+_, _*_, _-_, _/_, _^_}
+use Rattle.bits.specs.Bits.{bitsOf}
 use Rattle.grammar.specs.Grammar.{services}
-use Rattle.writer.proofs.Puts.{room-first, room-next, room-shape, room-element, put-then, put-shape, put-element}
+use Rattle.tally.proofs.Words.{servicesAt, services-at}
+use Rattle.writer.specs.Inner.{Room}
+use Rattle.writer.proofs.Runs.{room-run, put-as-run}
+use Rattle.writer.proofs.Codes.{services-run}
+use borrow.Author.Needs.{needs}
+use native.Mathlib.Omega.{arith}
+use denote.Ref.{now}
 use Rattle.writer.proofs.put.put_services.Statement.{statement}
 use Rattle.writer.proofs.put.put_services.Tie as tie
 
-put-element-requires : tie.Need-put-element-requires
-unfolding services
-put-element-requires c κs =
-    (omega arith, room-element 3 countRefusal (room-first _ (room-shape _ _ _ _ (c .before .before .before .pre))))
+room : (c : tie.Start) → Room services (servicesAt (now (c .args .words)) (c .args .from)) (now (c .args .out)) (c .args .at)
+room c = rw services-at at (c .pre .1)
 
-put-service-places-requires : tie.Need-put-service-places-requires
-unfolding services
-put-service-places-requires c κs =
-    let p = c .before .before .before in
-    room-next _ (room-shape _ _ _ _ (p .before .before .before .before .pre)) (put-element 3 countRefusal (p .put-element .ensures))
+whole : (c : tie.After-with-codes) → let used = c .before .least .result in let a = c .before .before .before .before .before .args in
+    services .print (servicesAt (now (a .words)) (a .from)) ≡ bitsOf (3 + 3 * used) (c .with-codes .result / 2 ^ (21 - 3 * used))
+whole c =
+    let b = c .before .before .before .before .before in
+    services-run (now (b .args .words)) (b .args .from) _ _ (b .pre .0) (c .before .least .ensures) (c .with-codes .ensures 3 refl)
+
+with-codes-requires : tie.Need-with-codes-requires
+with-codes-requires c κs =
+    let p = c .before .before .before .before in
+    (omega arith, omega arith, omega arith, omega arith, omega (arith, p .pre .0))
+
+put-run-requires : tie.Need-put-run-requires
+put-run-requires c κs =
+    let p = c .before .before .before .before .before .before in
+    (omega (arith, c .before .before .least .ensures), room-run _ _ (whole (c .before)) (room p))
 
 returns : tie.Need-returns
-unfolding services
-returns c =
-    let q = c .before .before in
-    let p = q .before .before .before .before in
-    put-shape _ _ _ _ (put-then _ (room-shape _ _ _ _ (p .before .before .before .before .pre)) (put-element 3 countRefusal (p .put-element .ensures))
-    (λ h. q .put-service-places .ensures))
+returns c = rw services-at (put-as-run _ _ (whole (c .before .before .before .before)) (c .before .before .put-run .ensures))
 
 pub put-services-spec : {M : Type 1} → statement M
 put-services-spec =
     tie.close
     (tie.spec
-    put-element-requires
-    (λ c. search needs)
-    put-service-places-requires
-    (λ c. search needs)
-    returns)
+    (λ c. search needs) (λ c. search needs)
+    (λ c. omega (arith, c .shared-slice-known2 .given (c .before .before .before .args .from) .fits)) (λ c κs. search needs)
+    (λ c. search needs) (λ c. search needs) (λ c. search needs) with-codes-requires (λ c. search needs) (λ c. search needs)
+    (λ c. search needs) put-run-requires (λ c. search needs) returns)

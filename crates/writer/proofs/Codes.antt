@@ -1,0 +1,169 @@
+-- Codes of a few bits each, put as one run: the digits of an external number, services. Assumes nothing.
+use mathlib.Core.Path.{_≡_, refl, sym, ap, ap₂, _∙_, subst}
+use mathlib.Core.Bool.{Bool, true, false}
+use mathlib.Core.List.{List, [], _∷_, _++_, append-nil, append-assoc}
+use Prim.Native.Nat.{ℕ, zero, suc, _+_, _-_, _*_, _/_, _%_, _^_, _≤_, _<_, min}
+use native.Mathlib.Nat.{zero-add, add-zero}
+use native.Mathlib.Numerals.{add-one}
+use native.Mathlib.Omega.{arith}
+use lib.ListN.{length, take, drop, getD, length-append, length-drop, take-append-drop}
+use lib.Seq.{take-nil, take-at, take-add, take-suc, take-take, drop-drop, length-take-le}
+use lib.Dec.{leb}
+use borrow.Author.Tests.{leb-true, leb-false}
+use Rattle.bits.specs.Bits.{bitsOf}
+use Rattle.bits.specs.Lists.{Each}
+use Rattle.bits.proofs.Numbers.{length-bitsOf, bitsOf-add, bitsOf-mod, bitsOf-join}
+use Rattle.bits.proofs.Lists.{take-min, take-used}
+use Rattle.codec.specs.Parts.{number, absent, element, seq, tested, shaped}
+use Rattle.codec.specs.Places.{nil, cons, places}
+use Rattle.grammar.specs.Grammar.{external, services}
+use Rattle.words.specs.RecordWords.{word, narrow, narrowed}
+use Rattle.words.proofs.LegalRecords.{Small, SmallNumber}
+use Rattle.tally.proofs.Words.{numberAt, servicesAt}
+use Rattle.writer.specs.Inner.{codeBits, CodesAfter}
+
+-- ---- codes of w bits
+
+module _ (w : ℕ) where
+  codeBits-append : (a b : List ℕ) → codeBits w (a ++ b) ≡ codeBits w a ++ codeBits w b
+  unfolding codeBits
+  codeBits-append [] b = refl
+  codeBits-append (d ∷ a) b = ap (λ (l : List Bool). bitsOf w d ++ l) (codeBits-append a b) ∙ sym
+      (append-assoc (bitsOf w d) (codeBits w a) (codeBits w b))
+
+  length-codeBits : (l : List ℕ) → length (codeBits w l) ≡ w * length l
+  unfolding codeBits
+  length-codeBits [] = omega arith
+  length-codeBits (d ∷ l) = omega (arith, length-append (bitsOf w d) (codeBits w l), length-bitsOf w d, length-codeBits l)
+
+  pub no-codes : (start : ℕ) → CodesAfter w 0 start [] start
+  unfolding codeBits
+  no-codes start v =
+      let none : v + w * 0 ≡ v = omega arith in
+      ap (λ (n : ℕ). bitsOf n start) none ∙ sym (append-nil (bitsOf v start))
+
+  -- one code more
+  pub more-codes : (t : List ℕ) (i start run : ℕ) → i < length t → CodesAfter w i start (take i t) run
+      → CodesAfter w (i + 1) start (take (i + 1) t) (run * 2 ^ w + getD t i 0 % 2 ^ w)
+  unfolding codeBits
+  more-codes t i start run inside sofar v =
+      let d : ℕ = getD t i 0 in
+      let size : v + w * (i + 1) ≡ v + w * i + w = omega arith in
+      let next : take (i + 1) t ≡ take i t ++ (d ∷ []) = ap (λ (n : ℕ). take n t) (add-one i) ∙ take-suc t i 0 inside in
+      ap (λ (n : ℕ). bitsOf n (run * 2 ^ w + d % 2 ^ w)) size
+      ∙ bitsOf-join (v + w * i) w run d
+      ∙ ap (λ (l : List Bool). l ++ bitsOf w d) (sofar v)
+      ∙ append-assoc (bitsOf v start) (codeBits w (take i t)) (bitsOf w d)
+      ∙ ap (λ (l : List Bool). bitsOf v start ++ l)
+      (sym (ap (codeBits w) next ∙ codeBits-append (take i t) (d ∷ []) ∙ ap (λ (l : List Bool). codeBits w (take i t) ++ l)
+      (append-nil (bitsOf w d))))
+
+  -- of j + k codes after a number, the first j
+  fewer-codes : (t : List ℕ) (j k start run : ℕ) → j + k ≤ length t → CodesAfter w (j + k) start (take (j + k) t) run
+      → CodesAfter w j start (take j t) (run / 2 ^ (w * k))
+  fewer-codes t j k start run long whole v =
+      let m : ℕ = w * k in
+      let n : ℕ = v + w * j in
+      let size : v + w * (j + k) ≡ n + m = omega arith in
+      let own : List Bool = bitsOf n (run / 2 ^ m) in
+      let front : List Bool = bitsOf v start ++ codeBits w (take j t) in
+      let rest : List Bool = codeBits w (take k (drop j t)) in
+      let both : own ++ bitsOf m run ≡ front ++ rest =
+      sym (bitsOf-add n m run) ∙ ap (λ (x : ℕ). bitsOf x run) (sym size) ∙ whole v
+      ∙ ap (λ (l : List Bool). bitsOf v start ++ l) (ap (codeBits w) (take-add j k t) ∙ codeBits-append (take j t) (take k (drop j t)))
+      ∙ sym (append-assoc (bitsOf v start) (codeBits w (take j t)) rest) in
+      sym (take-at own (bitsOf m run) n (length-bitsOf n (run / 2 ^ m)))
+      ∙ ap (take n) both
+      ∙ take-at front rest n
+      (length-append (bitsOf v start) (codeBits w (take j t)) ∙ ap₂ (λ (x y : ℕ). x + y) (length-bitsOf v start)
+      (length-codeBits (take j t) ∙ ap (λ (x : ℕ). w * x) (length-take-le j t (omega arith))))
+
+  -- the codes of a list of which the first n are used
+  print-codes : (refuse : ℕ → ℕ) (m n : ℕ) (l : List ℕ) → length l ≡ m → places (element w refuse) absent m n .print l ≡ codeBits w (take n l)
+  unfolding places cons nil element tested number absent codeBits
+  print-codes refuse zero n [] e = ap (codeBits w) (sym (take-nil n))
+  print-codes refuse zero n (d ∷ l) e = absurd (omega arith)
+  print-codes refuse (suc m) n [] e = absurd (omega arith)
+  print-codes refuse (suc m) zero (d ∷ l) e = print-codes refuse m zero l (omega arith)
+  print-codes refuse (suc m) (suc n) (d ∷ l) e = ap (λ (x : List Bool). bitsOf w d ++ x) (print-codes refuse m n l (omega arith))
+
+-- of `count` codes of w bits after a number, the first j, where m bits stand after them
+first-codes : (w count m : ℕ) (t : List ℕ) (j start run : ℕ) → j ≤ count → count ≤ length t → m ≡ w * (count - j) → CodesAfter w count start
+    (take count t) run
+    → CodesAfter w j start (take j t) (run / 2 ^ m)
+first-codes w count m t j start run few long e whole =
+    let all : count ≡ j + (count - j) = omega arith in
+    subst (λ (x : ℕ). CodesAfter w j start (take j t) (run / 2 ^ x)) (sym e)
+    (fewer-codes w t j (count - j) start run (omega arith) (subst (λ (x : ℕ). CodesAfter w x start (take x t) run) all whole))
+
+-- ---- an external number
+
+-- no word of it is wider than a byte
+narrowed-small : (s : List ℕ) → Each Small (narrowed s) → narrowed s ≡ s
+unfolding narrowed
+narrowed-small [] h = refl
+narrowed-small (x ∷ s) (h, t) = let e : narrow x ≡ x = omega arith in λ i. e i ∷ narrowed-small s t i
+
+-- the first n of 24 digits, in two halves
+halves : (n early late : ℕ) (v : List ℕ) → 24 ≤ length v → early ≡ min n 12 → early + late ≡ min n 24
+    → take n (take 24 v) ≡ take early v ++ take late (drop 12 v)
+halves n early late v long he hl = sym (take-used (take 24 v) n (length-take-le 24 v long) hl) ∙ take-take (early + late) 24 v (omega arith) ∙ go
+    (leb n 12) refl
+  where
+    go : (b : Bool) → leb n 12 ≡ b → take (early + late) v ≡ take early v ++ take late (drop 12 v)
+    go true h =
+        let le = leb-true n 12 h in
+        let none : late ≡ 0 = omega arith in
+        let sum : early + late ≡ early = omega arith in
+        ap (λ (i : ℕ). take i v) sum ∙ sym (append-nil (take early v)) ∙ ap (λ (i : ℕ). take early v ++ take i (drop 12 v)) (sym none)
+    go false h =
+        let gt = leb-false n 12 h in
+        let twelve : early ≡ 12 = omega arith in
+        take-add early late v ∙ ap (λ (i : ℕ). take early v ++ take late (drop i v)) twelve
+
+module _ (s : List ℕ) (at : ℕ) (long : at + 25 ≤ length s) (small : SmallNumber (numberAt s at)) where
+  pub length-small : word s at < 255
+  length-small = omega (arith, small .small .0)
+
+  pub number-runs : (early late x y : ℕ) → early ≡ min (word s at) 12 → early + late ≡ min (word s at) 24
+      → CodesAfter 4 12 (word s at) (take 12 (drop (at + 1) s)) x → CodesAfter 4 12 0 (take 12 (drop (at + 13) s)) y
+      → external .print (numberAt s at) ≡ number (5 + 4 * early) .print (x / 2 ^ (48 - 4 * early)) ++ number (4 * late) .print
+      (y / 2 ^ (48 - 4 * late))
+  unfolding external shaped seq element tested number bitsOf
+  number-runs early late x y he hl hx hy =
+      let n : ℕ = word s at in
+      let v : List ℕ = drop (at + 1) s in
+      let w : List ℕ = drop (at + 13) s in
+      let thirteen : at + 1 + 12 ≡ at + 13 = omega arith in
+      let later : drop 12 v ≡ w = drop-drop 12 (at + 1) s ∙ ap (λ (k : ℕ). drop k s) thirteen in
+      let same : narrow n ≡ n = omega (arith, small .small .0) in
+      let plain : narrowed (take 24 v) ≡ take 24 v = narrowed-small (take 24 v) (small .small .1) in
+      let early-bits : bitsOf (5 + 4 * early) (x / 2 ^ (48 - 4 * early)) ≡ bitsOf 5 n ++ codeBits 4 (take early v) =
+      first-codes 4 12 (48 - 4 * early) v early n x (omega arith) (omega (arith, length-drop (at + 1) s)) (omega arith) hx 5
+      in
+      let late-bits : bitsOf (4 * late) (y / 2 ^ (48 - 4 * late)) ≡ codeBits 4 (take late w) =
+      ap (λ (k : ℕ). bitsOf k (y / 2 ^ (48 - 4 * late))) (sym (zero-add (4 * late)))
+      ∙ first-codes 4 12 (48 - 4 * late) w late 0 y (omega arith) (omega (arith, length-drop (at + 13) s)) (omega arith) hy 0
+      in
+      ap₂ (λ (a b : List Bool). a ++ b) (ap (bitsOf 5) same)
+      (print-codes 4 _ 24 (narrow n) (narrowed (take 24 v)) (small .digits)
+      ∙ ap (codeBits 4) (ap₂ (λ (k : ℕ) (l : List ℕ). take k l) same plain
+      ∙ halves n early late v (omega (arith, length-drop (at + 1) s)) he hl ∙ ap (λ (l : List ℕ). take early v ++ take late l) later)
+      ∙ codeBits-append 4 (take early v) (take late w))
+      ∙ sym (append-assoc (bitsOf 5 n) (codeBits 4 (take early v)) (codeBits 4 (take late w)))
+      ∙ ap₂ (λ (a b : List Bool). a ++ b) (sym early-bits) (sym late-bits)
+
+-- ---- services
+
+pub services-run : (s : List ℕ) (at used x : ℕ) → at + 8 ≤ length s → used ≡ min (word s at) 7
+    → CodesAfter 3 7 (word s at % 8) (take 7 (drop (at + 1) s)) x → services .print (servicesAt s at) ≡ bitsOf (3 + 3 * used)
+    (x / 2 ^ (21 - 3 * used))
+unfolding services shaped seq element tested number
+services-run s at used x long few hx =
+    let n : ℕ = word s at in
+    let v : List ℕ = drop (at + 1) s in
+    let full : length (take 7 v) ≡ 7 = length-take-le 7 v (omega (arith, length-drop (at + 1) s)) in
+    ap₂ (λ (a b : List Bool). a ++ b) (sym (bitsOf-mod 3 n))
+    (print-codes 3 _ 7 n (take 7 v) full
+    ∙ ap (codeBits 3) (sym (take-used (take 7 v) n full few) ∙ take-take used 7 v (omega arith)))
+    ∙ sym (first-codes 3 7 (21 - 3 * used) v used (n % 8) x (omega arith) (omega (arith, length-drop (at + 1) s)) (omega arith) hx 3)

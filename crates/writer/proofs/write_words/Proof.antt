@@ -1,0 +1,56 @@
+-- The count first, then the answer; only where that is a length is anything stored. Assumes nothing.
+use mathlib.Core.Path.{_≡_, refl, sym, _∙_}
+use borrow.Author.Tests.{eq-eqb, ne-eqb}
+use lib.ListN.{length}
+use Rattle.words.specs.RecordWords.{recordFrom}
+use Rattle.words.proofs.LegalRecords.{numbers-small}
+use Rattle.writer.specs.Write.{lengthOf, writeRefusal, writeIs, outIs, writeWordsIs, writeWordsOut}
+use Rattle.writer.proofs.Writes.{has-room, is-legal, refused-some, bits-none}
+use borrow.Author.Needs.{needs}
+use denote.Ref.{now}
+use Rattle.writer.proofs.write_words.Statement.{statement}
+use Rattle.writer.proofs.write_words.Tie as tie
+
+returns : tie.Need-returns
+unfolding writeWordsIs writeWordsOut
+returns c = rw (ne-eqb (length (now (c .before .before .before .args .words))) 514 (c .if1 .taken)) (refl, refl)
+
+returns-2 : tie.Need-returns-2
+unfolding writeWordsIs writeWordsOut writeIs outIs
+returns-2 c =
+    let p = c .before .before .before in
+    let q = p .before .before .before in
+    let a = q .args in
+    let r = recordFrom (now (a .words)) in
+    let k = c .before .before .checked in
+    rw (eq-eqb (length (now (a .words))) 514 (p .if1 .left))
+    (k .ensures, sym (rw (refused-some (lengthOf r) (writeRefusal r (length (now (a .out)))) (sym (k .ensures) ∙ c .enum-told2 .given .1))))
+
+none : (c : tie.After-enum-told) → let a = c .before .before .before .before .before .before .args in writeRefusal (recordFrom (now (a .words)))
+    (length (now (a .out))) ≡ 0
+none c = bits-none _ _ (sym (c .before .before .checked .ensures) ∙ c .enum-told .given .1)
+
+fill-requires : tie.Need-fill-requires
+fill-requires c κs =
+    let p = c .before .before .before .before in
+    let q = p .before .before .before in
+    let a = q .args in
+    let r = recordFrom (now (a .words)) in
+    let e = none (c .before) in
+    (p .if1 .left, numbers-small r (is-legal r (length (now (a .out))) e), has-room r (length (now (a .out))) e)
+
+returns-3 : tie.Need-returns-3
+unfolding writeWordsIs writeWordsOut writeIs outIs
+returns-3 c =
+    let p = c .before .before .before .before in
+    let q = p .before .before in
+    let r = q .before in
+    let s = r .before .before .before in
+    rw (eq-eqb (length (now (s .args .words))) 514 (r .if1 .left))
+    (q .checked .ensures, rw (none p) (c .before .before .fill .ensures))
+
+pub write-words-spec : {M : Type 1} → statement M
+write-words-spec =
+    tie.close
+    (tie.spec
+    returns (λ c κs. search needs) (λ c. search needs) (λ c. search needs) returns-2 fill-requires (λ c. search needs) returns-3)
