@@ -12,7 +12,7 @@ use reference::layout::{record as at, request, IDENTITY_WORDS, RECORD_WORDS, REQ
 const ROUNDS: usize = 200;
 const ROUND: Duration = Duration::from_micros(400);
 const ROOM: usize = 65_536;
-const CALLS: [&str; 3] = ["capture", "restore", "decide"];
+const CALLS: [&str; 4] = ["capture", "restore", "contents", "decide"];
 
 /// What a call answers: its refusal number, 0 for none, and a length or a decision besides.
 type Answer = (u32, usize);
@@ -104,9 +104,25 @@ fn longest(rng: &mut Rng, kind: u32) -> Record {
     words
 }
 
+/// Profile A: services [1], no groups, restricted range 100 to 199, exception 150; user 5, no extensions.
+fn profile_a() -> Record {
+    let mut words = [0; RECORD_WORDS];
+    words[at::PDU_TYPE] = 12;
+    words[at::AFFECTED..][..2].copy_from_slice(&[1, 5]);
+    words[at::RESULT] = 1;
+    words[at::SERVICE_COUNT..][..2].copy_from_slice(&[1, 1]);
+    words[at::RESTRICTED..][..5].copy_from_slice(&[9, 100, 0, 0, 199]);
+    words[at::EXCEPTIONS..][..2].copy_from_slice(&[1, 150]);
+    words
+}
+
 fn read_and_write(rng: &mut Rng) {
-    for (kind, name) in [(1, "identity"), (2, "number")] {
-        let record = longest(rng, kind);
+    let records = [
+        ("profile A", profile_a()),
+        ("longest identity part", longest(rng, 1)),
+        ("longest number part", longest(rng, 2)),
+    ];
+    for (name, record) in records {
         let Pdu { bytes, bits } = Pdu::of(&record);
         Times::of(
             RECORD_WORDS,
@@ -123,8 +139,8 @@ fn read_and_write(rng: &mut Rng) {
     }
 }
 
-/// Capture in place of the last entry, restore of it, and a decision by it, in the order of `CALLS`.
-fn on_archive(archive: &Archive) -> [Times; 3] {
+/// Capture in place of the last entry, restore of it, the listing, and a decision by the last entry, in the order of `CALLS`.
+fn on_archive(archive: &Archive) -> [Times; 4] {
     let held = archive.bytes();
     let held = held.as_slice();
     let Entry { user: [network, ssi], part, pdu } = archive.entries.last().expect("it has entries");
@@ -138,6 +154,11 @@ fn on_archive(archive: &Archive) -> [Times; 3] {
         ROOM,
         |out| through(|bits| boc::ffi::restore(black_box(held), *network, *ssi, *part, out, bits)),
         |out| answer(reference::restore(black_box(held), *network, *ssi, *part, out)),
+    );
+    let contents = Times::of(
+        ROOM,
+        |out| through(|length| boc::ffi::contents(black_box(held), out, length)),
+        |out| answer(reference::contents(black_box(held), out)),
     );
     // Speech to a destination that no list has, so that every entry is looked at.
     let mut call = [0; REQUEST_WORDS];
@@ -160,7 +181,7 @@ fn on_archive(archive: &Archive) -> [Times; 3] {
             answer(decided.map(|decision| decision.number() as usize))
         },
     );
-    [capture, restore, decide]
+    [capture, restore, contents, decide]
 }
 
 fn head(cells: &[&str]) {
@@ -174,8 +195,8 @@ fn head(cells: &[&str]) {
 fn main() {
     let rng = &mut Rng::new(2026, 0);
     println!("Nanoseconds per call on {}, and the ratio of library to reference.", std::env::consts::ARCH);
-    println!("\nThe longest parts, with eight affected users:");
-    head(&["call", "part", "bits"]);
+    println!("\nProfile A, and the longest parts with eight affected users:");
+    head(&["call", "PDU", "bits"]);
     read_and_write(rng);
 
     println!("\nOn the last entry of an archive:");
