@@ -7,8 +7,9 @@ use lib.Dec.{ltb, eqb}
 use Rattle.bits.specs.Bits.{pick}
 use Rattle.grammar.specs.Grammar.{networkOf}
 use Rattle.grammar.specs.declared.record.Record.{Record}
-use Rattle.reader.specs.Read.{readIs}
-use Rattle.judging.specs.Judge.{isAccepted, mayHold, userOf}
+use Rattle.walk.specs.Walk.{userOf}
+use Rattle.reader.specs.Read.{isAccepted, readIs}
+use Rattle.judging.specs.Judge.{mayHold}
 use Rattle.archive.specs.Model.{Held, Archive, rank, lengthOf, withinLimits}
 use Rattle.archive.specs.declared.contents.Key.{Key}
 use Rattle.archive.specs.declared.contents.Entry.{Entry}

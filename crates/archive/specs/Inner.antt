@@ -6,12 +6,12 @@ use lib.ListN.{length, take, drop}
 use lib.Dec.{ltb, eqb}
 use Rattle.bits.specs.Bits.{pick}
 use Rattle.bits.specs.Frame.{bytesFor}
-use Rattle.reader.specs.Read.{readIs}
-use Rattle.reader.specs.declared.Answer.{Answer}
-use Rattle.reader.specs.declared.Answer.the-variants as reader
-use Rattle.judging.specs.Judge.{isAccepted}
+use Rattle.grammar.specs.Grammar.{networkOf}
+use Rattle.walk.specs.declared.Head.{Head}
+use Rattle.walk.specs.declared.Walked.{Walked}
+use Rattle.walk.specs.declared.Walked.the-variants as walked
+use Rattle.judging.specs.Judge.{holdable}
 use Rattle.archive.specs.Model.{Held, Archive, rank, headerWidth, entryWidth, headerBytes, entryBytes, bodySize}
-use Rattle.archive.specs.Filing.{filingOf}
 use Rattle.archive.specs.Reading.{homeOf, countOf, entryAt, reading}
 use Rattle.archive.specs.Keeping.{with}
 use Rattle.archive.specs.Listing.{line}
@@ -19,18 +19,21 @@ use Rattle.archive.specs.declared.contents.Key.{Key}
 use Rattle.archive.specs.declared.contents.Entry.{Entry}
 use Rattle.archive.specs.declared.checking.Place.{Place}
 use Rattle.archive.specs.declared.filing.Filing.{Filing}
-use Rattle.archive.specs.declared.filing.Filing.the-variants.{Nowhere}
+use Rattle.archive.specs.declared.filing.Filing.the-variants.{Under, Nowhere}
 
 -- ---- filing
 
--- the entry of a PDU of n bits; nowhere also for one that is not legal
-unfoldable pub filingFor : ℕ → List ℕ → ℕ → Filing
-filingFor home s n = pick (isAccepted (readIs s n .answer)) (filingOf home (readIs s n .found) n) Nowhere
+-- the entry of an accepted PDU of n bits with this head; nowhere if no archive entry may hold it
+unfoldable pub filingUnder : ℕ → Head → ℕ → Filing
+filingUnder home h n =
+    pick (holdable h)
+    (Under (record { key = record { network = networkOf home (h .user); ssi = h .user .ssi; part = h .result }; bits = record { 0 = n } }))
+    Nowhere
 
--- the number with which a PDU is not filed: its own refusal, or 6
-abbrev pub notFiledNumber : Answer → ℕ
-notFiledNumber reader.Accepted = 6
-notFiledNumber (reader.Refused k) = k
+-- the number of the walk's refusal, 0 for none
+abbrev pub walkedNumber : Walked → ℕ
+walkedNumber (walked.Accepted h) = 0
+walkedNumber (walked.Refused f) = f .number
 
 -- the archive of some bytes with a body under an entry
 abbrev pub filedIn : List ℕ → Entry → List ℕ → Archive

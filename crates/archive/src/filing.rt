@@ -4,21 +4,23 @@ use crate::contents::Key;
 use bits::BitCount;
 use grammar::site::network_of;
 use judging::Judged;
+use walk::Head;
+use walk::Walked;
 ghost use mathlib.Core.Path.{_≡_};
 ghost use Rattle.archive.specs.Filing.{bodyAgrees};
-ghost use Rattle.archive.specs.Inner.{filingFor};
+ghost use Rattle.archive.specs.Inner.{filingUnder};
 
-// The entry under which a PDU is filed; nowhere if it is not legal, or no archive entry may hold it.
+// The entry under which a PDU is filed; nowhere if no archive entry may hold it.
 pub enum Filing {
     Under(Entry),
     Nowhere,
 }
 
-// The entry of a PDU of n bits: only an accepting INTERROGATE ACK whose affected range type is 1 has one.
-pub(crate) fn filing_of(home: u32, body: &[u8], n: BitCount) -> Filing
-    ensures { λ r. ⌜ r ≡ filingFor home (now (body .entry)) (n .0) ⌝ }
+// The entry of an accepted PDU of n bits: only an accepting INTERROGATE ACK whose affected range type is 1 has one.
+pub(crate) fn filing_of(home: u32, head: Head, n: BitCount) -> Filing
+    ensures { λ r. ⌜ r ≡ filingUnder home head (n .0) ⌝ }
 {
-    let Judged::Part(user, part) = judging::judge(body, n) else {
+    let Judged::Part(user, part) = judging::judge(head) else {
         return Filing::Nowhere;
     };
     let key = Key {
@@ -33,7 +35,10 @@ pub(crate) fn filing_of(home: u32, body: &[u8], n: BitCount) -> Filing
 pub(crate) fn body_agrees(home: u32, entry: Entry, body: &[u8]) -> bool
     ensures { λ r. ⌜ r ≡ bodyAgrees home (record { entry = entry; body = now (body .entry) }) ⌝ }
 {
-    let Filing::Under(found) = filing_of(home, body, entry.bits) else {
+    let Walked::Accepted(head) = walk::walk(body, entry.bits) else {
+        return false;
+    };
+    let Filing::Under(found) = filing_of(home, head, entry.bits) else {
         return false;
     };
     let filed = found.key;

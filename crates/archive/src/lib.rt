@@ -11,7 +11,7 @@ use contents::Entry;
 pub use contents::Key;
 pub use contents::home;
 use filing::Filing;
-use pdu::Answer;
+use walk::Walked;
 ghost use mathlib.Core.Path.{_≡_};
 ghost use mathlib.Core.Bool.{true};
 ghost use Prim.Native.Nat.{_+_, _≤_};
@@ -19,10 +19,9 @@ ghost use lib.ListN.{length, take, drop};
 ghost use lib.Dec.{leb};
 ghost use Rattle.bits.specs.Bits.{pick};
 ghost use Rattle.bits.specs.Frame.{bytesFor};
-ghost use Rattle.reader.specs.Read.{readIs};
 ghost use Rattle.archive.specs.Model.{bytesOf};
 ghost use Rattle.archive.specs.Reading.{isArchive};
-ghost use Rattle.archive.specs.Inner.{EntryFits, filedIn, notFiledNumber};
+ghost use Rattle.archive.specs.Inner.{EntryFits, filedIn, walkedNumber};
 ghost use Rattle.archive.specs.Keeping.{leaves, emptyIs, emptyOut, placed, captureIs, captureOut};
 ghost use Rattle.archive.specs.Restoring.{inRange, fetchIs, restores, restoreIs, restoreOut};
 
@@ -68,23 +67,25 @@ pub fn capture(archive: &[u8], body: &[u8], n: BitCount, out: &mut [u8]) -> Stor
     if !checking::check(archive) {
         return Stored::Refused(7);
     }
-    let filing = filing::filing_of(contents::home(archive), body, n);
+    let walked = walk::walk(body, n);
+    let Walked::Accepted(head) = walked else {
+        return Stored::Refused(refusal_number(walked));
+    };
+    let filing = filing::filing_of(contents::home(archive), head, n);
     let Filing::Under(entry) = filing else {
-        return Stored::Refused(not_filed_number(body, n));
+        return Stored::Refused(6);
     };
     file(archive, entry, body, out)
 }
 
-// The number of a PDU that is not filed: its own refusal is passed on, and a legal one that no entry may hold gives 6.
-fn not_filed_number(body: &[u8], n: BitCount) -> u32
-    ensures { λ r. ⌜ r ≡ notFiledNumber (readIs (now (body .entry)) (n .0) .answer) ⌝ }
+// The number of the walk's refusal, 0 for none.
+fn refusal_number(walked: Walked) -> u32
+    ensures { λ r. ⌜ r ≡ walkedNumber walked ⌝ }
 {
-    let reading = pdu::read(body, n);
-    let answer = reading.answer;
-    let Answer::Refused(number) = answer else {
-        return 6;
-    };
-    number
+    match walked {
+        Walked::Accepted(_) => 0,
+        Walked::Refused(refusal) => refusal.number,
+    }
 }
 
 // Files a body under its entry, in place of what is held for its user and part.

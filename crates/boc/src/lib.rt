@@ -8,7 +8,6 @@ use barring::Decision;
 use bits::BitCount;
 use pdu::Answer;
 use pdu::Written;
-use words::record;
 use words::request;
 ghost use mathlib.Core.Path.{_≡_};
 ghost use lib.ListN.{length};
@@ -23,17 +22,8 @@ pub extern "C" fn boc_read(pdu: &[u8], bits: usize, record: &mut [u32]) -> u32
     ensures { λ r. ⌜ r ≡ readNumber (now (pdu .entry)) bits (length (now («record» .entry))) ⌝ }
     ensures { λ _. ⌜ now («record» .exit) ≡ readWords (now (pdu .entry)) bits (now («record» .entry)) ⌝ }
 {
-    if record.len() != record::RECORD_WORDS {
-        return 9;
-    }
-    let reading = pdu::read(pdu, BitCount(bits));
-    let answer = reading.answer;
-    let found = reading.found;
-    match answer {
-        Answer::Accepted => {
-            record::put_record(record, found);
-            0
-        },
+    match pdu::read_words(pdu, BitCount(bits), record) {
+        Answer::Accepted => 0,
         Answer::Refused(number) => number,
     }
 }
@@ -45,11 +35,7 @@ pub extern "C" fn boc_write(record: &[u32], out: &mut [u8], bits: &mut usize) ->
     ensures { λ _. ⌜ now (out .exit) ≡ writeOut (now («record» .entry)) (now (out .entry)) ⌝ }
     ensures { λ _. ⌜ now (bits .exit) ≡ writeBits (now («record» .entry)) (now (out .entry)) (now (bits .entry)) ⌝ }
 {
-    let spelt = record::record_from(record);
-    if !spelt.given {
-        return 9;
-    }
-    match pdu::write(spelt.found, out) {
+    match pdu::write_words(record, out) {
         Written::Bits(length) => {
             *bits = length.0;
             0

@@ -4,5 +4,7 @@ pub use grammar::record;
 pub use reader::Answer;
 pub use reader::Reading;
 pub use reader::read;
+pub use reader::read_words;
 pub use writer::Written;
 pub use writer::write;
+pub use writer::write_words;

@@ -56,6 +56,16 @@ module _ (s : List ℕ) (n : ℕ) where
       go true (no k p) = refl
       go false o = refl
 
+  pub same-head : {h : Head} → walk.walkIs s n ≡ walked.Accepted h → h ≡ walk.headOf (readIs s n .found)
+  unfolding readIs walk.walkIs
+  same-head {h} = go (framed s n) (wholeParse pdu (bitsIn n s))
+    where
+      go : (t : Bool) (o : Outcome Record) → pick t (walk.walkedOf o) (walk.refusing 1 Nowhere) ≡ walked.Accepted h
+          → h ≡ walk.headOf (pick t (answered o) (refusing 1) .found)
+      go true (ok r at left) e = cc
+      go true (no k p) e = never cc
+      go false o e = never cc
+
   whole-read : (r : Record) (at : ℕ) (left : List Bool) → wholeParse pdu (bitsIn n s) ≡ ok r at left
       → Read pdu (bits s) 0 r (0 + length (pdu .print r))
   unfolding readAt

@@ -1,4 +1,5 @@
 -- Reading a PDU: an accepted one and its record, or a refusal number.
+use mathlib.Core.Bool.{Bool, true, false}
 use mathlib.Core.List.{List}
 use Prim.Native.Nat.{ℕ}
 use Rattle.bits.specs.Bits.{pick}
@@ -16,6 +17,10 @@ use Rattle.reader.specs.declared.Reading.{Reading}
 abbrev pub refusalOf : Answer → ℕ
 refusalOf Accepted = 0
 refusalOf (Refused n) = n
+
+abbrev pub isAccepted : Answer → Bool
+isAccepted Accepted = true
+isAccepted (Refused n) = false
 
 abbrev pub refusing : ℕ → Reading
 refusing n = record { answer = Refused n; found = zeroRecord }

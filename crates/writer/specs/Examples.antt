@@ -122,6 +122,7 @@ too-wide = (refl, refl, refl)
 nothing-written : outIs (told (pair 9 200 199) 0 0 0) (replicate 12 0xff) ≡ replicate 12 0xff
 unfolding writing
 nothing-written = refl
+
 -- ---- from words
 
 -- an ACK for user 5 with service 1 and one restricted number: its length and the digit 1

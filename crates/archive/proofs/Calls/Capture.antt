@@ -1,5 +1,5 @@
 -- What capture answers, case by case, and that what it files keeps the rules. Assumes nothing.
-use mathlib.Core.Path.{_≡_, refl, ap, sym}
+use mathlib.Core.Path.{_≡_, refl, ap, sym, _∙_}
 use mathlib.Core.Bool.{Bool, true, false, _&&_}
 use mathlib.Core.List.{List}
 use Prim.Native.Nat.{ℕ, _<_, _≤_}
@@ -7,20 +7,25 @@ use native.Mathlib.Omega.{arith}
 use lib.ListN.{length}
 use Rattle.bits.specs.Bits.{pick}
 use Rattle.bits.proofs.Tests.{never, and-false, both⁻¹, picked}
+use Rattle.walk.specs.Walk.{walkIs}
+use Rattle.walk.specs.declared.Head.{Head}
+use Rattle.walk.specs.declared.Refusal.{Refusal}
+use Rattle.walk.specs.declared.Walked.the-variants as walked
 use Rattle.reader.specs.Read.{readIs}
 use Rattle.reader.specs.declared.Answer.{Answer}
 use Rattle.reader.specs.declared.Answer.the-variants as reader
-use Rattle.judging.specs.Judge.{isAccepted, mayHold}
+use Rattle.judging.specs.Judge.{mayHold}
 use Rattle.archive.specs.Model.{bytesOf, Archive, lengthOf, withinLimits}
 use Rattle.archive.specs.Filing.{entryFor, filingOf}
 use Rattle.archive.specs.Reading.{homeOf, reading, isArchive}
 use Rattle.archive.specs.Keeping.{leaves, heldFor, captured, ifAccepted, placed, captureIs, captureOut}
-use Rattle.archive.specs.Inner.{filingFor, notFiledNumber}
+use Rattle.archive.specs.Inner.{filingUnder}
 use Rattle.archive.specs.declared.Stored.{Stored}
 use Rattle.archive.specs.declared.Stored.the-variants.{Bytes, Refused}
 use Rattle.archive.specs.declared.contents.Entry.{Entry}
 use Rattle.archive.specs.declared.filing.Filing.the-variants.{Under, Nowhere}
-use Rattle.archive.proofs.Model.Bodies.{Agrees, was-accepted}
+use Rattle.reader.proofs.Walked.{answerOf, same-answer}
+use Rattle.archive.proofs.Model.Bodies.{Agrees, walk-accepted, filed-by-head}
 use Rattle.archive.proofs.Bytes.Walking.{home-is}
 use Rattle.archive.proofs.Bytes.Checking.{sound}
 use lib.Dec.{leb}
@@ -37,13 +42,12 @@ home-fits b ok = sound b ok .home
 
 -- ---- filing
 
-pub filed-under : (home : ℕ) (s : List ℕ) (n : ℕ) {e : Entry} → filingFor home s n ≡ Under e
+pub filed-under : (home : ℕ) (s : List ℕ) (n : ℕ) {x : Head} {e : Entry} → walkIs s n ≡ walked.Accepted x → filingUnder home x n ≡ Under e
     → (readIs s n .answer ≡ reader.Accepted) × (mayHold (readIs s n .found) ≡ true) × (entryFor home (readIs s n .found) n ≡ e)
-unfolding filingFor filingOf
-filed-under home s n f =
-    let a = picked (isAccepted (readIs s n .answer)) f (λ x. never cc) in
-    let m = picked (mayHold (readIs s n .found)) (a .1) (λ x. never cc) in
-    (was-accepted (readIs s n .answer) (a .0), m .0, cc (m .1))
+unfolding filingOf
+filed-under home s n w f =
+    let m = picked (mayHold (readIs s n .found)) (sym (filed-by-head s n w home) ∙ f) (λ x. never cc) in
+    (walk-accepted s n w, m .0, cc (m .1))
 
 -- a PDU that is filed agrees with its entry
 pub offered-agrees : (home : ℕ) (s : List ℕ) (n : ℕ) → readIs s n .answer ≡ reader.Accepted → mayHold (readIs s n .found) ≡ true
@@ -57,16 +61,19 @@ module _ (b s : List ℕ) (n room : ℕ) where
   unfolding captureIs
   no-archive e = rw e
 
-  pub not-filed : (home : ℕ) → isArchive b ≡ true → filingFor home s n ≡ Nowhere
-      → captureIs b s n room ≡ Refused (notFiledNumber (readIs s n .answer))
-  unfolding captureIs filingFor filingOf
-  not-filed home e = rw e (go (readIs s n .answer) (mayHold (readIs s n .found)))
+  pub pdu-refused : {f : Refusal} → isArchive b ≡ true → walkIs s n ≡ walked.Refused f → captureIs b s n room ≡ Refused (f .number)
+  unfolding captureIs
+  pdu-refused e w = rw (e, same-answer s n ∙ ap answerOf w)
+
+  pub not-held : (home : ℕ) {x : Head} → isArchive b ≡ true → walkIs s n ≡ walked.Accepted x → filingUnder home x n ≡ Nowhere
+      → captureIs b s n room ≡ Refused 6
+  unfolding captureIs filingOf
+  not-held home e w f = rw (e, walk-accepted s n w) (go (mayHold (readIs s n .found)) (sym (filed-by-head s n w home) ∙ f))
     where
-      go : (a : Answer) (m : Bool) → pick (isAccepted a) (pick m (Under (entryFor home (readIs s n .found) n)) Nowhere) Nowhere ≡ Nowhere
-          → ifAccepted a (pick m (placed (captured b s n) room) (Refused 6)) ≡ Refused (notFiledNumber a)
-      go reader.Accepted true f = never cc
-      go reader.Accepted false f = refl
-      go (reader.Refused k) m f = refl
+      go : (m : Bool) → pick m (Under (entryFor home (readIs s n .found) n)) Nowhere ≡ Nowhere
+          → pick m (placed (captured b s n) room) (Refused 6) ≡ Refused 6
+      go true g = never cc
+      go false g = refl
 
   pub as-placed : isArchive b ≡ true → readIs s n .answer ≡ reader.Accepted → mayHold (readIs s n .found) ≡ true
       → captureIs b s n room ≡ placed (captured b s n) room

@@ -1,5 +1,5 @@
 -- What the rules say of a body and its entry, and that the numbers of such an entry fit their bytes. Assumes nothing.
-use mathlib.Core.Path.{_≡_, refl, sym, ap, subst}
+use mathlib.Core.Path.{_≡_, refl, sym, ap, _∙_, subst}
 use mathlib.Core.Bool.{Bool, true, false, _&&_}
 use mathlib.Core.List.{List}
 use Prim.Native.Nat.{ℕ, _≤_, _<_}
@@ -12,15 +12,20 @@ use Rattle.bits.proofs.Tests.{differ, never, both, picked, by-test}
 use Rattle.grammar.specs.declared.record.Identity.{Identity}
 use Rattle.grammar.specs.declared.record.Record.{Record}
 use Rattle.grammar.specs.Grammar.{networkOf}
-use Rattle.reader.specs.Read.{readIs}
+use Rattle.walk.specs.Walk.{walkIs}
+use Rattle.walk.specs.declared.Head.{Head}
+use Rattle.walk.specs.declared.Refusal.{Refusal}
+use Rattle.walk.specs.declared.Walked.the-variants as walked
+use Rattle.reader.specs.Read.{isAccepted, readIs}
+use Rattle.reader.proofs.Walked.{answerOf, same-answer, same-head}
 use Rattle.reader.specs.declared.Answer.{Answer}
 use Rattle.reader.specs.declared.Answer.the-variants.{Accepted, Refused}
 use Rattle.pdu.proofs.Accepted.{accepted-framed, accepted-small}
-use Rattle.judging.specs.Judge.{isAccepted, mayHold, userOf, judgedIs}
+use Rattle.judging.specs.Judge.{holdable, mayHold, judgedIs}
 use Rattle.judging.specs.declared.Judged.the-variants.{Part, Other}
 use Rattle.archive.specs.Model.{Held, bodySize}
 use Rattle.archive.specs.Filing.{entryFor, filingOf, agrees, bodyAgrees}
-use Rattle.archive.specs.Inner.{EntryFits, filingFor}
+use Rattle.archive.specs.Inner.{EntryFits, filingUnder}
 use Rattle.archive.specs.declared.contents.Key.{Key}
 use Rattle.archive.specs.declared.contents.Entry.{Entry}
 use Rattle.archive.specs.declared.filing.Filing.{Filing}
@@ -29,40 +34,46 @@ use Rattle.archive.proofs.Model.Keys.{named, is-named}
 
 -- ---- a body and its entry
 
--- what judging a PDU says decides its filing
-module _ (home : ℕ) (s : List ℕ) (n : ℕ) where
-  abbrev found : Record
-  found = readIs s n .found
-
-  pub filing-other : judgedIs s n ≡ Other → filingFor home s n ≡ Nowhere
-  unfolding filingFor filingOf judgedIs
-  filing-other = go (isAccepted (readIs s n .answer)) (mayHold found)
+-- what judging a head says decides its filing
+module _ (home : ℕ) (x : Head) (n : ℕ) where
+  pub filing-other : judgedIs x ≡ Other → filingUnder home x n ≡ Nowhere
+  unfolding filingUnder judgedIs
+  filing-other = go (holdable x) _
     where
-      go : (a b : Bool) → pick (a && b) (Part (userOf found) (found .result)) Other ≡ Other
-          → pick a (pick b (Under (entryFor home found n)) Nowhere) Nowhere ≡ Nowhere
-      go true true e = never cc
-      go true false e = refl
-      go false b e = refl
+      go : (t : Bool) (f : Filing) → pick t (Part (x .user) (x .result)) Other ≡ Other → pick t f Nowhere ≡ Nowhere
+      go true f e = never cc
+      go false f e = refl
 
-  pub filing-part : {user : Identity} {part network : ℕ} → judgedIs s n ≡ Part user part → network ≡ networkOf home user
-      → filingFor home s n ≡ Under (record { key = record { network = network; ssi = user .ssi; part = part }; bits = record { 0 = n } })
-  unfolding filingFor filingOf judgedIs
+  pub filing-part : {user : Identity} {part network : ℕ} → judgedIs x ≡ Part user part → network ≡ networkOf home user
+      → filingUnder home x n ≡ Under (record { key = record { network = network; ssi = user .ssi; part = part }; bits = record { 0 = n } })
+  unfolding filingUnder judgedIs
   filing-part {user} {part} e f =
-      let k = picked (isAccepted (readIs s n .answer) && mayHold found) e (λ x. never cc) in
-      let q = both (isAccepted (readIs s n .answer)) (mayHold found) (k .0) in
-      let u : userOf found ≡ user = cc (k .1) in
-      let p : found .result ≡ part = cc (k .1) in
-      rw (q .0, q .1, u, p, f)
+      let k = picked (holdable x) e (λ y. never cc) in
+      let u : x .user ≡ user = cc (k .1) in
+      let p : x .result ≡ part = cc (k .1) in
+      rw (k .0, u, p, f)
 
--- a body agrees with its entry if that is the one it is filed under
-pub body-filed : (home : ℕ) (h : Held) → bodyAgrees home h ≡ agrees (filingFor home (h .body) (h .entry .bits .0)) (h .entry .key)
-unfolding bodyAgrees filingFor
-body-filed home h = go (isAccepted (readIs (h .body) (h .entry .bits .0) .answer))
-    (filingOf home (readIs (h .body) (h .entry .bits .0) .found) (h .entry .bits .0))
-  where
-    go : (a : Bool) (f : Filing) → a && agrees f (h .entry .key) ≡ agrees (pick a f Nowhere) (h .entry .key)
-    go true f = refl
-    go false f = refl
+-- a PDU that the walk accepts is read, and filed by its head
+module _ (s : List ℕ) (n : ℕ) {x : Head} (w : walkIs s n ≡ walked.Accepted x) where
+  pub walk-accepted : readIs s n .answer ≡ Accepted
+  walk-accepted = same-answer s n ∙ ap answerOf w
+
+  pub filed-by-head : (home : ℕ) → filingUnder home x n ≡ filingOf home (readIs s n .found) n
+  unfolding filingUnder filingOf
+  filed-by-head home = ap (λ (y : Head). filingUnder home y n) (same-head s n w)
+
+-- a body agrees with its entry if the walk accepts it and that is the entry it is filed under
+module _ (home : ℕ) (h : Held) where
+  pub body-refused : {f : Refusal} → walkIs (h .body) (h .entry .bits .0) ≡ walked.Refused f → bodyAgrees home h ≡ false
+  unfolding bodyAgrees
+  body-refused w =
+      let e : readIs (h .body) (h .entry .bits .0) .answer ≡ _ = same-answer (h .body) (h .entry .bits .0) ∙ ap answerOf w in
+      rw e
+
+  pub body-filed : {x : Head} → walkIs (h .body) (h .entry .bits .0) ≡ walked.Accepted x
+      → bodyAgrees home h ≡ agrees (filingUnder home x (h .entry .bits .0)) (h .entry .key)
+  unfolding bodyAgrees
+  body-filed w = rw (walk-accepted (h .body) (h .entry .bits .0) w, filed-by-head (h .body) (h .entry .bits .0) w home)
 
 -- the body is a legal PDU that may be held, and its entry is the one that it is filed under
 pub record Agrees (home : ℕ) (h : Held) : Type 0 where

@@ -7,6 +7,9 @@ use borrow.Author.Needs.{needs}
 use denote.Ref.{now}
 use lib.ListN.{length}
 use Rattle.bits.proofs.Tests.{said-no, said-yes}
+use Rattle.walk.specs.Walk.{walkIs}
+use Rattle.walk.specs.declared.Head.{Head}
+use Rattle.walk.specs.declared.Walked.the-variants as walked
 use Rattle.reader.specs.Read.{readIs}
 use Rattle.reader.specs.declared.Answer.the-variants.{Accepted}
 use Rattle.judging.specs.Judge.{mayHold}
@@ -14,11 +17,11 @@ use Rattle.archive.specs.Model.{Archive, bytesOf}
 use Rattle.archive.specs.Filing.{entryFor}
 use Rattle.archive.specs.Reading.{reading, isArchive}
 use Rattle.archive.specs.Keeping.{leaves, with, heldFor, captured, placed, captureIs}
-use Rattle.archive.specs.Inner.{filingFor}
+use Rattle.archive.specs.Inner.{filingUnder, walkedNumber}
 use Rattle.archive.specs.declared.Stored.the-variants.{Refused}
 use Rattle.archive.specs.declared.contents.Entry.{Entry}
 use Rattle.archive.proofs.Model.Bodies.{fits, Fits}
-use Rattle.archive.proofs.Calls.Capture.{home-read, home-fits, filed-under, offered-agrees, no-archive, not-filed, as-placed, capture-leaves}
+use Rattle.archive.proofs.Calls.Capture.{home-read, home-fits, filed-under, offered-agrees, no-archive, pdu-refused, not-held, as-placed, capture-leaves}
 use Rattle.archive.proofs.capture.Statement.{statement}
 use Rattle.archive.proofs.capture.Tie as tie
 
@@ -28,72 +31,89 @@ returns c =
     let e = no-archive (now (a .archive)) (now (a .body)) (a .n .0) (length (now (a .out))) (said-no (c .before .check .ensures) (c .if1 .taken)) in
     (sym e, sym (capture-leaves _ _ _ (now (a .out)) e))
 
-ok : (c : tie.Else1) → isArchive (now (c .before .before .before .before .before .args .archive)) ≡ true
-ok c = said-yes (c .before .check .ensures) (c .if1 .left)
-
 -- the archive's bytes, the PDU, its bit length and the lent buffer
-abbrev b-of : tie.After-filing-of → List ℕ
-b-of c = now (c .before .before .before .before .before .before .before .args .archive)
+abbrev b-of : tie.After-walk → List ℕ
+b-of c = now (c .before .before .before .before .before .before .args .archive)
 
-abbrev s-of : tie.After-filing-of → List ℕ
-s-of c = now (c .before .before .before .before .before .before .before .args .body)
+abbrev s-of : tie.After-walk → List ℕ
+s-of c = now (c .before .before .before .before .before .before .args .body)
 
-abbrev n-of : tie.After-filing-of → ℕ
-n-of c = c .before .before .before .before .before .before .before .args .n .0
+abbrev n-of : tie.After-walk → ℕ
+n-of c = c .before .before .before .before .before .before .args .n .0
 
-abbrev out-of : tie.After-filing-of → List ℕ
-out-of c = now (c .before .before .before .before .before .before .before .args .out)
+abbrev out-of : tie.After-walk → List ℕ
+out-of c = now (c .before .before .before .before .before .before .args .out)
 
-filed : (c : tie.After-filing-of) → c .filing-of .result ≡ filingFor (reading (b-of c) .home) (s-of c) (n-of c)
-filed c =
-    c .filing-of .ensures
-    ∙ ap (λ (home : ℕ). filingFor home (s-of c) (n-of c)) (c .before .home .ensures ∙ home-read (b-of c) (ok (c .before .before)))
+ok : (c : tie.After-walk) → isArchive (b-of c) ≡ true
+ok c = let passed = c .before in said-yes (passed .before .check .ensures) (passed .if1 .left)
 
+-- the walk's refusal is passed on
 returns-2 : tie.Need-returns-2
 returns-2 c =
     let told = c .before in
-    let f = told .before .before in
-    let e : captureIs (b-of f) (s-of f) (n-of f) (length (out-of f)) ≡ Refused (c .not-filed-number .result) =
-    not-filed _ _ _ _ _ (ok (f .before .before)) (sym (filed f) ∙ told .enum-told .given .1)
-    ∙ ap (λ (x : ℕ). Refused x) (sym (c .not-filed-number .ensures))
+    let w = told .before .before in
+    let e : captureIs (b-of w) (s-of w) (n-of w) (length (out-of w)) ≡ Refused (c .refusal-number .result) =
+    pdu-refused _ _ _ _ (ok w) (sym (w .walk .ensures) ∙ told .enum-told .given .1)
+    ∙ ap (λ (x : ℕ). Refused x) (sym (c .refusal-number .ensures ∙ ap walkedNumber (told .enum-told .given .1)))
     in
-    (sym e, sym (capture-leaves _ _ _ (out-of f) e))
+    (sym e, sym (capture-leaves _ _ _ (out-of w) e))
+
+-- the head of the accepted PDU, and what is filed by it
+abbrev walk-of : tie.After-filing-of → tie.After-walk
+walk-of c = c .before .before .before .before .before
+
+abbrev head-of : tie.After-filing-of → Head
+head-of c = c .before .before .before .walked .given .0 .0
+
+accepted : (c : tie.After-filing-of) → walkIs (s-of (walk-of c)) (n-of (walk-of c)) ≡ walked.Accepted (head-of c)
+accepted c = sym (walk-of c .walk .ensures) ∙ c .before .before .before .walked .given .1
+
+filed : (c : tie.After-filing-of) → let w = walk-of c in c .filing-of .result ≡ filingUnder (reading (b-of w) .home) (head-of c) (n-of w)
+filed c =
+    let w = walk-of c in
+    c .filing-of .ensures ∙ ap (λ (home : ℕ). filingUnder home (head-of c) (n-of w)) (c .before .home .ensures ∙ home-read (b-of w) (ok w))
+
+returns-3 : tie.Need-returns-3
+returns-3 c =
+    let f = c .before .before in
+    let w = walk-of f in
+    let e = not-held (b-of w) (s-of w) (n-of w) (length (out-of w)) (reading (b-of w) .home) (ok w) (accepted f) (sym (filed f) ∙ c .enum-told2 .given .1) in
+    (sym e, sym (capture-leaves _ _ _ (out-of w) e))
 
 -- the entry is the one that the PDU is held under
-under : (c : tie.After-filing) → let f = c .before .before in (readIs (s-of f) (n-of f) .answer ≡ Accepted)
-    × (mayHold (readIs (s-of f) (n-of f) .found) ≡ true)
-    × (entryFor (reading (b-of f) .home) (readIs (s-of f) (n-of f) .found) (n-of f) ≡ c .filing .given .0 .0)
-under c = filed-under _ _ _ (sym (filed (c .before .before)) ∙ c .filing .given .1)
+under : (c : tie.After-filing) → let w = walk-of (c .before .before) in (readIs (s-of w) (n-of w) .answer ≡ Accepted)
+    × (mayHold (readIs (s-of w) (n-of w) .found) ≡ true)
+    × (entryFor (reading (b-of w) .home) (readIs (s-of w) (n-of w) .found) (n-of w) ≡ c .filing .given .0 .0)
+under c = let f = c .before .before in filed-under _ _ _ (accepted f) (sym (filed f) ∙ c .filing .given .1)
 
-fit : (c : tie.After-filing) → Fits (record { entry = c .filing .given .0 .0; body = s-of (c .before .before) })
+fit : (c : tie.After-filing) → Fits (record { entry = c .filing .given .0 .0; body = s-of (walk-of (c .before .before)) })
 fit c =
-    let f = c .before .before in
-    let home = reading (b-of f) .home in
-    subst (λ (e : Entry). Fits (record { entry = e; body = s-of f })) (under c .2)
-    (fits home (heldFor home (s-of f) (n-of f)) (home-fits (b-of f) (ok (f .before .before)))
-    (offered-agrees home (s-of f) (n-of f) (under c .0) (under c .1)))
+    let w = walk-of (c .before .before) in
+    let home = reading (b-of w) .home in
+    subst (λ (e : Entry). Fits (record { entry = e; body = s-of w })) (under c .2)
+    (fits home (heldFor home (s-of w) (n-of w)) (home-fits (b-of w) (ok w)) (offered-agrees home (s-of w) (n-of w) (under c .0) (under c .1)))
 
 file-requires : tie.Need-file-requires
 file-requires c κs =
     let filing = c .before .before in
-    (ok (filing .before .before .before .before), fit filing .entry, fit filing .full)
+    (ok (walk-of (filing .before .before)), fit filing .entry, fit filing .full)
 
-returns-3 : tie.Need-returns-3
+returns-4 : tie.Need-returns-4
 unfolding captured
-returns-3 c =
+returns-4 c =
     let file = c .before .before in
     let filing = file .before .before .before in
-    let f = filing .before .before in
-    let is : with (reading (b-of f)) (record { entry = filing .filing .given .0 .0; body = s-of f }) ≡ captured (b-of f) (s-of f) (n-of f) =
-    ap (λ (e : Entry). with (reading (b-of f)) (record { entry = e; body = s-of f })) (sym (under filing .2))
+    let w = walk-of (filing .before .before) in
+    let is : with (reading (b-of w)) (record { entry = filing .filing .given .0 .0; body = s-of w }) ≡ captured (b-of w) (s-of w) (n-of w) =
+    ap (λ (e : Entry). with (reading (b-of w)) (record { entry = e; body = s-of w })) (sym (under filing .2))
     in
-    let e : captureIs (b-of f) (s-of f) (n-of f) (length (out-of f)) ≡ file .file .result =
-    as-placed (b-of f) (s-of f) (n-of f) (length (out-of f)) (ok (f .before .before)) (under filing .0) (under filing .1)
-    ∙ sym (file .file .ensures .0 ∙ ap (λ (a : Archive). placed a (length (out-of f))) is)
+    let e : captureIs (b-of w) (s-of w) (n-of w) (length (out-of w)) ≡ file .file .result =
+    as-placed (b-of w) (s-of w) (n-of w) (length (out-of w)) (ok w) (under filing .0) (under filing .1)
+    ∙ sym (file .file .ensures .0 ∙ ap (λ (a : Archive). placed a (length (out-of w))) is)
     in (
       sym e,
-      file .file .ensures .1 ∙ ap (λ (a : Archive). leaves (file .file .result) (bytesOf a) (out-of f)) is
-          ∙ sym (capture-leaves (b-of f) (s-of f) (n-of f) (out-of f) e),
+      file .file .ensures .1 ∙ ap (λ (a : Archive). leaves (file .file .result) (bytesOf a) (out-of w)) is
+          ∙ sym (capture-leaves (b-of w) (s-of w) (n-of w) (out-of w) e),
     )
 
 pub capture-spec : {M : Type 1} → statement M
@@ -103,11 +123,15 @@ capture-spec =
     (λ c κs. search needs)
     returns
     (λ c κs. search needs)
-    (λ c κs. search needs)
     (λ c. search needs)
     (λ c. search needs)
     (λ c κs. search needs)
     returns-2
+    (λ c κs. search needs)
+    (λ c κs. search needs)
+    (λ c. search needs)
+    (λ c. search needs)
+    returns-3
     file-requires
     (λ c. search needs)
-    returns-3)
+    returns-4)

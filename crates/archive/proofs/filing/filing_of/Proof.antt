@@ -1,4 +1,4 @@
--- What judging says of the PDU is what is filed. Assumes nothing.
+-- What judging says of the head is what is filed. Assumes nothing.
 use mathlib.Core.Path.{sym, _∙_}
 use borrow.Author.Needs.{needs}
 use Rattle.archive.proofs.Model.Bodies.{filing-other, filing-part}
