@@ -2,7 +2,7 @@
 use mathlib.Core.Path.{_≡_, refl, sym, ap, _∙_, subst}
 use mathlib.Core.Bool.{Bool, true}
 use mathlib.Core.List.{List}
-use Prim.Native.Nat.{ℕ, zero, suc, _+_, _-_, _*_, _/_, _%_, _^_, _≤_, _<_}
+use Prim.Native.Nat.{ℕ, suc, _+_, _-_, _*_, _/_, _%_, _^_, _≤_, _<_}
 use native.Mathlib.Nat.{mul-suc}
 use native.Mathlib.Omega.{arith}
 use lib.ListN.{length, length-take}
@@ -35,7 +35,8 @@ pub ends-as : {f g : List Bool → Reached → Reached} {s : List ℕ} {at m k e
 ends-as same h r = record { after = r .after; near = omega (arith, r .near); there = λ n few i. same _ _ ∙ r .there n few i }
 
 -- one part after another
-pub ends-then : {f g : List Bool → Reached → Reached} {s : List ℕ} {at m p k q : ℕ} → Ends f s at m p → Ends g s p k q → Ends (λ l r. g l (f l r)) s at (m + k) q
+pub ends-then : {f g : List Bool → Reached → Reached} {s : List ℕ} {at m p k q : ℕ} → Ends f s at m p → Ends g s p k q
+    → Ends (λ l r. g l (f l r)) s at (m + k) q
 ends-then {g = g} x y = record {
   after = omega (arith, x .after, y .after);
   near = omega (arith, x .near, y .near);
@@ -47,11 +48,13 @@ pub ends-none : (f : List Bool → Reached → Reached) (s : List ℕ) (at : ℕ
 unfolding steps
 ends-none f s at = record { after = omega arith; near = omega arith; there = λ n few i. refl }
 
-pub ends-more : {f : List Bool → Reached → Reached} (done k : ℕ) {s : List ℕ} {at m p q : ℕ} → k ≡ done + 1 → Ends (λ l. steps (f l) done) s at (m * done) p
+pub ends-more : {f : List Bool → Reached → Reached} (done k : ℕ) {s : List ℕ} {at m p q : ℕ} → k ≡ done + 1
+    → Ends (λ l. steps (f l) done) s at (m * done) p
     → Ends f s p m q → Ends (λ l. steps (f l) k) s at (m * k) q
 ends-more {f = f} done k {m = m} e x y =
     let one : k ≡ suc done = omega arith in
-    ends-as (λ l r. ap (λ (j : ℕ). steps (f l) j r) one ∙ steps-last (f l) done r) (omega (arith, mul-suc m done, ap (λ (j : ℕ). m * j) one)) (ends-then x y)
+    ends-as (λ l r. ap (λ (j : ℕ). steps (f l) j r) one ∙ steps-last (f l) done r) (omega (arith, mul-suc m done, ap (λ (j : ℕ). m * j) one))
+    (ends-then x y)
 
 -- ---- numbers in a window
 
@@ -67,11 +70,13 @@ pub in-front : (s : List ℕ) (at w k : ℕ) → w + k ≡ 57 → 1 ≤ w → {v
 in-front s at w k size some e =
     let rest : k ≡ 57 - 0 - w = omega arith in
     in-window s at 0 w at (omega arith) some (omega arith)
-    (e ∙ sym (shr-mod w k (subst (λ (n : ℕ). windowAt s at < 2 ^ n) (sym size) (window-lt s at))) ∙ ap (λ (j : ℕ). windowAt s at / 2 ^ j % 2 ^ w) rest)
+    (e ∙ sym (shr-mod w k (subst (λ (n : ℕ). windowAt s at < 2 ^ n) (sym size) (window-lt s at)))
+    ∙ ap (λ (j : ℕ). windowAt s at / 2 ^ j % 2 ^ w) rest)
 
 -- an element, and what it says
 pub coded-ends : {B C : Type 0} (codec : Codec C) (w : ℕ) (refuse : ℕ → ℕ) (d : ℕ → Codec B) (g : ℕ → B → C) {s : List ℕ} {at v m end : ℕ}
-    → ((l : List Bool) (at : ℕ) → readAt codec l at ≡ andNext (readAt (element w refuse) l at) (λ a p. andNext (readAt (d a) l p) (λ b q. got (g a b) q)))
+    → ((l : List Bool) (at : ℕ) → readAt codec l at ≡ andNext (readAt (element w refuse) l at)
+    (λ a p. andNext (readAt (d a) l p) (λ b q. got (g a b) q)))
     → Holds s at w v → refuse v ≡ 0 → Ends (pass (d v)) s (at + w) m end → Ends (pass codec) s at (w + m) end
 unfolding resume
 coded-ends codec w refuse d g {s} {at} {v} shape holds legal r = record {
@@ -90,5 +95,6 @@ pub row-ends : (refuse : ℕ → ℕ) (w k m : ℕ) → 1 ≤ w → 1 ≤ k → 
 row-ends refuse w k m some one few {s} {at} {v} {size} e holds legal = record {
   after = omega arith;
   near = omega arith;
-  there = λ n short i. row-passes refuse w some (bitsIn n s) at k m one few (subst (λ (j : ℕ). readAt (number j) (bitsIn n s) at ≡ got v (at + size)) e (holds n i)) legal;
+  there = λ n short i. row-passes refuse w some (bitsIn n s) at k m one few
+      (subst (λ (j : ℕ). readAt (number j) (bitsIn n s) at ≡ got v (at + size)) e (holds n i)) legal;
 }

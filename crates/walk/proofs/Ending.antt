@@ -1,11 +1,10 @@
 -- The walk's answer, by where reading its elements ends. Assumes nothing.
-use mathlib.Core.Path.{_≡_, refl, sym, ap, ap₂, _∙_}
+use mathlib.Core.Path.{_≡_, refl, ap, _∙_}
 use mathlib.Core.Bool.{Bool, true, false}
 use mathlib.Core.List.{List}
-use Prim.Native.Nat.{ℕ, _≤_, _<_}
+use Prim.Native.Nat.{ℕ}
 use native.Mathlib.Omega.{arith}
 use borrow.Author.Tests.{le-ltb}
-use lib.ListN.{length}
 use lib.Dec.{ltb}
 use Rattle.bits.specs.Bits.{pick}
 use Rattle.bits.specs.Frame.{bitsIn, framed}
@@ -46,7 +45,8 @@ module _ (s : List ℕ) (n : ℕ) (f : framed s n ≡ true) where
       ap (λ (t : Bool). pick t (walkedOf (wholeParse pdu (bitsIn n s))) (refusing 1 place.Nowhere)) f
       ∙ walked-answer (wholeParse pdu (bitsIn n s))
       ∙ ap as-walked (whole-at pdu (bitsIn n s))
-      ∙ ap (λ (m : ℕ). as-walked (andNext (readAt pdu (bitsIn n s) 0) (λ r at. pick (ltb at m) (refused 5 at) (got r at)))) (length-bitsIn s n (framed-says s n f))
+      ∙ ap (λ (m : ℕ). as-walked (andNext (readAt pdu (bitsIn n s) 0) (λ r at. pick (ltb at m) (refused 5 at) (got r at))))
+      (length-bitsIn s n (framed-says s n f))
 
   -- where reading stands after the last element, and the result
   pub ending : (q : Reached) (result : ℕ) → resultIn (bitsIn n s) ≡ placed q result → walkIs s n ≡ endedIs s n q result

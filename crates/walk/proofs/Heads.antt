@@ -5,7 +5,7 @@ use mathlib.Core.List.{List, _∷_}
 use Prim.Native.Nat.{ℕ, zero, suc, _+_, _/_, _%_, _^_, _≤_}
 use native.Mathlib.Omega.{arith}
 use borrow.Author.Tests.{eqb-false}
-use lib.ListN.{length, getD}
+use lib.ListN.{getD}
 use lib.Dec.{eqb, leb}
 use lib.Pow.{shr-mod}
 use Rattle.bits.specs.Bits.{pick}
@@ -46,7 +46,8 @@ some-user code = go (eqb code 0) (leb code 8) (eqb code 9) refl
     go false false false e h = absurd (omega arith)
 
 -- the first of some entries stands where they begin
-first-entry : {A P : Type 0} (c z : Codec A) (l : List Bool) (m k at : ℕ) (d : A) {t : List A} {q : ℕ} → 1 ≤ k → readAt (places c z (suc m) k) l at ≡ got t q
+first-entry : {A P : Type 0} (c z : Codec A) (l : List Bool) (m k at : ℕ) (d : A) {t : List A} {q : ℕ} → 1 ≤ k → readAt (places c z (suc m) k) l at
+    ≡ got t q
     → ((p : ℕ) → readAt c l at ≡ got (getD t 0 d) p → P) → P
 first-entry c z l m zero at d h e f = absurd (omega arith)
 first-entry c z l m (suc k) at d {t} h e f =
@@ -65,15 +66,18 @@ module _ (s : List ℕ) (n : ℕ) where
       both-found (readAt (extension present) l p′) _ g′ (λ ext p″ f″ g″.
       let high : ssi ≡ windowAt s at / 2 ^ 33 = x .0 ∙ shr-mod 24 33 (window-lt s at) in
       let is : u ≡ record { ssi = ssi; present = present; extension = ext } = cc in
-      is ∙ ap₃ high (y .0) (go (eqb present 1) f″ (omega (arith, x .1, y .1)) ∙ ap (λ (b : ℕ). pick (eqb b 1) (windowAt s at / 2 ^ 8 % 2 ^ 24) 0) (y .0)))))
+      is ∙ ap₃ high (y .0) (go (eqb present 1) f″ (omega (arith, x .1, y .1))
+      ∙ ap (λ (b : ℕ). pick (eqb b 1) (windowAt s at / 2 ^ 8 % 2 ^ 24) 0) (y .0)))))
     where
       l : List Bool
       l = bitsIn n s
 
-      ap₃ : {a b c x y z : ℕ} → a ≡ x → b ≡ y → c ≡ z → _≡_ {A = Identity} (record { ssi = a; present = b; extension = c }) (record { ssi = x; present = y; extension = z })
+      ap₃ : {a b c x y z : ℕ} → a ≡ x → b ≡ y → c ≡ z → _≡_ {A = Identity} (record { ssi = a; present = b; extension = c })
+          (record { ssi = x; present = y; extension = z })
       ap₃ f g h = rw (f, g, h)
 
-      go : (t : Bool) {ext p q : ℕ} → readAt (pick t (number 24) absent) l p ≡ got ext q → p ≡ at + 25 → ext ≡ pick t (windowAt s at / 2 ^ 8 % 2 ^ 24) 0
+      go : (t : Bool) {ext p q : ℕ} → readAt (pick t (number 24) absent) l p ≡ got ext q → p ≡ at + 25 → ext
+          ≡ pick t (windowAt s at / 2 ^ 8 % 2 ^ 24) 0
       go true f h = number-is s n at 25 24 f h (omega arith) (omega arith) .0
       go false {ext} {p} f h = let g = readAt-absent l p in cc
 

@@ -53,7 +53,8 @@ made : {A B : Type 0} (o : Found A) (f : A → B) → reachedOf (andNext o (λ a
 made (got a p) f = refl
 made (refused n p) f = refl
 
-made-resume : {A B : Type 0} (r : Reached) (f : ℕ → Found A) (g : A → B) → reachedOf (resume r (λ at. andNext (f at) (λ a p. got (g a) p))) ≡ reachedOf (resume r f)
+made-resume : {A B : Type 0} (r : Reached) (f : ℕ → Found A) (g : A → B) → reachedOf (resume r (λ at. andNext (f at) (λ a p. got (g a) p)))
+    ≡ reachedOf (resume r f)
 unfolding resume
 made-resume (At c) f g = made (f (c .at)) g
 made-resume (Refused n p) f g = refl
@@ -85,7 +86,8 @@ pub pass-three : {A B C D : Type 0} (e : Codec D) (c : Codec A) (d : Codec B) (f
 unfolding pass resume
 pass-three {A} {B} e c d f g l (At p) h = ap reachedOf (h (p .at)) ∙ go (readAt c l (p .at))
   where
-    then : (o : Found B) (a : A) → reachedOf (andNext o (λ b q. andNext (readAt f l q) (λ x t. got (g a b x) t))) ≡ reachedOf (resume (reachedOf o) (readAt f l))
+    then : (o : Found B) (a : A) → reachedOf (andNext o (λ b q. andNext (readAt f l q) (λ x t. got (g a b x) t)))
+        ≡ reachedOf (resume (reachedOf o) (readAt f l))
     then (got b q) a = made (readAt f l q) (g a b)
     then (refused n q) a = refl
 

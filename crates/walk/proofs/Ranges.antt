@@ -9,7 +9,6 @@ use Rattle.codec.specs.Places.{places}
 use Rattle.codec.specs.Reading.{Found, got, refused, andNext, unlessAt, readAt, resume, reachedOf, numberIs, testedIs}
 use Rattle.codec.specs.declared.Reached.{Reached}
 use Rattle.codec.specs.declared.Reached.the-variants.{At, Refused}
-use Rattle.codec.specs.declared.NumberRead.{NumberRead}
 use Rattle.codec.proofs.Reading.{andNext-assoc, readAt-cons, readAt-tested, readAt-legal}
 use Rattle.codec.proofs.Filling.{places-rest}
 use Rattle.codec.proofs.Onward.{placed, resume-same, go-on}

@@ -14,7 +14,8 @@ use Rattle.grammar.proofs.Steps.{noServices-at, noPart-at}
 use Rattle.walk.specs.Inner.{resultIn}
 
 module _ (l : List Bool) (at : ℕ) where
-  pub interrogate-result : andNext (readAt interrogate l at) (λ rest p. got (rest .1 .0) p) ≡ andNext (readAt (element 2 askedRefusal) l at) (λ asked p. got 0 p)
+  pub interrogate-result : andNext (readAt interrogate l at) (λ rest p. got (rest .1 .0) p)
+      ≡ andNext (readAt (element 2 askedRefusal) l at) (λ asked p. got 0 p)
   unfolding interrogate
   interrogate-result = simp (readAt-seq, andNext-assoc, readAt-absent, noServices-at, noPart-at)
 
@@ -24,14 +25,17 @@ module _ (l : List Bool) (at : ℕ) where
   unfolding interrogateAck
   ack-result = simp (readAt-seq, andNext-assoc, readAt-absent)
 
-  pub pdu-at : readAt pdu l at ≡ andNext (readAt (element 6 (only ssType)) l at) (λ ss at₁. andNext (readAt (element 5 kindRefusal) l at₁) (λ kind at₂.
-      andNext (readAt (identities of.Users) l at₂) (λ affected at₃. andNext (readAt (restOf kind) l at₃) (λ rest at₄. got (toRecord (kind, (affected, rest))) at₄))))
+  pub pdu-at : readAt pdu l at ≡ andNext (readAt (element 6 (only ssType)) l at)
+      (λ ss at₁. andNext (readAt (element 5 kindRefusal) l at₁) (λ kind at₂.
+      andNext (readAt (identities of.Users) l at₂) (λ affected at₃. andNext (readAt (restOf kind) l at₃)
+      (λ rest at₄. got (toRecord (kind, (affected, rest))) at₄))))
   unfolding pdu
   pdu-at = simp (mark-at, readAt-shaped, readAt-seq, andNext-assoc)
 
 -- reading a PDU begins at its first bit
 pub pdu-result : (l : List Bool) → resultIn l
-    ≡ resume (At (record { at = 0 })) (λ at. andNext (readAt (element 6 (only ssType)) l at) (λ ss at₁. andNext (readAt (element 5 kindRefusal) l at₁) (λ kind at₂.
+    ≡ resume (At (record { at = 0 })) (λ at. andNext (readAt (element 6 (only ssType)) l at)
+    (λ ss at₁. andNext (readAt (element 5 kindRefusal) l at₁) (λ kind at₂.
     andNext (readAt (identities of.Users) l at₂) (λ affected at₃. andNext (readAt (restOf kind) l at₃) (λ rest at₄. got (rest .1 .0) at₄)))))
 unfolding resume resultIn
 pdu-result l = simp (pdu-at, andNext-assoc)

@@ -34,7 +34,8 @@ run-splits a b l at first second {v} {q} e =
     let low : ℕ = value (take b (drop a x)) in
     let inside : a + b ≤ length x = omega (arith, length-drop at l, says .0) in
     let is : v ≡ high * 2 ^ b + low =
-    says .1 ∙ ap value (take-add a b x) ∙ value-append (take a x) (take b (drop a x)) ∙ ap (λ (m : ℕ). high * 2 ^ m + low) (length-part x a b inside) in
+    says .1 ∙ ap value (take-add a b x) ∙ value-append (take a x) (take b (drop a x))
+    ∙ ap (λ (m : ℕ). high * 2 ^ m + low) (length-part x a b inside) in
     let small : low < 2 ^ b = value-take-fits b b (drop a x) (omega arith) in
     let front : v / 2 ^ b ≡ high =
     ap (λ (m : ℕ). m / 2 ^ b) is ∙ mul-add-div-right (pow-pos b) high low ∙ ap (λ (m : ℕ). high + m) (div-eq-of-lt small) ∙ add-zero high in

@@ -1,7 +1,7 @@
 -- Where the parts of a PDU end, as the windows at their places say. Assumes nothing.
 use mathlib.Core.Path.{_≡_, refl, sym, ap, _∙_, subst}
 use mathlib.Core.Bool.{Bool, true, false, _&&_}
-use mathlib.Core.List.{List, _∷_}
+use mathlib.Core.List.{List}
 use Prim.Native.Nat.{ℕ, zero, suc, _+_, _-_, _*_, _/_, _%_, _^_, _≤_, _<_}
 use native.Mathlib.Omega.{arith}
 use borrow.Author.Tests.{leb-true, leb-false}
@@ -17,13 +17,15 @@ use Rattle.bits.proofs.Numbers.{value-take-fits}
 use Rattle.bits.proofs.Windows.{window-part}
 use Rattle.codec.specs.Parts.{number, absent, element, only}
 use Rattle.codec.specs.Places.{places}
-use Rattle.codec.specs.Reading.{Found, got, andNext, readAt, resume, reachedOf}
+use Rattle.codec.specs.Reading.{got, readAt, resume, reachedOf}
 use Rattle.codec.specs.declared.Reached.{Reached}
 use Rattle.codec.specs.declared.Reached.the-variants.{At}
 use Rattle.codec.proofs.Reading.{readAt-absent}
 use Rattle.codec.proofs.Onward.{element-got}
-use Rattle.grammar.specs.SiteSheet.{ssType, entriesOf, rangeRefusal, digitRefusal, allDigits, serviceRefusal, kindRefusal, resultRefusal, askedRefusal, countRefusal, lengthRefusal, between}
-use Rattle.grammar.specs.Grammar.{identity, noIdentity, zeroIdentity, endsRefusal, rangeEnds, secondEnd, identities, external, noExternal, externals, services, partOf, interrogate, interrogateAck, restOf}
+use Rattle.grammar.specs.SiteSheet.{ssType, entriesOf, rangeRefusal, digitRefusal, allDigits, serviceRefusal}
+use Rattle.grammar.specs.SiteSheet.{kindRefusal, resultRefusal, askedRefusal, countRefusal, lengthRefusal, between}
+use Rattle.grammar.specs.Grammar.{identity, noIdentity, zeroIdentity, endsRefusal, identities, external, noExternal}
+use Rattle.grammar.specs.Grammar.{externals, services, partOf, interrogate, interrogateAck, restOf}
 use Rattle.grammar.specs.Zero.{zeroNumber}
 use Rattle.grammar.specs.declared.record.Identity.{Identity}
 use Rattle.grammar.specs.declared.site.ListKind.{ListKind}
@@ -102,7 +104,8 @@ legal-code list code e = go (leb code 9) refl
     go true h = leb-true code 9 h
     go false h = absurd (omega (arith, above-nine list code (leb-false code 9 h)))
 
-pub list-ends : (list : ListKind) {s : List ℕ} {at code m end : ℕ} → Holds s at 4 code → rangeRefusal list code ≡ 0 → Ends (pass (coded code)) s (at + 4) m end
+pub list-ends : (list : ListKind) {s : List ℕ} {at code m end : ℕ} → Holds s at 4 code → rangeRefusal list code ≡ 0
+    → Ends (pass (coded code)) s (at + 4) m end
     → Ends (pass (identities list)) s at (4 + m) end
 unfolding coded
 list-ends list = coded-ends (identities list) 4 (rangeRefusal list) coded _ (λ l at. identities-at l at list)
@@ -151,7 +154,8 @@ module _ {s : List ℕ} {at count size : ℕ} (is : count ≡ windowAt s at / 2 
       (ends-then
       (digits-are s (at + 5) 13 52 (omega arith) (omega arith) refl (in-window s at 5 52 (at + 5) refl (omega arith) (omega arith) whole) legal)
       (digits-are s (at + 5 + 52) k (size - 52) (omega arith) (omega arith) (omega arith)
-      (subst (λ (p : ℕ). Holds s p (size - 52) (windowAt s (at + 57) / 2 ^ (109 - size))) next (in-front s (at + 57) (size - 52) (109 - size) (omega arith) (omega arith) refl)) more)) in
+      (subst (λ (p : ℕ). Holds s p (size - 52) (windowAt s (at + 57) / 2 ^ (109 - size))) next
+      (in-front s (at + 57) (size - 52) (109 - size) (omega arith) (omega arith) refl)) more)) in
       subst (Ends (pass external) s at 4097) place
       (ends-as (λ l r. refl) (omega arith) (number-ends (in-front s at 5 52 refl (omega arith) is) counted digits))
 
@@ -181,7 +185,8 @@ services-end {count = count} holds legal listed passes =
 
 -- result, delivery status, number of services and services stand in one window
 pub ack-finds : {s : List ℕ} {at result count m end : ℕ} → result ≡ windowAt s at / 2 ^ 54 → resultRefusal result ≡ 0
-    → count ≡ windowAt s at / 2 ^ 49 % 2 ^ 3 → countRefusal count ≡ 0 → passing serviceRefusal 3 7 (windowAt s at % 2 ^ 49 / 2 ^ (49 - 3 * count)) ≡ true
+    → count ≡ windowAt s at / 2 ^ 49 % 2 ^ 3 → countRefusal count ≡ 0 → passing serviceRefusal 3 7 (windowAt s at % 2 ^ 49 / 2 ^ (49 - 3 * count))
+    ≡ true
     → Ends (pass (partOf result)) s (at + 8 + 3 * count) m end → Finds (λ l. resultFrom interrogateAck l (At (record { at = at }))) s at result end
 unfolding resultFrom resume
 ack-finds {s} {at} {result} {count} {end = end} is legal many counted passes r =
@@ -191,7 +196,8 @@ ack-finds {s} {at} {result} {count} {end = end} is legal many counted passes r =
     let rest : 49 - 3 * count ≡ 57 - 8 - 3 * count = omega arith in
     let place : at + 5 + 3 + 3 * count ≡ at + 8 + 3 * count = omega arith in
     let list : w % 2 ^ 49 / 2 ^ (49 - 3 * count) ≡ w / 2 ^ (57 - 8 - 3 * count) % 2 ^ (3 * count) =
-    ap (λ (j : ℕ). w % 2 ^ j / 2 ^ (49 - 3 * count)) (sym width) ∙ field w (3 * count) (49 - 3 * count) ∙ ap (λ (j : ℕ). w / 2 ^ j % 2 ^ (3 * count)) rest in
+    ap (λ (j : ℕ). w % 2 ^ j / 2 ^ (49 - 3 * count)) (sym width) ∙ field w (3 * count) (49 - 3 * count)
+    ∙ ap (λ (j : ℕ). w / 2 ^ j % 2 ^ (3 * count)) rest in
     let listed = services-end (in-window s at 5 3 (at + 5) refl (omega arith) (omega arith) many) counted
     (in-window s at 8 (3 * count) (at + 5 + 3) (omega arith) (omega arith) (omega arith) list) passes in
     let after = r .after in
@@ -236,5 +242,6 @@ pdu-finds kind {s} {p = p} is small legal coded single r f =
           let a = element-got 6 (only ssType) l 0 ssType 6 (in-window s 0 0 6 0 refl (omega arith) (omega arith) ss n (omega arith)) refl in
           let b = element-got 5 kindRefusal l 6 kind 11 (in-window s 0 6 5 6 refl (omega arith) (omega arith) is n (omega arith)) legal in
           pdu-result l ∙ rw (a, b)
-          (past (identities of.Users) l (At (record { at = 11 })) (At (record { at = p })) _ (sym (listed .there n few (omega arith))) ∙ f .there n few i);
+          (past (identities of.Users) l (At (record { at = 11 })) (At (record { at = p })) _ (sym (listed .there n few (omega arith)))
+          ∙ f .there n few i);
     }

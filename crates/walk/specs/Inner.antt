@@ -47,7 +47,13 @@ unfoldable pub identityIn : ℕ → Identity
 identityIn v = record { ssi = v / 2 ^ 33; present = v / 2 ^ 32 % 2; extension = pick (eqb (v / 2 ^ 32 % 2) 1) (v / 2 ^ 8 % 2 ^ 24) 0 }
 
 unfoldable pub headIn : List ℕ → ℕ → Head
-headIn s result = record { kind = windowAt s 0 / 2 ^ 46 % 2 ^ 5; code = windowAt s 0 / 2 ^ 42 % 2 ^ 4; user = identityIn (windowAt s 15); result = result }
+headIn s result = record {
+  kind = windowAt s 0 / 2 ^ 46 % 2 ^ 5;
+  code = windowAt s 0 / 2 ^ 42 % 2 ^ 4;
+  user = identityIn
+      (windowAt s 15);
+  result = result;
+}
 
 -- the answer where reading stands after the last element: 5 if bits are left
 unfoldable pub endedIs : List ℕ → ℕ → Reached → ℕ → Walked

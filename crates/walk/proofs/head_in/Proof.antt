@@ -1,10 +1,8 @@
 -- The windows at 0 and at the first user. Assumes nothing.
-use mathlib.Core.Path.{_≡_, _∙_}
-use Prim.Native.Nat.{ℕ, _<_, _^_}
 use borrow.Author.Needs.{needs}
 use denote.Ref.{now}
 use Rattle.bits.proofs.Windows.{window-lt}
-use Rattle.walk.specs.Inner.{identityIn, headIn}
+use Rattle.walk.specs.Inner.{headIn}
 use Rattle.walk.proofs.head_in.Statement.{statement}
 use Rattle.walk.proofs.head_in.Tie as tie
 
@@ -17,15 +15,5 @@ returns c = rw (c .identity-in .ensures, c .before .window2 .ensures, c .before 
 
 pub head-in-spec : {M : Type 1} → statement M
 head-in-spec =
-    tie.close
-    (tie.spec
-    (λ c κs. search needs)
-    (λ c κs. search needs)
-    identity-in-requires
-    (λ c. search needs)
-    (λ c. search needs)
-    (λ c. search needs)
-    (λ c. search needs)
-    (λ c. search needs)
-    (λ c. search needs)
-    returns)
+    tie.close (tie.spec (λ c κs. search needs) (λ c κs. search needs) identity-in-requires (λ c. search needs) (λ c. search needs) (λ c. search needs)
+    (λ c. search needs) (λ c. search needs) (λ c. search needs) returns)

@@ -1,5 +1,5 @@
 -- Refusal 1; the head, where the walk ahead ends with the PDU; or the exact walk's answer. Assumes nothing.
-use mathlib.Core.Path.{_≡_, sym, ap, _∙_}
+use mathlib.Core.Path.{sym, ap, _∙_}
 use native.Mathlib.Omega.{arith}
 use borrow.Author.Needs.{needs}
 use denote.Ref.{now}
@@ -22,16 +22,10 @@ returns-2 c =
     let framed = said-yes (e .before .is-framed .ensures) (e .if1 .left) in
     let says = framed-says (now (a .s)) (a .n .0) framed in
     ap Accepted (c .head-in .ensures)
-    ∙ sym (accepted _ _ framed (p .pdu-ahead .ensures .there (a .n .0) (says .short) (omega (arith, length-bitsIn (now (a .s)) (a .n .0) says, t .if2 .taken))) (t .if2 .taken))
+    ∙ sym (accepted _ _ framed (p .pdu-ahead .ensures .there (a .n .0) (says .short)
+    (omega (arith, length-bitsIn (now (a .s)) (a .n .0) says, t .if2 .taken))) (t .if2 .taken))
 
 pub walk-spec : {M : Type 1} → statement M
 walk-spec =
-    tie.close
-    (tie.spec
-    (λ c κs. search needs)
-    returns
-    (λ c κs. search needs)
-    (λ c κs. search needs)
-    returns-2
-    (λ c κs. let e = c .before .before .before .before in said-yes (e .before .is-framed .ensures) (e .if1 .left))
-    (λ c. c .exactly .ensures))
+    tie.close (tie.spec (λ c κs. search needs) returns (λ c κs. search needs) (λ c κs. search needs) returns-2
+    (λ c κs. let e = c .before .before .before .before in said-yes (e .before .is-framed .ensures) (e .if1 .left)) (λ c. c .exactly .ensures))

@@ -1,5 +1,5 @@
 -- A range, or single entries. Assumes nothing.
-use mathlib.Core.Path.{_≡_, refl, _∙_}
+use mathlib.Core.Path.{_∙_}
 use native.Mathlib.Omega.{arith}
 use borrow.Author.Needs.{needs}
 use Rattle.grammar.specs.SiteSheet.{rowOf, rangeType}
@@ -19,7 +19,8 @@ returns-2 : tie.Need-returns-2
 returns-2 c =
     let e = c .before in
     let code = e .before .before .args .code in
-    ends-as (λ l r. coded-single code l r (e .if1 .left) ∙ steps-count _ r (single code (omega (arith, e .if1 .left)) .2)) (omega arith) (c .entries-ahead .ensures)
+    ends-as (λ l r. coded-single code l r (e .if1 .left) ∙ steps-count _ r (single code (omega (arith, e .if1 .left)) .2)) (omega arith)
+    (c .entries-ahead .ensures)
 
 pub coded-ahead-spec : {M : Type 1} → statement M
 coded-ahead-spec = tie.close (tie.spec (λ c κs. search needs) returns (λ c κs. omega (arith, c .if1 .left)) returns-2)

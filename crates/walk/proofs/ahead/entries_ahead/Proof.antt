@@ -1,5 +1,5 @@
 -- The present bits say where the last entry ends. Assumes nothing.
-use mathlib.Core.Path.{_≡_, refl}
+use mathlib.Core.Path.{refl}
 use Prim.Native.Nat.{_+_, _-_, _*_, _≤_, _<_}
 use native.Mathlib.Omega.{arith}
 use borrow.Author.Needs.{needs}
@@ -29,17 +29,6 @@ returns c = let i = c .before .loop .inv in ends-as (λ l r. steps-count _ r (om
 
 pub entries-ahead-spec : {M : Type 1} → statement M
 entries-ahead-spec =
-    tie.close
-    (tie.spec
-    Inv-loop
-    μ-loop
-    (λ c. (omega arith, ends-none (pass identity) _ _))
-    (λ c. omega (arith, c .before .loop .inv .1 .near))
-    (λ c. omega (arith, c .before .loop .inv .1 .near))
-    (λ c κs. search needs)
-    (λ c. omega (arith, small c))
-    (λ c. omega (arith, small c, c .before .before .loop .inv .1 .near))
-    (λ c. search needs)
-    (λ c. search needs)
-    loop-again
-    returns)
+    tie.close (tie.spec Inv-loop μ-loop (λ c. (omega arith, ends-none (pass identity) _ _)) (λ c. omega (arith, c .before .loop .inv .1 .near))
+    (λ c. omega (arith, c .before .loop .inv .1 .near)) (λ c κs. search needs) (λ c. omega (arith, small c))
+    (λ c. omega (arith, small c, c .before .before .loop .inv .1 .near)) (λ c. search needs) (λ c. search needs) loop-again returns)

@@ -1,6 +1,5 @@
 -- The length and up to 13 digits stand in one window, the others in the next. Assumes nothing.
-use mathlib.Core.Path.{_≡_, refl, sym, ap, _∙_}
-use mathlib.Core.Bool.{true}
+use mathlib.Core.Path.{_≡_, sym, ap, _∙_}
 use Prim.Native.Nat.{ℕ, _-_, _/_, _%_, _^_, _≤_}
 use native.Mathlib.Omega.{arith}
 use borrow.Author.Needs.{needs}
@@ -23,7 +22,8 @@ returns-2 c =
     let b = d .before .before in
     let w = b .before .before .before in
     external-few (ap (λ (x : ℕ). x / 2 ^ 52) (w .window .ensures)) (counted (b .before)) (b .bits .ensures) (omega (arith, d .before .if2 .taken))
-    (ap (λ (x : ℕ). allDigits 16 (x % 2 ^ 52 / 2 ^ (52 - b .bits .result .0))) (sym (w .window .ensures)) ∙ sym (d .are-digits .ensures) ∙ c .if3 .taken)
+    (ap (λ (x : ℕ). allDigits 16 (x % 2 ^ 52 / 2 ^ (52 - b .bits .result .0))) (sym (w .window .ensures)) ∙ sym (d .are-digits .ensures)
+    ∙ c .if3 .taken)
 
 returns-5 : tie.Need-returns-5
 returns-5 c =
@@ -38,35 +38,9 @@ returns-5 c =
 
 pub external-ahead-spec : {M : Type 1} → statement M
 external-ahead-spec =
-    tie.close
-    (tie.spec
-    (λ c κs. search needs)
-    (λ c. search needs)
-    (λ c. search needs)
-    (λ c. search needs)
-    (λ c κs. search needs)
-    (λ c. search needs)
-    (λ c. off _ _ _ 4097 (omega arith))
-    (λ c. record { fits = omega (arith, few c) })
-    (λ c κs. search needs)
-    (λ c. search needs)
-    (λ c. search needs)
-    (λ c κs. search needs)
-    (λ c. search needs)
-    (λ c. search needs)
-    returns-2
-    (λ c. search needs)
-    (λ c. off _ _ _ 4097 (omega arith))
-    (λ c κs. search needs)
-    (λ c. search needs)
-    (λ c. off _ _ _ 4097 (omega arith))
-    (λ c. search needs)
-    (λ c κs. search needs)
-    (λ c. omega (arith, few (c .before .before .before .before .before), c .before .before .before .before .bits .ensures))
-    (λ c. search needs)
-    (λ c κs. search needs)
-    (λ c. search needs)
-    (λ c. search needs)
-    returns-5
-    (λ c. search needs)
-    (λ c. off _ _ _ 4097 (omega arith)))
+    tie.close (tie.spec (λ c κs. search needs) (λ c. search needs) (λ c. search needs) (λ c. search needs) (λ c κs. search needs) (λ c. search needs)
+    (λ c. off _ _ _ 4097 (omega arith)) (λ c. record { fits = omega (arith, few c) }) (λ c κs. search needs) (λ c. search needs) (λ c. search needs)
+    (λ c κs. search needs) (λ c. search needs) (λ c. search needs) returns-2 (λ c. search needs) (λ c. off _ _ _ 4097 (omega arith))
+    (λ c κs. search needs) (λ c. search needs) (λ c. off _ _ _ 4097 (omega arith)) (λ c. search needs) (λ c κs. search needs)
+    (λ c. omega (arith, few (c .before .before .before .before .before), c .before .before .before .before .bits .ensures)) (λ c. search needs)
+    (λ c κs. search needs) (λ c. search needs) (λ c. search needs) returns-5 (λ c. search needs) (λ c. off _ _ _ 4097 (omega arith)))

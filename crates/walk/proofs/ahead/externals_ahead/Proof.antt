@@ -1,5 +1,5 @@
 -- The range type stands in the window. Assumes nothing.
-use mathlib.Core.Path.{_≡_, refl, sym, ap, _∙_}
+use mathlib.Core.Path.{refl, sym, ap, _∙_}
 use Prim.Native.Nat.{ℕ, _/_, _^_}
 use native.Mathlib.Omega.{arith}
 use borrow.Author.Needs.{needs}
@@ -17,15 +17,6 @@ returns-2 c =
 
 pub externals-ahead-spec : {M : Type 1} → statement M
 externals-ahead-spec =
-    tie.close
-    (tie.spec
-    (λ c κs. search needs)
-    (λ c. search needs)
-    (λ c. search needs)
-    (λ c. search needs)
-    (λ c κs. search needs)
-    (λ c. search needs)
-    (λ c. off _ _ _ 32780 (omega arith))
-    (λ c. search needs)
-    (λ c κs. (omega arith, single-code _ (sym (c .before .range-refusal .ensures) ∙ c .if1 .left)))
-    returns-2)
+    tie.close (tie.spec (λ c κs. search needs) (λ c. search needs) (λ c. search needs) (λ c. search needs) (λ c κs. search needs) (λ c. search needs)
+    (λ c. off _ _ _ 32780 (omega arith)) (λ c. search needs)
+    (λ c κs. (omega arith, single-code _ (sym (c .before .range-refusal .ensures) ∙ c .if1 .left))) returns-2)

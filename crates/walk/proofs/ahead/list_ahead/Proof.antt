@@ -1,9 +1,8 @@
 -- The range type stands in the window. Assumes nothing.
-use mathlib.Core.Path.{_≡_, refl, sym, ap, _∙_}
+use mathlib.Core.Path.{refl, sym, ap, _∙_}
 use Prim.Native.Nat.{ℕ, _/_, _^_}
 use native.Mathlib.Omega.{arith}
 use borrow.Author.Needs.{needs}
-use Rattle.grammar.specs.SiteSheet.{rangeRefusal}
 use Rattle.grammar.specs.declared.site.ListKind.the-variants as of
 use Rattle.walk.proofs.Aheads.{off, in-front}
 use Rattle.walk.proofs.Sights.{legal-code, list-ends}
@@ -19,15 +18,6 @@ returns-2 c =
 
 pub list-ahead-spec : {M : Type 1} → statement M
 list-ahead-spec =
-    tie.close
-    (tie.spec
-    (λ c κs. search needs)
-    (λ c. search needs)
-    (λ c. search needs)
-    (λ c. search needs)
-    (λ c κs. search needs)
-    (λ c. search needs)
-    (λ c. off _ _ _ 4101 (omega arith))
-    (λ c. search needs)
-    (λ c κs. (omega arith, legal-code of.Identities _ (sym (c .before .range-refusal .ensures) ∙ c .if1 .left)))
-    returns-2)
+    tie.close (tie.spec (λ c κs. search needs) (λ c. search needs) (λ c. search needs) (λ c. search needs) (λ c κs. search needs) (λ c. search needs)
+    (λ c. off _ _ _ 4101 (omega arith)) (λ c. search needs)
+    (λ c κs. (omega arith, legal-code of.Identities _ (sym (c .before .range-refusal .ensures) ∙ c .if1 .left))) returns-2)

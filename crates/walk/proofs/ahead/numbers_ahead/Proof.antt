@@ -1,5 +1,5 @@
 -- One number after the other. Assumes nothing.
-use mathlib.Core.Path.{_≡_, refl}
+use mathlib.Core.Path.{refl}
 use Prim.Native.Nat.{_-_, _*_, _≤_}
 use native.Mathlib.Omega.{arith}
 use borrow.Author.Needs.{needs}
@@ -24,13 +24,5 @@ returns c = let i = c .before .loop .inv in ends-as (λ l r. steps-count _ r (om
 
 pub numbers-ahead-spec : {M : Type 1} → statement M
 numbers-ahead-spec =
-    tie.close
-    (tie.spec
-    Inv-loop
-    μ-loop
-    (λ c. (omega arith, ends-none (pass external) _ _))
-    (λ c κs. omega (arith, c .before .loop .inv .1 .near))
-    (λ c. search needs)
-    (λ c. search needs)
-    loop-again
-    returns)
+    tie.close (tie.spec Inv-loop μ-loop (λ c. (omega arith, ends-none (pass external) _ _)) (λ c κs. omega (arith, c .before .loop .inv .1 .near))
+    (λ c. search needs) (λ c. search needs) loop-again returns)

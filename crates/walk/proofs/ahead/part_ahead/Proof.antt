@@ -1,5 +1,4 @@
 -- Three lists, one after the other, or none. Assumes nothing.
-use mathlib.Core.Path.{_≡_, _∙_}
 use native.Mathlib.Omega.{arith}
 use borrow.Author.Needs.{needs}
 use borrow.Author.Tests.{ne-eqb}
@@ -17,7 +16,8 @@ returns c =
     let r = c .before in
     let g = r .before in
     rw (g .before .if1 .taken)
-    (ends-as (λ l r. pass-three identityPart (identities of.Identities) (identities of.Identities) (identities of.Identities) identityLists l r (identityPart-at l)) (omega arith)
+    (ends-as (λ l r. pass-three identityPart (identities of.Identities) (identities of.Identities) (identities of.Identities) identityLists l r
+    (identityPart-at l)) (omega arith)
     (ends-then (ends-then (g .list-ahead .ensures) (r .list-ahead2 .ensures)) (c .list-ahead3 .ensures)))
 
 returns-2 : tie.Need-returns-2
@@ -40,14 +40,7 @@ returns-3 c =
 
 pub part-ahead-spec : {M : Type 1} → statement M
 part-ahead-spec =
-    tie.close
-    (tie.spec
-    (λ c κs. search needs)
-    (λ c κs. omega (arith, c .list-ahead .ensures .near))
-    (λ c κs. omega (arith, c .list-ahead2 .ensures .near, c .before .list-ahead .ensures .near))
-    returns
-    (λ c κs. search needs)
+    tie.close (tie.spec (λ c κs. search needs) (λ c κs. omega (arith, c .list-ahead .ensures .near))
+    (λ c κs. omega (arith, c .list-ahead2 .ensures .near, c .before .list-ahead .ensures .near)) returns (λ c κs. search needs)
     (λ c κs. omega (arith, c .list-ahead4 .ensures .near))
-    (λ c κs. omega (arith, c .externals-ahead .ensures .near, c .before .list-ahead4 .ensures .near))
-    returns-2
-    returns-3)
+    (λ c κs. omega (arith, c .externals-ahead .ensures .near, c .before .list-ahead4 .ensures .near)) returns-2 returns-3)

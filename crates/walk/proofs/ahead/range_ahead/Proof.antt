@@ -1,10 +1,9 @@
 -- The windows at the two ends. Assumes nothing.
-use mathlib.Core.Path.{_≡_, refl, sym, ap, _∙_}
-use Prim.Native.Nat.{ℕ, _+_, _<_, _^_}
+use mathlib.Core.Path.{refl, sym, ap, _∙_}
+use Prim.Native.Nat.{_<_}
 use native.Mathlib.Omega.{arith}
 use borrow.Author.Needs.{needs}
 use denote.Ref.{now}
-use Rattle.bits.specs.Element.{windowAt}
 use Rattle.bits.proofs.Windows.{window-lt}
 use Rattle.walk.specs.Inner.{identityIn}
 use Rattle.walk.proofs.Aheads.{off}
@@ -29,21 +28,9 @@ returns-2 c =
 
 pub range-ahead-spec : {M : Type 1} → statement M
 range-ahead-spec =
-    tie.close
-    (tie.spec
-    (λ c κs. search needs)
-    (λ c κs. rw (c .window .ensures) (window-lt (now (c .before .before .args .s)) _))
-    (λ c. search needs)
-    (λ c. search needs)
-    (λ c. omega (arith, first-lt (c .before)))
-    (λ c. omega (arith, first-lt (c .before)))
-    (λ c κs. search needs)
-    (λ c κs. rw (c .window2 .ensures) (window-lt (now (c .before .before .before .before .before .args .s)) _))
-    (λ c κs. search needs)
-    (λ c. search needs)
-    (λ c. off _ _ _ 4097 (omega arith))
-    (λ c. omega (arith, first-lt (c .before .before .before .before .before)))
-    (λ c. search needs)
-    (λ c. omega (arith, last-lt (c .before .before .before)))
-    (λ c. omega (arith, last-lt (c .before .before .before), first-lt (c .before .before .before .before .before .before)))
-    returns-2)
+    tie.close (tie.spec (λ c κs. search needs) (λ c κs. rw (c .window .ensures) (window-lt (now (c .before .before .args .s)) _)) (λ c. search needs)
+    (λ c. search needs) (λ c. omega (arith, first-lt (c .before))) (λ c. omega (arith, first-lt (c .before))) (λ c κs. search needs)
+    (λ c κs. rw (c .window2 .ensures) (window-lt (now (c .before .before .before .before .before .args .s)) _)) (λ c κs. search needs)
+    (λ c. search needs) (λ c. off _ _ _ 4097 (omega arith)) (λ c. omega (arith, first-lt (c .before .before .before .before .before)))
+    (λ c. search needs) (λ c. omega (arith, last-lt (c .before .before .before)))
+    (λ c. omega (arith, last-lt (c .before .before .before), first-lt (c .before .before .before .before .before .before))) returns-2)

@@ -4,7 +4,7 @@ use borrow.Author.Needs.{needs}
 use borrow.Author.Tests.{ne-eqb}
 use denote.Ref.{now}
 use Rattle.bits.specs.Frame.{bitsIn}
-use Rattle.codec.specs.Reading.{Found, got, andNext, readAt, resume, elementOf}
+use Rattle.codec.specs.Reading.{got, andNext, readAt, resume, elementOf}
 use Rattle.codec.proofs.Reading.{readAt-absent}
 use Rattle.codec.proofs.Onward.{resume-same, go-on, number-read}
 use Rattle.grammar.specs.Grammar.{extension, identity}
@@ -20,18 +20,21 @@ after-present : (c : tie.After-number2) →
     let l = bitsIn (a .n .0) (now (a .s)) in
     let ssi = c .before .number .result .value in
     let present = c .number2 .result .value in
-    resume (a .start) (readAt identity l) ≡ resume (c .number2 .result .reached) (λ at. andNext {B = Identity} (readAt (extension present) l at) (λ ext p.
+    resume (a .start) (readAt identity l) ≡ resume (c .number2 .result .reached)
+    (λ at. andNext {B = Identity} (readAt (extension present) l at) (λ ext p.
     got (record { ssi = ssi; present = present; extension = ext }) p))
 unfolding elementOf
 after-present c =
-    resume-same _ _ _ (identity-at _) ∙ go-on _ _ _ _ _ (number-read _ (c .before .number .ensures)) ∙ go-on _ _ _ _ _ (number-read _ (c .number2 .ensures))
+    resume-same _ _ _ (identity-at _) ∙ go-on _ _ _ _ _ (number-read _ (c .before .number .ensures))
+    ∙ go-on _ _ _ _ _ (number-read _ (c .number2 .ensures))
 
 returns : tie.Need-returns
 unfolding elementOf extension
 returns c =
     let t = c .before in
     let ext = c .number3 .result in
-    after-present (t .before .before) ∙ rw (t .if1 .taken) (go-on _ _ (ext .reached) (ext .value) _ (number-read _ (c .number3 .ensures)) ∙ resume-got (ext .reached) _)
+    after-present (t .before .before) ∙ rw (t .if1 .taken) (go-on _ _ (ext .reached) (ext .value) _ (number-read _ (c .number3 .ensures))
+    ∙ resume-got (ext .reached) _)
 
 returns-2 : tie.Need-returns-2
 unfolding extension

@@ -25,7 +25,8 @@ returns : tie.Need-returns
 returns c =
     let t = c .before in
     c .digit-list .ensures
-    ∙ sym (pass-places (element 4 digitRefusal) absent 0 _ (readAt-absent _) 24 _ _ (element-bound 5 lengthRefusal _ _ 24 (count t) (λ v h. between-le 1 24 v)))
+    ∙ sym (pass-places (element 4 digitRefusal) absent 0 _ (readAt-absent _) 24 _ _
+    (element-bound 5 lengthRefusal _ _ 24 (count t) (λ v h. between-le 1 24 v)))
     ∙ sym (pass-then external _ _ _ (places (element 4 digitRefusal) absent 24) _ (external-at _) _ _ (number-read _ (count t)))
 
 pub pass-external-spec : {M : Type 1} → statement M

@@ -1,5 +1,5 @@
 -- The range type, and as many numbers as it says. Assumes nothing.
-use mathlib.Core.Path.{_≡_, sym, ap, _∙_}
+use mathlib.Core.Path.{sym, ap, _∙_}
 use borrow.Author.Needs.{needs}
 use Rattle.codec.specs.Places.{places}
 use Rattle.codec.specs.Reading.{elementOf}

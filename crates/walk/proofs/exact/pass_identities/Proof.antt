@@ -7,7 +7,7 @@ use Rattle.codec.specs.Parts.{tested}
 use Rattle.codec.specs.Places.{places}
 use Rattle.codec.specs.Reading.{elementOf}
 use Rattle.codec.proofs.Onward.{number-read, tested-element}
-use Rattle.grammar.specs.SiteSheet.{entriesOf, rowOf, rangeType, rangeRefusal}
+use Rattle.grammar.specs.SiteSheet.{entriesOf, rowOf, rangeType}
 use Rattle.grammar.specs.Grammar.{identity, noIdentity, zeroIdentity, rangeEnds, secondEnd, identities}
 use Rattle.grammar.specs.declared.site.Row.{Row}
 use Rattle.grammar.proofs.Codes.{entriesOf-le, not-nine}
@@ -21,10 +21,12 @@ after-code : (c : tie.After-tested) →
     let a = c .before .before .before .before .args in
     let l = bitsIn (a .n .0) (now (a .s)) in
     let code = c .tested .result .value in
-    pass (tested (places identity noIdentity 8 (entriesOf code)) (rangeEnds code) secondEnd) l (c .tested .result .reached) ≡ pass (identities (a .list)) l (a .start)
+    pass (tested (places identity noIdentity 8 (entriesOf code)) (rangeEnds code) secondEnd) l (c .tested .result .reached)
+    ≡ pass (identities (a .list)) l (a .start)
 unfolding elementOf
 after-code c =
-    sym (pass-then (identities _) _ _ _ (λ code. tested (places identity noIdentity 8 (entriesOf code)) (rangeEnds code) secondEnd) _ (λ at. identities-at _ at _) _ _
+    sym (pass-then (identities _) _ _ _ (λ code. tested (places identity noIdentity 8 (entriesOf code)) (rangeEnds code) secondEnd) _
+    (λ at. identities-at _ at _) _ _
     (number-read _ (c .tested .ensures ∙ tested-element 4 _ _ _ (c .before .before .number .ensures) (c .before .range-refusal .ensures))))
 
 returns : tie.Need-returns
@@ -42,13 +44,5 @@ returns-2 c =
 
 pub pass-identities-spec : {M : Type 1} → statement M
 pass-identities-spec =
-    tie.close
-    (tie.spec
-    (λ c κs. search needs)
-    (λ c κs. search needs)
-    (λ c κs. search needs)
-    (λ c κs. search needs)
-    returns
-    (λ c κs. search needs)
-    (λ c κs. search needs)
-    returns-2)
+    tie.close (tie.spec (λ c κs. search needs) (λ c κs. search needs) (λ c κs. search needs) (λ c κs. search needs) returns (λ c κs. search needs)
+    (λ c κs. search needs) returns-2)

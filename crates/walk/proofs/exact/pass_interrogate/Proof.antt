@@ -13,7 +13,8 @@ returns : tie.Need-returns
 unfolding elementOf resultFrom
 returns c =
     resume-same _ _ _ (interrogate-result _)
-    ∙ go-on _ _ _ _ _ (number-read _ (c .tested .ensures ∙ tested-element 2 _ _ _ (c .before .before .number .ensures) (c .before .between-refusal .ensures)))
+    ∙ go-on _ _ _ _ _ (number-read _ (c .tested .ensures ∙ tested-element 2 _ _ _ (c .before .before .number .ensures)
+    (c .before .between-refusal .ensures)))
     ∙ resume-got (c .tested .result .reached) 0
 
 pub pass-interrogate-spec : {M : Type 1} → statement M

@@ -16,7 +16,8 @@ returns c =
     let d = s .before in
     let t = d .before in
     resume-same _ _ _ (ack-result _)
-    ∙ go-on _ _ _ _ _ (number-read _ (t .tested .ensures ∙ tested-element 3 _ _ _ (t .before .before .number .ensures) (t .before .result-refusal .ensures)))
+    ∙ go-on _ _ _ _ _ (number-read _ (t .tested .ensures ∙ tested-element 3 _ _ _ (t .before .before .number .ensures)
+    (t .before .result-refusal .ensures)))
     ∙ go-on _ _ _ _ _ (number-read _ (d .number2 .ensures))
     ∙ past _ _ _ _ _ (s .pass-services .ensures)
     ∙ past _ _ _ _ _ (c .pass-part .ensures)
@@ -24,12 +25,5 @@ returns c =
 
 pub pass-interrogate-ack-spec : {M : Type 1} → statement M
 pass-interrogate-ack-spec =
-    tie.close
-    (tie.spec
-    (λ c κs. search needs)
-    (λ c κs. search needs)
-    (λ c κs. search needs)
-    (λ c κs. search needs)
-    (λ c κs. search needs)
-    (λ c κs. search needs)
-    returns)
+    tie.close (tie.spec (λ c κs. search needs) (λ c κs. search needs) (λ c κs. search needs) (λ c κs. search needs) (λ c κs. search needs)
+    (λ c κs. search needs) returns)

@@ -1,5 +1,5 @@
 -- Three lists, one after the other, or none. Assumes nothing.
-use mathlib.Core.Path.{_≡_, sym, ap, _∙_}
+use mathlib.Core.Path.{sym, ap, _∙_}
 use borrow.Author.Needs.{needs}
 use borrow.Author.Tests.{ne-eqb}
 use Rattle.grammar.specs.Grammar.{identities, externals, identityPart, numberPart, noPart}
@@ -18,7 +18,8 @@ returns c =
     rw (g .before .if1 .taken)
     (c .pass-identities3 .ensures
     ∙ ap (pass _ _) (r .pass-identities2 .ensures ∙ ap (pass _ _) (g .pass-identities .ensures))
-    ∙ sym (pass-three identityPart (identities of.Identities) (identities of.Identities) (identities of.Identities) identityLists _ _ (identityPart-at _)))
+    ∙ sym (pass-three identityPart (identities of.Identities) (identities of.Identities) (identities of.Identities) identityLists _ _
+    (identityPart-at _)))
 
 returns-2 : tie.Need-returns-2
 returns-2 c =
@@ -37,14 +38,5 @@ returns-3 c =
 
 pub pass-part-spec : {M : Type 1} → statement M
 pass-part-spec =
-    tie.close
-    (tie.spec
-    (λ c κs. search needs)
-    (λ c κs. search needs)
-    (λ c κs. search needs)
-    returns
-    (λ c κs. search needs)
-    (λ c κs. search needs)
-    (λ c κs. search needs)
-    returns-2
-    returns-3)
+    tie.close (tie.spec (λ c κs. search needs) (λ c κs. search needs) (λ c κs. search needs) returns (λ c κs. search needs) (λ c κs. search needs)
+    (λ c κs. search needs) returns-2 returns-3)

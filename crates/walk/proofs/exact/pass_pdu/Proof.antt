@@ -24,8 +24,10 @@ after-users c =
     let k = c .before in
     let t = k .before .before .before in
     pdu-result _
-    ∙ go-on _ _ _ _ _ (number-read _ (t .tested .ensures ∙ tested-element 6 _ _ _ (t .before .before .number .ensures) (t .before .ss-refusal .ensures)))
-    ∙ go-on _ _ _ _ _ (number-read _ (k .tested2 .ensures ∙ tested-element 5 _ _ _ (k .before .before .number2 .ensures) (k .before .kind-refusal .ensures)))
+    ∙ go-on _ _ _ _ _ (number-read _ (t .tested .ensures ∙ tested-element 6 _ _ _ (t .before .before .number .ensures)
+    (t .before .ss-refusal .ensures)))
+    ∙ go-on _ _ _ _ _ (number-read _ (k .tested2 .ensures ∙ tested-element 5 _ _ _ (k .before .before .number2 .ensures)
+    (k .before .kind-refusal .ensures)))
     ∙ past _ _ _ _ _ (c .pass-identities .ensures)
 
 returns : tie.Need-returns
@@ -39,16 +41,5 @@ returns-2 c =
 
 pub pass-pdu-spec : {M : Type 1} → statement M
 pass-pdu-spec =
-    tie.close
-    (tie.spec
-    (λ c κs. search needs)
-    (λ c κs. search needs)
-    (λ c κs. search needs)
-    (λ c κs. search needs)
-    (λ c κs. search needs)
-    (λ c κs. search needs)
-    (λ c κs. search needs)
-    (λ c κs. search needs)
-    returns
-    (λ c κs. search needs)
-    returns-2)
+    tie.close (tie.spec (λ c κs. search needs) (λ c κs. search needs) (λ c κs. search needs) (λ c κs. search needs) (λ c κs. search needs)
+    (λ c κs. search needs) (λ c κs. search needs) (λ c κs. search needs) returns (λ c κs. search needs) returns-2)

@@ -25,7 +25,8 @@ returns : tie.Need-returns
 returns c =
     let t = c .before in
     c .service-list .ensures
-    ∙ sym (pass-places (element 3 serviceRefusal) absent 0 _ (readAt-absent _) 7 _ _ (element-bound 3 countRefusal _ _ 7 (count t) (λ v h. between-le 1 7 v)))
+    ∙ sym (pass-places (element 3 serviceRefusal) absent 0 _ (readAt-absent _) 7 _ _
+    (element-bound 3 countRefusal _ _ 7 (count t) (λ v h. between-le 1 7 v)))
     ∙ sym (pass-then services _ _ _ (places (element 3 serviceRefusal) absent 7) _ (services-at _) _ _ (number-read _ (count t)))
 
 pub pass-services-spec : {M : Type 1} → statement M

@@ -24,22 +24,14 @@ unfolding elementOf
 loop-again c =
     let r = c .before .before in
     r .before .before .loop .inv ∙ steps-next _ _ _ (omega arith)
-    ∙ ap (steps _ _) (pass-read _ _ _ _ _ (number-read _ (c .tested .ensures ∙ tested-element 3 _ _ _ (r .number .ensures) (c .before .service-refusal .ensures))))
+    ∙ ap (steps _ _) (pass-read _ _ _ _ _ (number-read _ (c .tested .ensures
+    ∙ tested-element 3 _ _ _ (r .number .ensures) (c .before .service-refusal .ensures))))
 
 returns : tie.Need-returns Inv-loop μ-loop
 returns c = sym (c .before .loop .inv ∙ steps-none _ _ _ (omega arith))
 
 pub service-list-spec : {M : Type 1} → statement M
 service-list-spec =
-    tie.close
-    (tie.spec
-    Inv-loop
-    μ-loop
-    (λ c. refl)
-    (λ c κs. search needs)
-    (λ c κs. search needs)
-    (λ c κs. search needs)
+    tie.close (tie.spec Inv-loop μ-loop (λ c. refl) (λ c κs. search needs) (λ c κs. search needs) (λ c κs. search needs) (λ c. search needs)
     (λ c. search needs)
-    (λ c. search needs)
-    loop-again
-    returns)
+    loop-again returns)
