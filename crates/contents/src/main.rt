@@ -1,7 +1,9 @@
 // Prints what the archive on standard input holds, or `refused 7` where there is none: reads, has the library report, and writes that.
 use archive::listing;
+ghost use mathlib.Core.Path.{_≡_};
 ghost use Prim.Native.Nat.{_≤_};
 ghost use lib.ListN.{length};
+ghost use Rattle.bits.specs.Bits.{pick};
 
 fn main() {
     // one byte more than an archive may have, so that longer input is refused
@@ -22,7 +24,7 @@ struct Got {
 
 // How many of the bytes that came are looked at: none where a read failed, and no bytes are no archive.
 fn archive_length(got: Got) -> usize
-    ensures { λ r. ⌜ r ≤ got .count ⌝ }
+    ensures { λ r. ⌜ r ≡ pick (got .failed) 0 (got .count) ⌝ }
 {
     if got.failed {
         return 0;

@@ -6,7 +6,6 @@ use borrow.Author.Tests.{le-leb, lt-leb}
 use denote.Ref.{now}
 use lib.ListN.{length}
 use lib.Dec.{leb}
-use Rattle.archive.proofs.Bytes.Copied.{at-front}
 use Rattle.archive.proofs.listing.write_refused.Statement.{statement}
 use Rattle.archive.proofs.listing.write_refused.Tie as tie
 
@@ -20,8 +19,7 @@ returns-2 c =
     let append = c .before .before in
     let test = append .before .before .before in
     let k : leb 10 (length (now (test .before .before .args .out))) ≡ true = le-leb _ _ (test .if1 .left) in
-    let w = at-front (append .append .ensures) in
-    (rw k (w .0), rw k (w .1))
+    (rw k (append .append .ensures .ends), rw k (append .append .ensures .same))
 
 pub write-refused-spec : {M : Type 1} → statement M
 write-refused-spec =
