@@ -15,9 +15,8 @@
  * them. Calls may run at the same time on one archive, PDU, record or request, as long as nobody changes it; what a
  * call writes is its own until it returns.
  *
- * Stack. A call needs less than 9 KiB of stack: no function calls itself or has a frame of varying size, and the
- * deepest call, boc_decide, took 8,848 bytes on x86-64, most of them for copies of the record that it reads (docs/BENCHMARKS.md).
- * The tests refuse more than 16 KiB; allow that much on another processor.
+ * Stack. No function calls itself or has a frame of varying size. boc_decide, which unpacks a record, needs at most
+ * 5 KiB of stack, every other call at most 1 KiB: the tests refuse more (docs/BENCHMARKS.md has what was measured).
  *
  * PDU. A PDU is a number of bits, most significant bit first, in exactly that number divided by 8, rounded up, of
  * bytes; unused bits at the end are zero.

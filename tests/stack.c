@@ -4,7 +4,7 @@
  * for one user and for eight; archives of 512 entries and of 65,536 bytes, asked about their last entry. It is tried
  * accepted, and refused as late as it can be: at the last element, for the last byte of room, for the last entry.
  * Prints a Markdown table; ends with status 1 if an answer is not the one that is expected, or a call uses more than
- * 16 KiB.
+ * its limit: 5 KiB for a decision, which unpacks a record, and 1 KiB for every other call.
  */
 #define _XOPEN_SOURCE 700
 #include <stdio.h>
@@ -13,7 +13,7 @@
 
 #include "boc.h"
 
-enum { STACK_BYTES = 1 << 20, LIMIT = 16 * 1024, PAINT = 0xa5 };
+enum { STACK_BYTES = 1 << 20, SMALL = 1024, LARGE = 5 * 1024, PAINT = 0xa5 };
 
 /* The largest network and SSI, of which each has eight digits in a listing; and the digit of every number. */
 enum { TOP = BOC_NETWORK_LIMIT - 1, DIGIT = 2 };
@@ -46,10 +46,11 @@ enum call { READ, WRITE, EMPTY, CAPTURE, RESTORE, DECIDE, CONTENTS, CALLS };
 static struct {
     const char *name;
     uint32_t (*call)(void);
-    size_t most;
+    size_t limit, most;
 } calls[CALLS] = {
-    {"boc_read", reads, 0},       {"boc_write", writes, 0},   {"boc_empty", empties, 0},  {"boc_capture", captures, 0},
-    {"boc_restore", restores, 0}, {"boc_decide", decides, 0}, {"boc_contents", lists, 0},
+    {"boc_read", reads, SMALL, 0},       {"boc_write", writes, SMALL, 0},     {"boc_empty", empties, SMALL, 0},
+    {"boc_capture", captures, SMALL, 0}, {"boc_restore", restores, SMALL, 0}, {"boc_decide", decides, LARGE, 0},
+    {"boc_contents", lists, SMALL, 0},
 };
 
 static _Alignas(16) unsigned char stack[STACK_BYTES];
@@ -443,11 +444,11 @@ int main(void)
         use_each_way(kind);
     }
 
-    printf("| call | bytes of stack |\n|---|---|\n");
+    printf("| call | bytes of stack | at most |\n|---|---|---|\n");
     for (i = 0; i < CALLS; i++) {
-        printf("| `%s` | %zu |\n", calls[i].name, calls[i].most);
-        if (calls[i].most > LIMIT) {
-            fprintf(stderr, "stack: %s uses more than %d bytes\n", calls[i].name, LIMIT);
+        printf("| `%s` | %zu | %zu |\n", calls[i].name, calls[i].most, calls[i].limit);
+        if (calls[i].most > calls[i].limit) {
+            fprintf(stderr, "stack: %s uses more than %zu bytes\n", calls[i].name, calls[i].limit);
             failed = 1;
         }
     }
