@@ -50,10 +50,6 @@ by-test P false h k = k
 pub same-pick : {A : Type 0} (t : Bool) (a : A) → pick t a a ≡ a
 same-pick t a = by-test (λ x. x ≡ a) t refl refl
 
-pub pick-both : {A : Type 0} (t u : Bool) (a b : A) → pick t (pick u a b) b ≡ pick (t && u) a b
-pick-both true u a b = refl
-pick-both false u a b = refl
-
 pub pick-ap : {A B : Type 0} (f : A → B) (t : Bool) (a b : A) → f (pick t a b) ≡ pick t (f a) (f b)
 pick-ap f true a b = refl
 pick-ap f false a b = refl

@@ -27,12 +27,6 @@ pub placed-answer : {A : Type 0} (z : A) (o : Found A) → o ≡ placed (reached
 placed-answer z (got a at) = refl
 placed-answer z (refused n p) = refl
 
-pub placed-got : {A : Type 0} {o : Found A} {r : Reached} {a : A} {c : Cursor} → o ≡ placed r a → r ≡ At c → o ≡ got a (c .at)
-placed-got {a} e f = e ∙ ap (λ (r : Reached). placed r a) f
-
-pub placed-refused : {A : Type 0} {o : Found A} {r : Reached} (a : A) {n p : ℕ} → o ≡ placed r a → r ≡ Refused n p → o ≡ refused n p
-placed-refused a e f = e ∙ ap (λ (r : Reached). placed r a) f
-
 next-placed : {A B : Type 0} (r : Reached) (a : A) (k : A → ℕ → Found B) → andNext (placed r a) k ≡ resume r (k a)
 unfolding resume
 next-placed (At c) a k = refl

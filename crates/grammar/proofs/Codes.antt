@@ -52,47 +52,9 @@ pub not-nine : (code : ℕ) → (code ≡ 9 → ⊥) → (l : List Identity) →
 unfolding rangeEnds
 not-nine code h l = rw (ne-eqb code 9 h)
 
--- the ends of a range are not refused exactly if they agree and rise
-module _ (a b : Identity) where
-  pub ends-agree : a .present ≡ b .present → a .extension ≡ b .extension → a .ssi ≤ b .ssi → endsRefusal a b ≡ 0
-  unfolding endsRefusal
-  ends-agree p e s = rw (eq-eqb _ _ p, eq-eqb _ _ e, le-leb _ _ s)
-
-  pub ends-say : endsRefusal a b ≡ 0 → (a .present ≡ b .present) × (a .extension ≡ b .extension) × (a .ssi ≤ b .ssi)
-  unfolding endsRefusal
-  ends-say h =
-      let agree = eqb (a .present) (b .present) && eqb (a .extension) (b .extension) in
-      let p = both agree (leb (a .ssi) (b .ssi)) (picked (agree && leb (a .ssi) (b .ssi)) h (λ e. omega arith) .0) in
-      let q = both (eqb (a .present) (b .present)) (eqb (a .extension) (b .extension)) (p .0) in
-      (eqb-true _ _ (q .0), eqb-true _ _ (q .1), leb-true _ _ (p .1))
-
 -- a value that is not outside its bounds
 pub between-le : (low high v : ℕ) → between low high v ≡ 0 → v ≤ high
 between-le low high v h = leb-true v high (both (leb low v) (leb v high) (picked (leb low v && leb v high) h (λ e. omega arith) .0) .1)
-
--- an identity has 25 bits, or 49 with its extension
-pub identity-length : (e : Identity) → length (identity .print e) ≡ pick (eqb (e .present) 1) 49 25
-unfolding identity extension shaped seq number absent
-identity-length e = go (eqb (e .present) 1)
-  where
-    go : (t : Bool) → length (bitsOf 24 (e .ssi) ++ (bitsOf 1 (e .present) ++ (pick t (number 24) absent) .print (e .extension))) ≡ pick t 49 25
-    go true =
-        omega (
-          arith,
-          length-append (bitsOf 24 (e .ssi)) (bitsOf 1 (e .present) ++ bitsOf 24 (e .extension)),
-          length-append (bitsOf 1 (e .present)) (bitsOf 24 (e .extension)),
-          length-bitsOf 24 (e .ssi),
-          length-bitsOf 1 (e .present),
-          length-bitsOf 24 (e .extension),
-        )
-    go false =
-        omega (
-          arith,
-          length-append (bitsOf 24 (e .ssi)) (bitsOf 1 (e .present) ++ []),
-          length-append (bitsOf 1 (e .present)) [],
-          length-bitsOf 24 (e .ssi),
-          length-bitsOf 1 (e .present),
-        )
 
 -- ---- digits
 

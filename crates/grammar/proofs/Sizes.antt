@@ -32,10 +32,6 @@ pub size-noIdentity : Within 0 noIdentity
 unfolding noIdentity
 size-noIdentity = size-shaped _ _ _ _ _ (size-seq size-absent (λ a. size-seq size-absent (λ b. size-absent)))
 
--- a place, used or not
-pub size-identity-place : (used : Bool) → Within 49 (pick used identity noIdentity)
-size-identity-place used = by-test (Within _) used size-identity (size-more size-noIdentity (omega arith))
-
 size-identity-places : (n : ℕ) → Within 392 (places identity noIdentity 8 n)
 size-identity-places n = size-places identity noIdentity 49 size-identity (size-more size-noIdentity (omega arith)) 8 n
 
@@ -58,9 +54,6 @@ pub size-noExternal : Within 0 noExternal
 unfolding noExternal
 size-noExternal = size-shaped _ _ _ _ _ (size-seq size-absent (λ a. size-places absent absent 0 size-absent size-absent 24 0))
 
-pub size-external-place : (used : Bool) → Within 101 (pick used external noExternal)
-size-external-place used = by-test (Within _) used size-external (size-more size-noExternal (omega arith))
-
 pub size-externals : Within 812 externals
 unfolding externals
 size-externals =
@@ -70,9 +63,6 @@ size-externals =
 pub size-noExternals : Within 0 noExternals
 unfolding noExternals
 size-noExternals = size-shaped _ _ _ _ _ (size-seq size-absent (λ a. size-places noExternal noExternal 0 size-noExternal size-noExternal 8 0))
-
-pub size-service-place : (used : Bool) → Within 3 (pick used (element 3 serviceRefusal) absent)
-size-service-place used = by-test (Within _) used (size-element 3 serviceRefusal) (size-more size-absent (omega arith))
 
 pub size-services : Within 24 services
 unfolding services

@@ -7,14 +7,9 @@ use lib.ListN.{length}
 use Rattle.bits.proofs.Tests.{pick-told}
 use Rattle.words.specs.RecordWords.{recordFrom, areRecord, givenRecord}
 use Rattle.words.specs.RequestWords.{requestFrom, isRequest, givenRequest}
-use Rattle.words.specs.declared.record.GivenRecord.{GivenRecord}
 use Rattle.words.specs.declared.request.GivenRequest.{GivenRequest}
 
 module _ (w : List ℕ) where
-  pub record-given : givenRecord w .given ≡ areRecord (length w)
-  unfolding givenRecord
-  record-given = pick-told (λ (g : GivenRecord). g .given) (areRecord (length w)) refl refl
-
   pub record-found : areRecord (length w) ≡ true → givenRecord w .found ≡ recordFrom w
   unfolding givenRecord
   record-found e = rw e
