@@ -71,7 +71,8 @@ module _ (s : List ℕ) (at w v : ℕ) where
 
   -- to store the eight bytes anew, with what stood before the place in its byte, is to lay
   pub splice-laid : (x : ℕ) (new : List Bool) → hasEight (length s) at w ≡ true
-      → bitsOf 64 x ≡ bitsOf (at % 8) (getD s (at / 8) 0 / 2 ^ (8 - at % 8)) ++ new → splice (bits s) (8 * (at / 8)) (bitsOf 64 x) ≡ splice (bits s) at new
+      → bitsOf 64 x ≡ bitsOf (at % 8) (getD s (at / 8) 0 / 2 ^ (8 - at % 8)) ++ new
+      → splice (bits s) (8 * (at / 8)) (bitsOf 64 x) ≡ splice (bits s) at new
   splice-laid x new e same =
       let l : List Bool = bits s in
       let q : ℕ = at / 8 in

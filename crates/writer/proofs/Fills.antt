@@ -1,4 +1,4 @@
--- A PDU's bits and the zeros after them, at the beginning of a sheet, are its bytes, and before the rest of a buffer what is written. Assumes nothing.
+-- A PDU's bits and the zeros after them, copied from a sheet, are its bytes before the rest of the buffer. Assumes nothing.
 use mathlib.Core.Path.{_≡_, sym, ap, _∙_}
 use mathlib.Core.Bool.{Bool}
 use mathlib.Core.List.{List, _++_}

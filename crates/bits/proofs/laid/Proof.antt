@@ -26,7 +26,8 @@ returns : tie.Need-returns
 returns c =
     let a = c .before .args in
     let p = c .before .pre in
-    ap (λ (size : ℕ). bitsOf 64 ((a .held / 2 ^ (8 - a .r) * size + a .f % size) * 2 ^ (57 - a .n) % 2 ^ 64 * 2 ^ (7 - a .r) % 2 ^ 64)) (c .pow2 .ensures)
+    ap (λ (size : ℕ). bitsOf 64 ((a .held / 2 ^ (8 - a .r) * size + a .f % size) * 2 ^ (57 - a .n) % 2 ^ 64 * 2 ^ (7 - a .r) % 2 ^ 64))
+    (c .pow2 .ensures)
     ∙ headed-bits (a .held) (a .r) (a .n) (a .f) (p .0) (p .1) (p .2)
 
 pub laid-spec : {M : Type 1} → statement M
