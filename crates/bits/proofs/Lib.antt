@@ -11,3 +11,4 @@ pub mod Loads
 pub mod Windows
 pub mod Frames
 pub mod Elements
+pub mod Lays

@@ -38,3 +38,19 @@ splice-splice {A} l at x y h =
     ∙ ap (λ (n : ℕ). drop n l) (add-assoc at (length x) (length y) ∙ ap (λ (n : ℕ). at + n) (sym (length-append x y))))
     ∙ append-assoc (take at l) x (y ++ drop (at + length (x ++ y)) l)
     ∙ ap (λ (z : List A). take at l ++ z) (sym (append-assoc x y (drop (at + length (x ++ y)) l)))
+
+-- what stands there already need not be put
+pub splice-same : {A : Type 0} (l : List A) (at : ℕ) (x y : List A) → at ≤ length l → x ≡ take (length x) (drop at l)
+    → splice l at (x ++ y) ≡ splice l (at + length x) y
+splice-same {A} l at x y h e =
+    let same : splice l at x ≡ l =
+    ap₂ (λ (a b : List A). take at l ++ (a ++ b)) e (sym (drop-drop (length x) at l))
+    ∙ ap (λ (a : List A). take at l ++ a) (take-append-drop (length x) (drop at l)) ∙ take-append-drop at l in
+    sym (splice-splice l at x y h) ∙ ap (λ (z : List A). splice z (at + length x) y) same
+
+-- up to its end, what is put stands after what stood before it
+pub take-splice : {A : Type 0} (l : List A) (at n : ℕ) (x y : List A) → at ≤ length l → length x ≡ n
+    → take (at + n) (take at l ++ (x ++ y)) ≡ take at l ++ x
+take-splice l at n x y h e =
+    ap (take (at + n)) (sym (append-assoc (take at l) x y))
+    ∙ take-at (take at l ++ x) y (at + n) (omega (arith, length-append (take at l) x, length-take-le at l h))

@@ -1,5 +1,5 @@
 -- An element at a place: taken by the cursor, put into a buffer.
-use Prim.Native.Nat.{ℕ, _+_, _*_}
+use Prim.Native.Nat.{ℕ, _+_, _-_, _*_, _/_, _%_}
 use mathlib.Core.List.{List, _++_}
 use mathlib.Core.Bool.{Bool, false, _&&_}
 use lib.ListN.{length, take, drop, replicate}
@@ -28,3 +28,11 @@ hasRoom s at w = leb w 57 && leb (at + w) (8 * length s)
 -- the bits of s with the w low bits of v at a place, if there is room
 abbrev pub putAt : List ℕ → ℕ → ℕ → ℕ → List Bool
 putAt s at w v = pick (hasRoom s at w) (splice (bits s) at (bitsOf w v)) (bits s)
+
+-- up to 57 bits within eight of `count` bytes, the first of them in the first
+abbrev pub hasEight : ℕ → ℕ → ℕ → Bool
+hasEight count at w = leb w 57 && leb (at / 8 + 8) count
+
+-- the bits of s with the w low bits of v at a place and zeros to the end of the eight bytes from there on; where there are fewer, put
+abbrev pub layAt : List ℕ → ℕ → ℕ → ℕ → List Bool
+layAt s at w v = pick (hasEight (length s) at w) (splice (bits s) at (bitsOf w v ++ bitsOf (64 - at % 8 - w) 0)) (putAt s at w v)

@@ -9,7 +9,7 @@ use lib.Dec.{ltb}
 use Rattle.bits.specs.Lists.{some, every}
 use Rattle.bits.specs.Bits.{bits, bitsOf, value, splice, Bytes}
 use Rattle.bits.specs.Frame.{bytesFor, bitsIn, framed, bytesOf, pack}
-use Rattle.bits.specs.Element.{elementAt, takeAt, windowAt, putAt}
+use Rattle.bits.specs.Element.{elementAt, takeAt, windowAt, putAt, layAt}
 use Rattle.bits.specs.declared.Taken.the-variants.{Element, Short}
 
 -- the most significant bit of the first byte comes first
@@ -102,6 +102,12 @@ room : (putAt (replicate 8 0xff) 7 57 0 ≡ bits (0xfe ∷ replicate 7 0))
     × (putAt (replicate 8 0xff) 0 58 0 ≡ bits (replicate 8 0xff))
 unfolding bits bitsOf
 room = (refl, refl, refl)
+
+-- an element is laid with zeros to the end of eight bytes, and put where fewer stand
+laid : (layAt (replicate 9 0xff) 4 4 5 ≡ bits (0xf5 ∷ 0 ∷ 0 ∷ 0 ∷ 0 ∷ 0 ∷ 0 ∷ 0 ∷ 0xff ∷ []))
+    × (layAt (0xff ∷ 0xff ∷ []) 4 4 5 ≡ bits (0xf5 ∷ 0xff ∷ []))
+unfolding bits bitsOf
+laid = (refl, refl)
 
 -- ---- lists of three, of which one is 13
 

@@ -6,7 +6,7 @@ ghost use mathlib.Core.List.{_++_};
 ghost use lib.ListN.{length, take, drop, getD, replicate};
 ghost use Rattle.bits.specs.Bits.{bits, bitsOf, value, splice};
 ghost use Rattle.bits.specs.Frame.{bytesFor, framed};
-ghost use Rattle.bits.specs.Element.{takeAt, windowAt, hasRoom, putAt};
+ghost use Rattle.bits.specs.Element.{takeAt, windowAt, hasRoom, putAt, hasEight, layAt};
 
 // A length in bits: a PDU's.
 pub struct BitCount(pub usize);
@@ -199,6 +199,40 @@ fn with_field(x: u64, n: usize, k: usize, f: u64) -> u64
     let low = pow2(k);
     let old = (x >> k) % size;
     x - old * low + (f % size) * low
+}
+
+// The same for elements that stand one after another: only the first of eight bytes is read, and zeros follow the element to their end.
+// Where fewer than eight stand from its own on, it is put.
+pub fn lay(buf: &mut [u8], at: usize, width: usize, element: u64) -> bool
+    ensures { λ r. ⌜ (r ≡ hasRoom (now (buf .entry)) at width) × (bits (now (buf .exit)) ≡ layAt (now (buf .entry)) at width element) ⌝ }
+{
+    if !has_eight(buf.len(), at, width) {
+        return put(buf, at, width, element);
+    }
+    let first = at / 8;
+    let held = byte(buf, first);
+    set_eight(buf, first, laid(held, at % 8, width, element));
+    true
+}
+
+// Whether up to 57 bits are within eight of so many bytes, the first of them in the first.
+fn has_eight(count: usize, at: usize, width: usize) -> bool
+    ensures { λ r. ⌜ r ≡ hasEight count at width ⌝ }
+{
+    if 57 < width {
+        return false;
+    }
+    at / 8 + 8 <= count
+}
+
+// The first r bits of a byte, the n low bits of f, and zeros: 64 bits.
+fn laid(held: u32, r: usize, n: usize, f: u64) -> u64
+    requires { ⌜ (held < 256) × (r < 8) × (n ≤ 57) ⌝ }
+    ensures { λ x. ⌜ bitsOf 64 x ≡ bitsOf r (held / 2 ^ (8 - r)) ++ (bitsOf n f ++ bitsOf (64 - r - n) 0) ⌝ }
+{
+    let size = pow2(n);
+    let high = (held >> (8 - r)) as u64;
+    ((high * size + f % size) << (57 - n)) << (7 - r)
 }
 
 // The bits of eight bytes and of four become those of a number. Written so, each becomes a single store.

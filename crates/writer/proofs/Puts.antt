@@ -1,14 +1,12 @@
 -- Parts put one after another: where there is room for the whole there is room for each, and what they leave is the whole. Assumes nothing.
-use mathlib.Core.Path.{_≡_, refl, sym, ap, ap₂, _∙_}
+use mathlib.Core.Path.{_≡_, refl, sym, ap, _∙_}
 use mathlib.Core.Bool.{Bool, true}
-use mathlib.Core.List.{List, [], _∷_, _++_}
-use Prim.Native.Nat.{ℕ, _+_, _*_, _≤_}
+use mathlib.Core.List.{List, [], _∷_, _++_, append-assoc, append-nil}
+use Prim.Native.Nat.{ℕ, _+_, _≤_}
 use native.Mathlib.Nat.{add-zero}
 use native.Mathlib.Omega.{arith}
-use lib.ListN.{length, length-append}
-use Rattle.bits.specs.Bits.{bits, splice}
-use Rattle.bits.proofs.Bytes.{length-bits}
-use Rattle.bits.proofs.Splices.{length-splice, splice-nil, splice-splice}
+use lib.ListN.{length, take, length-append}
+use Rattle.bits.specs.Bits.{bits}
 use Rattle.codec.specs.Codec.{Codec}
 use Rattle.codec.specs.Parts.{number, element, seq, tested, shaped}
 use Rattle.grammar.specs.Grammar.{identities}
@@ -17,20 +15,14 @@ use Rattle.grammar.specs.declared.site.ListKind.{ListKind}
 use Rattle.grammar.specs.declared.record.Identities.{Identities}
 use Rattle.codec.proofs.Sizes.{Within}
 
--- the buffer stays as long as it is
-kept : {A : Type 0} {c : Codec A} {a : A} {s t : List ℕ} {at m : ℕ} → at + length (c .print a) ≤ 8 * length s → Puts c a s t at m → length t
-    ≡ length s
-kept {c} {a} {s} {t} {at} h p =
-    omega (arith, length-bits s, length-bits t, ap length (p .there), length-splice (bits s) at (c .print a) (omega (arith, length-bits s)))
-
 -- a whole of two parts, put as they are
 pub join : {A B C : Type 0} {c : Codec A} {d : Codec B} {e : Codec C} {a : A} {b : B} {x : C} {s t u : List ℕ} {at m n : ℕ}
-    → e .print x ≡ c .print a ++ d .print b → Room e x s at → Puts c a s t at m → Puts d b t u m n → Puts e x s u at n
-join {c} {d} {a} {b} {s} {t} {at} same h p q = record {
-  there = q .there ∙ ap₂ (λ (l : List Bool) (k : ℕ). splice l k (d .print b)) (p .there) (p .next)
-      ∙ splice-splice (bits s) at (c .print a) (d .print b) (omega (arith, h .fits, length-bits s))
-      ∙ ap (splice (bits s) at) (sym same);
+    → e .print x ≡ c .print a ++ d .print b → Puts c a s t at m → Puts d b t u m n → Puts e x s u at n
+join {c} {d} {a} {b} {s} {at} same p q = record {
+  there = q .there ∙ ap (λ (l : List Bool). l ++ d .print b) (p .there) ∙ append-assoc (take at (bits s)) (c .print a) (d .print b)
+      ∙ ap (λ (l : List Bool). take at (bits s) ++ l) (sym same);
   next = omega (arith, p .next, q .next, ap length same, length-append (c .print a) (d .print b));
+  kept = q .kept ∙ p .kept;
 }
 
 -- room for the first of them
@@ -44,12 +36,10 @@ left {c} d {a} b same h = record {
 -- and after it for the second
 pub right : {A B C : Type 0} {c : Codec A} {d : Codec B} {e : Codec C} {a : A} {b : B} {x : C} {s t : List ℕ} {at m : ℕ}
     → e .print x ≡ c .print a ++ d .print b → Room e x s at → Puts c a s t at m → Room d b t m
-right {c} {d} {a} {b} {s} {at} same h p =
-    let k = kept (omega (arith, h .fits, ap length same, length-append (c .print a) (d .print b))) p in
-    record {
-      short = omega (arith, h .short, p .next, ap length same, length-append (c .print a) (d .print b));
-      fits = omega (arith, h .fits, p .next, ap length same, length-append (c .print a) (d .print b));
-    }
+right {c} {d} {a} {b} same h p = record {
+  short = omega (arith, h .short, p .next, ap length same, length-append (c .print a) (d .print b));
+  fits = omega (arith, h .fits, p .next, p .kept, ap length same, length-append (c .print a) (d .print b));
+}
 
 -- ---- one part after another
 
@@ -64,7 +54,7 @@ module _ {A B : Type 0} {c : Codec A} (d : A → Codec B) {a : A} {b : B} {s : L
 
   pub put-then : {t u : List ℕ} {m n : ℕ} → Puts c a s t at m → (Room (d a) b t m → Puts (d a) b t u m n) → Puts (seq c d) (a, b) s u at n
   unfolding seq
-  put-then p q = join refl h p (q (right refl h p))
+  put-then p q = join refl p (q (right refl h p))
 
 -- ---- a part under another shape, and a part with a test after it
 
@@ -76,7 +66,7 @@ module _ {A B : Type 0} {c : Codec A} (to : A → B) (from : B → A) (there : (
 
   pub put-shape : {t : List ℕ} {m : ℕ} → Puts c (from b) s t at m → Puts (shaped c to from there back) b s t at m
   unfolding shaped
-  put-shape p = record { there = p .there; next = p .next }
+  put-shape p = record { there = p .there; next = p .next; kept = p .kept }
 
 module _ {A : Type 0} {c : Codec A} (refuse into : A → ℕ) {a : A} {s : List ℕ} {at : ℕ} where
   pub room-test : Room (tested c refuse into) a s at → Room c a s at
@@ -85,7 +75,7 @@ module _ {A : Type 0} {c : Codec A} (refuse into : A → ℕ) {a : A} {s : List 
 
   pub put-test : {t : List ℕ} {m : ℕ} → Puts c a s t at m → Puts (tested c refuse into) a s t at m
   unfolding tested
-  put-test p = record { there = p .there; next = p .next }
+  put-test p = record { there = p .there; next = p .next; kept = p .kept }
 
 module _ (w : ℕ) (refuse : ℕ → ℕ) {v : ℕ} {s : List ℕ} {at : ℕ} where
   pub room-element : Room (element w refuse) v s at → Room (number w) v s at
@@ -106,8 +96,9 @@ pub put-none : {A : Type 0} {c : Codec A} {a : A} {s : List ℕ} {at : ℕ} → 
 put-none {c} {a} {s} {at} h =
     let e = empty (c .print a) (h .size a) in
     record {
-      there = sym (ap (splice (bits s) at) e ∙ splice-nil (bits s) at);
+      there = sym (ap (λ (l : List Bool). take at (bits s) ++ l) e ∙ append-nil (take at (bits s)));
       next = sym (ap (λ (l : List Bool). at + length l) e ∙ add-zero at);
+      kept = refl;
     }
 
 -- ---- in each kind of list, identities are put alike
@@ -119,4 +110,4 @@ module _ (j k : ListKind) {l : Identities} {s : List ℕ} {at : ℕ} where
 
   pub put-listing : {t : List ℕ} {end : ℕ} → Puts (identities j) l s t at end → Puts (identities k) l s t at end
   unfolding identities shaped seq element tested
-  put-listing p = record { there = p .there; next = p .next }
+  put-listing p = record { there = p .there; next = p .next; kept = p .kept }

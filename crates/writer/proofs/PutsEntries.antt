@@ -28,7 +28,7 @@ module _ {A : Type 0} {c : Codec A} (d : Codec (List A)) {a : A} {l : List A} {s
 
   entry-then : {t u : List ℕ} {m n : ℕ} → Puts c a s t at m → Puts d l t u m n → Puts (cons c d) (a ∷ l) s u at n
   unfolding cons
-  entry-then p q = join refl h p q
+  entry-then p q = join refl p q
 
 -- nothing is put for places that are not used: where none is, it is all one how used places are put
 none-used : {A : Type 0} (c d z : Codec A) (m : ℕ) → places c z m 0 ≡ places d z m 0

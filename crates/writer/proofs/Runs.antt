@@ -5,9 +5,9 @@ use mathlib.Core.Logic.{_≢_}
 use mathlib.Core.List.{List, _++_, append-nil, append-assoc}
 use Prim.Native.Nat.{ℕ, _+_, _*_, _%_}
 use native.Mathlib.Omega.{arith}
-use lib.ListN.{length}
+use lib.ListN.{length, take}
 use borrow.Author.Tests.{eq-eqb, ne-eqb}
-use Rattle.bits.specs.Bits.{bits, bitsOf, splice}
+use Rattle.bits.specs.Bits.{bits, bitsOf}
 use Rattle.bits.proofs.Numbers.{bitsOf-join}
 use Rattle.codec.specs.Codec.{Codec}
 use Rattle.codec.specs.Parts.{number, absent, seq, shaped}
@@ -23,7 +23,11 @@ module _ {A : Type 0} {c : Codec A} {a : A} (w v : ℕ) (same : c .print a ≡ b
 
   pub put-as-run : {t : List ℕ} {m : ℕ} → Puts (number w) v s t at m → Puts c a s t at m
   unfolding number
-  put-as-run p = record { there = p .there ∙ ap (splice (bits s) at) (sym same); next = p .next ∙ ap (λ (l : List Bool). at + length l) (sym same) }
+  put-as-run p = record {
+    there = p .there ∙ ap (λ (l : List Bool). take at (bits s) ++ l) (sym same);
+    next = p .next ∙ ap (λ (l : List Bool). at + length l) (sym same);
+    kept = p .kept;
+  }
 
 -- ---- an identity
 

@@ -3,8 +3,8 @@ use mathlib.Core.Path.{_≡_}
 use mathlib.Core.Bool.{Bool}
 use mathlib.Core.List.{List, [], _∷_, _++_}
 use Prim.Native.Nat.{ℕ, _+_, _*_, _≤_}
-use lib.ListN.{length}
-use Rattle.bits.specs.Bits.{bits, bitsOf, splice}
+use lib.ListN.{length, take}
+use Rattle.bits.specs.Bits.{bits, bitsOf}
 use Rattle.bits.specs.Lists.{Each}
 use Rattle.codec.specs.Codec.{Codec}
 use Rattle.grammar.specs.declared.record.Lists.{Lists}
@@ -15,10 +15,11 @@ pub record Room {A : Type 0} (c : Codec A) (a : A) (out : List ℕ) (at : ℕ) :
   pub short : at + length (c .print a) ≤ 4096
   pub fits : at + length (c .print a) ≤ 8 * length out
 
--- the part a of c is put at a place, all other bits are as they were, and the next place is the one after it
+-- the part a of c stands at a place, after the bits that stood before it, and the next place is the one after it
 pub record Puts {A : Type 0} (c : Codec A) (a : A) (before after : List ℕ) (at end : ℕ) : Type 0 where
-  pub there : bits after ≡ splice (bits before) at (c .print a)
+  pub there : take end (bits after) ≡ take at (bits before) ++ c .print a
   pub next : end ≡ at + length (c .print a)
+  pub kept : length after ≡ length before
 
 -- no length and no digit is 255, which stands for a word that is wider than a byte
 abbrev pub Small : Lists → Type 0

@@ -12,7 +12,7 @@ use words::record::RECORD_WORDS;
 ghost use mathlib.Core.Path.{_≡_};
 ghost use mathlib.Core.List.{_++_};
 ghost use Prim.Native.Nat.{_≤_};
-ghost use lib.ListN.{length, drop};
+ghost use lib.ListN.{length, take, drop};
 ghost use lib.Dec.{leb};
 ghost use Rattle.bits.specs.Bits.{pick};
 ghost use Rattle.bits.specs.Frame.{bytesFor, pack};
@@ -83,11 +83,29 @@ fn room_refusal(room: usize, length: BitCount) -> u32
     if length.bytes() <= room { 0 } else { 8 }
 }
 
-// The record's elements, and zeros in the unused bits of the last byte.
+// A sheet to write a PDU on: 4,096 bits and the seven bytes that may be cleared after its last, rounded up.
+const SHEET_BYTES: usize = 520;
+
+// The record's elements, and zeros in the unused bits of the last byte, on a sheet and from there to the buffer: no byte after them changes.
 fn fill(out: &mut [u8], words: &[u32])
     requires { ⌜ (length (now words) ≡ 514) × Small (recordFrom (now words) .lists) × (bytesFor (lengthOf (recordFrom (now words))) ≤ length (now out)) ⌝ }
     ensures { λ u. ⌜ now (out .exit) ≡ pack (pdu .print (recordFrom (now (words .entry)))) ++ drop (bytesFor (lengthOf (recordFrom (now (words .entry))))) (now (out .entry)) ⌝ }
 {
-    let end = put_record(out, words);
-    bits::put(out, end, 8 * BitCount(end).bytes() - end, 0);
+    let mut sheet = [0u8; SHEET_BYTES];
+    let end = put_record(&mut sheet, words);
+    let count = BitCount(end).bytes();
+    bits::lay(&mut sheet, end, 8 * count - end, 0);
+    copy(out, &sheet, count);
+}
+
+// The first bytes of a buffer become those of another.
+fn copy(out: &mut [u8], from: &[u8], count: usize)
+    requires { ⌜ (count ≤ length (now out)) × (count ≤ length (now from)) ⌝ }
+    ensures { λ u. ⌜ now (out .exit) ≡ take count (now (from .entry)) ++ drop count (now (out .entry)) ⌝ }
+{
+    let mut i: usize = 0;
+    while i < count {
+        out[i] = from[i];
+        i += 1;
+    }
 }

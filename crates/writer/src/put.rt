@@ -14,12 +14,13 @@ ghost use Rattle.words.specs.RecordWords.{entriesFrom, identityFrom, identities
 ghost use Rattle.words.proofs.LegalRecords.{SmallNumber};
 ghost use Rattle.writer.specs.Inner.{Room, Puts, Small, CodesAfter};
 
-// Puts a run of up to 57 bits, the low ones of a number, at a place, and gives the next place, as each function below does.
+// Puts a run of up to 57 bits, the low ones of a number, at a place, and gives the next place, as each function below does. Of the bits after it
+// nothing is said.
 fn put_run(out: &mut [u8], at: usize, width: usize, run: u64) -> usize
     requires { ⌜ (width ≤ 57) × Room (number width) run (now out) at ⌝ }
     ensures { λ r. ⌜ Puts (number width) run (now (out .entry)) (now (out .exit)) at r ⌝ }
 {
-    bits::put(out, at, width, run);
+    bits::lay(out, at, width, run);
     at + width
 }
 

@@ -26,8 +26,13 @@ bit-at-determined = by-equations (λ κs a x v p. (p, refl))
 pub least-determined : Determined bits.least.Kinds.ps bits.least.Kinds.r bits.least.Reads.Learnt
 least-determined = by-equations (λ κs a x v p. (p, refl))
 
--- `put` speaks of bits; a buffer has bytes below 256, and such bytes with the same bits are the same
+-- `put` and `lay` speak of bits; a buffer has bytes below 256, and such bytes with the same bits are the same
 pub put-determined : Determined bits.put.Kinds.ps bits.put.Kinds.r (λ κs a x s. bits.put.Reads.Learnt κs a x s × Bytes (s .0 .now))
 put-determined = record {
+  same = λ κs a x y v w p q. (p .0 .0 ∙ sym (q .0 .0), λ i. (bits-inj (v .0) (w .0) (p .1) (q .1) (p .0 .1 ∙ sym (q .0 .1)) i, v .1));
+}
+
+pub lay-determined : Determined bits.lay.Kinds.ps bits.lay.Kinds.r (λ κs a x s. bits.lay.Reads.Learnt κs a x s × Bytes (s .0 .now))
+lay-determined = record {
   same = λ κs a x y v w p q. (p .0 .0 ∙ sym (q .0 .0), λ i. (bits-inj (v .0) (w .0) (p .1) (q .1) (p .0 .1 ∙ sym (q .0 .1)) i, v .1));
 }

@@ -77,8 +77,7 @@ returns : tie.Need-returns
 returns c =
     let p = c .before .before .before .before .before .before in
     let q = p .before .before in
-    let r = q .before .before .before .before .before .before .before .before .before in
-    rw number-at (join (whole q) (room r) (p .put-run .ensures) (c .before .before .put-run2 .ensures))
+    rw number-at (join (whole q) (p .put-run .ensures) (c .before .before .put-run2 .ensures))
 
 pub put-number-spec : {M : Type 1} → statement M
 put-number-spec =

@@ -1,11 +1,14 @@
 -- There is room, so the run is put. Assumes nothing.
 use mathlib.Core.Path.{sym, ap, _∙_}
+use mathlib.Core.Bool.{Bool}
+use mathlib.Core.List.{List}
 use Prim.Native.Nat.{ℕ, _+_}
 use native.Mathlib.Omega.{arith}
 use borrow.Author.Needs.{needs}
+use lib.ListN.{take}
 use denote.Ref.{now}
 use Rattle.bits.proofs.Numbers.{length-bitsOf}
-use Rattle.bits.proofs.Elements.{room, put-there}
+use Rattle.bits.proofs.Lays.{lay-front}
 use Rattle.codec.specs.Parts.{number}
 use Rattle.writer.proofs.put.put_run.Statement.{statement}
 use Rattle.writer.proofs.put.put_run.Tie as tie
@@ -17,10 +20,11 @@ returns c =
     let b = p .before .before .before in
     let a = b .args in
     let l = length-bitsOf (a .width) (a .run) in
-    let e = room (now (a .out)) (a .at) (a .width) (b .pre .0) (omega (arith, b .pre .1 .fits)) in
     record {
-      there = p .put .ensures .1 ∙ put-there (now (a .out)) (a .at) (a .width) (a .run) e;
+      there = ap (λ (x : List Bool). take (a .at + a .width) x) (p .lay .ensures .1)
+          ∙ lay-front (now (a .out)) (a .at) (a .width) (a .run) (b .pre .0) (omega (arith, b .pre .1 .fits));
       next = ap (λ (n : ℕ). a .at + n) (sym l);
+      kept = p .lay .kept .0;
     }
 
 pub put-run-spec : {M : Type 1} → statement M
