@@ -73,6 +73,10 @@ pub bits-none : (bits n : ℕ) {k : BitCount} → written bits n ≡ Bits k → 
 bits-none bits zero e = refl
 bits-none bits (suc n) e = never cc
 
+pub bits-length : (bits n : ℕ) {k : BitCount} → written bits n ≡ Bits k → k .0 ≡ bits
+bits-length bits zero e = cc
+bits-length bits (suc n) e = never cc
+
 -- ---- a record by its words
 
 module _ (r : Record) (sized : SizedRecord r) {words : List ℕ} (spelt : words ≡ recordWords r) (out : List ℕ) where

@@ -44,10 +44,10 @@ pub fn write_words(words: &[u32], out: &mut [u8]) -> Written
         return Written::Refused(9);
     }
     let answer = checked(words, out.len());
-    let Written::Bits(_) = answer else {
+    let Written::Bits(n) = answer else {
         return answer;
     };
-    fill(out, words);
+    fill(out, words, n);
     answer
 }
 
@@ -83,29 +83,20 @@ fn room_refusal(room: usize, length: BitCount) -> u32
     if length.bytes() <= room { 0 } else { 8 }
 }
 
-// A sheet to write a PDU on: 4,096 bits and the seven bytes that may be cleared after its last, rounded up.
-const SHEET_BYTES: usize = 520;
-
-// The record's elements, and zeros in the unused bits of the last byte, on a sheet and from there to the buffer: no byte after them changes.
-fn fill(out: &mut [u8], words: &[u32])
-    requires { ⌜ (length (now words) ≡ 514) × Small (recordFrom (now words) .lists) × (bytesFor (lengthOf (recordFrom (now words))) ≤ length (now out)) ⌝ }
+// Straight into the PDU's own bytes: the first of the buffer are lent on, exactly as many as hold it.
+fn fill(out: &mut [u8], words: &[u32], n: BitCount)
+    requires { ⌜ (length (now words) ≡ 514) × Small (recordFrom (now words) .lists) × (bytesFor (lengthOf (recordFrom (now words))) ≤ length (now out)) × (n .0 ≡ lengthOf (recordFrom (now words))) ⌝ }
     ensures { λ u. ⌜ now (out .exit) ≡ pack (pdu .print (recordFrom (now (words .entry)))) ++ drop (bytesFor (lengthOf (recordFrom (now (words .entry))))) (now (out .entry)) ⌝ }
 {
-    let mut sheet = [0u8; SHEET_BYTES];
-    let end = put_record(&mut sheet, words);
-    let count = BitCount(end).bytes();
-    bits::lay(&mut sheet, end, 8 * count - end, 0);
-    copy(out, &sheet, count);
+    let count = n.bytes();
+    fill_bytes(&mut out[..count], words);
 }
 
-// The first bytes of a buffer become those of another.
-fn copy(out: &mut [u8], from: &[u8], count: usize)
-    requires { ⌜ (count ≤ length (now out)) × (count ≤ length (now from)) ⌝ }
-    ensures { λ u. ⌜ now (out .exit) ≡ take count (now (from .entry)) ++ drop count (now (out .entry)) ⌝ }
+// The record's elements in exactly the bytes that hold them, and zeros in the unused bits of the last.
+fn fill_bytes(place: &mut [u8], words: &[u32])
+    requires { ⌜ (length (now words) ≡ 514) × Small (recordFrom (now words) .lists) × (length (now place) ≡ bytesFor (lengthOf (recordFrom (now words)))) ⌝ }
+    ensures { λ u. ⌜ now (place .exit) ≡ pack (pdu .print (recordFrom (now (words .entry)))) ⌝ }
 {
-    let mut i: usize = 0;
-    while i < count {
-        out[i] = from[i];
-        i += 1;
-    }
+    let end = put_record(place, words);
+    bits::lay(place, end, 8 * place.len() - end, 0);
 }
