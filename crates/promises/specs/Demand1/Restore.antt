@@ -40,7 +40,7 @@ met : (number bytesA (partOf5 1) 18 ≡ 0)
     × (number bytesA (partOf5 2) 18 ≡ 11)
     × (number bytesA (partOf5 1) 17 ≡ 8)
     × (number [] (record { network = 1; ssi = 16777216; part = 1 }) 18 ≡ 9)
-    × (number bytesA (partOf5 2) 17 ≡ 11)
+    × (number bytesA (partOf5 2) 0 ≡ 11)
 unfolding calls bodyAgrees filingOf restoreIs inRange
 met = (refl, refl, refl, refl, refl, refl, refl)
 
