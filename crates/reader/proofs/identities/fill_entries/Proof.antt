@@ -57,17 +57,5 @@ returns c =
 pub fill-entries-spec : {M : Type 1} → statement M
 fill-entries-spec =
     tie.close
-    (tie.spec
-    Inv-loop
-    μ-loop
-    loop-holds
-    fill-identity-requires
-    (λ c. omega arith)
-    (λ c. search needs)
-    (λ c. search needs)
-    loop-again
-    (λ c. omega arith)
-    (λ c. omega arith)
-    zero-words-requires
-    (λ c. search needs)
-    returns)
+    (tie.spec Inv-loop μ-loop loop-holds fill-identity-requires (λ c. omega arith) (λ c. search needs) (λ c. search needs) loop-again
+    (λ c. omega arith) (λ c. omega arith) zero-words-requires (λ c. search needs) returns)

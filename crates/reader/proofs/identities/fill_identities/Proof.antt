@@ -57,12 +57,6 @@ returns c =
 pub fill-identities-spec : {M : Type 1} → statement M
 fill-identities-spec =
     tie.close
-    (tie.spec
-    (λ c κs. (omega arith, omega arith, coded (c .before .before)))
-    entries-of-requires
-    (λ c κs. search needs)
-    (λ c. omega (arith, near (c .before .before .before .before .before .before .before .before)))
-    (λ c. search needs)
-    fill-entries-requires
-    (λ c. search needs)
-    returns)
+    (tie.spec (λ c κs. (omega arith, omega arith, coded (c .before .before))) entries-of-requires (λ c κs. search needs)
+    (λ c. omega (arith, near (c .before .before .before .before .before .before .before .before))) (λ c. search needs) fill-entries-requires
+    (λ c. search needs) returns)

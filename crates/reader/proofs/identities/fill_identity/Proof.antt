@@ -49,15 +49,5 @@ returns-2 c =
 pub fill-identity-spec : {M : Type 1} → statement M
 fill-identity-spec =
     tie.close
-    (tie.spec
-    (λ c κs. search needs)
-    (λ c. search needs)
-    (λ c. search needs)
-    (λ c κs. search needs)
-    add-t17
-    (λ c. search needs)
-    returns
-    (λ c κs. search needs)
-    add-t21
-    (λ c. search needs)
-    returns-2)
+    (tie.spec (λ c κs. search needs) (λ c. search needs) (λ c. search needs) (λ c κs. search needs) add-t17 (λ c. search needs) returns
+    (λ c κs. search needs) add-t21 (λ c. search needs) returns-2)

@@ -61,13 +61,5 @@ returns c =
 pub fill-identity-part-spec : {M : Type 1} → statement M
 fill-identity-part-spec =
     tie.close
-    (tie.spec
-    (λ c. search needs)
-    (λ c. search needs)
-    (λ c. search needs)
-    fill-identities-requires
-    fill-identities-requires-2
-    fill-identities-requires-3
-    (λ c κs. search needs)
-    (λ c. search needs)
-    returns)
+    (tie.spec (λ c. search needs) (λ c. search needs) (λ c. search needs) fill-identities-requires fill-identities-requires-2
+    fill-identities-requires-3 (λ c κs. search needs) (λ c. search needs) returns)

@@ -87,15 +87,5 @@ returns c =
 pub fill-number-part-spec : {M : Type 1} → statement M
 fill-number-part-spec =
     tie.close
-    (tie.spec
-    (λ c. search needs)
-    (λ c. search needs)
-    (λ c. search needs)
-    (λ c. search needs)
-    fill-identities-requires
-    zero-words-requires
-    zero-words-requires-2
-    fill-numbers-requires
-    fill-numbers-requires-2
-    (λ c. search needs)
-    returns)
+    (tie.spec (λ c. search needs) (λ c. search needs) (λ c. search needs) (λ c. search needs) fill-identities-requires zero-words-requires
+    zero-words-requires-2 fill-numbers-requires fill-numbers-requires-2 (λ c. search needs) returns)

@@ -43,13 +43,5 @@ returns-3 c =
 pub fill-part-spec : {M : Type 1} → statement M
 fill-part-spec =
     tie.close
-    (tie.spec
-    fill-identity-part-requires
-    (λ c. search needs)
-    returns
-    fill-number-part-requires
-    (λ c. search needs)
-    returns-2
-    (λ c κs. search needs)
-    (λ c. search needs)
-    returns-3)
+    (tie.spec fill-identity-part-requires (λ c. search needs) returns fill-number-part-requires (λ c. search needs) returns-2 (λ c κs. search needs)
+    (λ c. search needs) returns-3)

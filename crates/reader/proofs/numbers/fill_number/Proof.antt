@@ -96,25 +96,8 @@ returns c =
 pub fill-number-spec : {M : Type 1} → statement M
 fill-number-spec =
     tie.close
-    (tie.spec
-    (λ c κs. search needs)
-    (λ c. search needs)
-    (λ c. search needs)
-    (λ c κs. search needs)
-    (λ c. omega (arith, c .least .ensures))
-    held-requires
-    (λ c. omega (arith, near (c .before .before)))
-    (λ c κs. search needs)
-    (λ c. omega (arith, c .before .before .least .ensures))
-    (λ c. omega (arith, few (c .before .before .before)))
-    held-requires-2
-    (λ c. search needs)
-    (λ c κs. search needs)
-    put-twelve-requires
-    (λ c. search needs)
-    put-twelve-requires-2
-    (λ c. omega (arith, near (window-of c)))
-    (λ c. omega (arith, few (window-of c)))
-    (λ c. omega (arith, near (window-of c), few (window-of c)))
-    (λ c. search needs)
-    returns)
+    (tie.spec (λ c κs. search needs) (λ c. search needs) (λ c. search needs) (λ c κs. search needs) (λ c. omega (arith, c .least .ensures))
+    held-requires (λ c. omega (arith, near (c .before .before))) (λ c κs. search needs) (λ c. omega (arith, c .before .before .least .ensures))
+    (λ c. omega (arith, few (c .before .before .before))) held-requires-2 (λ c. search needs) (λ c κs. search needs) put-twelve-requires
+    (λ c. search needs) put-twelve-requires-2 (λ c. omega (arith, near (window-of c))) (λ c. omega (arith, few (window-of c)))
+    (λ c. omega (arith, near (window-of c), few (window-of c))) (λ c. search needs) returns)

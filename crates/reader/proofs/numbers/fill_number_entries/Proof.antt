@@ -57,17 +57,5 @@ returns c =
 pub fill-number-entries-spec : {M : Type 1} → statement M
 fill-number-entries-spec =
     tie.close
-    (tie.spec
-    Inv-loop
-    μ-loop
-    loop-holds
-    fill-number-requires
-    (λ c. omega arith)
-    (λ c. search needs)
-    (λ c. search needs)
-    loop-again
-    (λ c. omega arith)
-    (λ c. omega arith)
-    zero-words-requires
-    (λ c. search needs)
-    returns)
+    (tie.spec Inv-loop μ-loop loop-holds fill-number-requires (λ c. omega arith) (λ c. search needs) (λ c. search needs) loop-again (λ c. omega arith)
+    (λ c. omega arith) zero-words-requires (λ c. search needs) returns)

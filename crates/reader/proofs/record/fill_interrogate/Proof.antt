@@ -40,11 +40,5 @@ returns c =
 pub fill-interrogate-spec : {M : Type 1} → statement M
 fill-interrogate-spec =
     tie.close
-    (tie.spec
-    (λ c κs. (omega arith, omega arith, asked (c .before .before .before)))
-    (λ c κs. search needs)
-    (λ c. search needs)
-    (λ c κs. search needs)
-    add-t12
-    (λ c. search needs)
-    returns)
+    (tie.spec (λ c κs. (omega arith, omega arith, asked (c .before .before .before))) (λ c κs. search needs) (λ c. search needs)
+    (λ c κs. search needs) add-t12 (λ c. search needs) returns)

@@ -93,15 +93,6 @@ returns c =
 pub fill-interrogate-ack-spec : {M : Type 1} → statement M
 fill-interrogate-ack-spec =
     tie.close
-    (tie.spec
-    add-delivery-at
-    (λ c. search needs)
-    (λ c. search needs)
-    (λ c κs. (omega arith, omega arith, result-reads (c .before .before)))
-    (λ c κs. (omega arith, omega arith, reads-first _ _ (from-delivery c)))
-    (λ c κs. search needs)
-    add-t15
-    fill-services-requires
-    fill-part-requires
-    (λ c. search needs)
-    returns)
+    (tie.spec add-delivery-at (λ c. search needs) (λ c. search needs) (λ c κs. (omega arith, omega arith, result-reads (c .before .before)))
+    (λ c κs. (omega arith, omega arith, reads-first _ _ (from-delivery c))) (λ c κs. search needs) add-t15 fill-services-requires fill-part-requires
+    (λ c. search needs) returns)

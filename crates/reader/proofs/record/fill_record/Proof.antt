@@ -65,10 +65,5 @@ returns c =
 pub fill-record-spec : {M : Type 1} → statement M
 fill-record-spec =
     tie.close
-    (tie.spec
-    (λ c κs. (omega arith, omega arith, kind-reads (c .before .before)))
-    (λ c κs. search needs)
-    fill-identities-requires
-    fill-rest-requires
-    (λ c. search needs)
-    returns)
+    (tie.spec (λ c κs. (omega arith, omega arith, kind-reads (c .before .before))) (λ c κs. search needs) fill-identities-requires fill-rest-requires
+    (λ c. search needs) returns)

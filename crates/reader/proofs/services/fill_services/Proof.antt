@@ -71,16 +71,6 @@ returns c =
 pub fill-services-spec : {M : Type 1} → statement M
 fill-services-spec =
     tie.close
-    (tie.spec
-    (λ c κs. search needs)
-    (λ c. search needs)
-    (λ c. search needs)
-    (λ c. search needs)
-    held-requires
-    (λ c κs. search needs)
-    (λ c. search needs)
-    put-seven-requires
-    (λ c. omega (arith, near (window-of c)))
-    (λ c. omega (arith, near (window-of c), few (window-of c)))
-    (λ c. search needs)
-    returns)
+    (tie.spec (λ c κs. search needs) (λ c. search needs) (λ c. search needs) (λ c. search needs) held-requires (λ c κs. search needs)
+    (λ c. search needs) put-seven-requires (λ c. omega (arith, near (window-of c))) (λ c. omega (arith, near (window-of c), few (window-of c)))
+    (λ c. search needs) returns)

@@ -34,19 +34,5 @@ returns c =
 pub put-seven-spec : {M : Type 1} → statement M
 put-seven-spec =
     tie.close
-    (tie.spec
-    Inv-loop
-    μ-loop
-    (λ c. turned-none)
-    (λ c. search needs)
-    (λ c. omega arith)
-    (λ c. search needs)
-    (λ c. search needs)
-    (λ c. search needs)
-    (λ c. omega arith)
-    (λ c. omega arith)
-    (λ c. search needs)
-    (λ c. search needs)
-    loop-again
-    (λ c. search needs)
-    returns)
+    (tie.spec Inv-loop μ-loop (λ c. turned-none) (λ c. search needs) (λ c. omega arith) (λ c. search needs) (λ c. search needs) (λ c. search needs)
+    (λ c. omega arith) (λ c. omega arith) (λ c. search needs) (λ c. search needs) loop-again (λ c. search needs) returns)
