@@ -28,9 +28,7 @@ add-t12 c =
 returns : tie.Need-returns
 unfolding interrogate records
 returns c =
-    let z = c .before .before in
-    let o = z .before .before .before .before in
-    let n = o .before in
+    let z = c .before .before in let o = z .before .before .before .before in let n = o .before in
     let b = n .before .before .before .before in
     fill-then _ _ one (omega (arith, b .pre .room)) (element-read 2 askedRefusal (reads-first _ _ (b .pre .reads)) (n .number-at .ensures))
     (o .store .ensures)
