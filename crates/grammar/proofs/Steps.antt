@@ -58,11 +58,11 @@ module _ (s : List Bool) (at : ℕ) where
 -- ---- lists and services that the PDU does not carry
 
 module _ (s : List Bool) (at : ℕ) where
-  noIdentities-at : readAt noIdentities s at ≡ got zeroIdentities at
+  pub noIdentities-at : readAt noIdentities s at ≡ got zeroIdentities at
   unfolding noIdentities
   noIdentities-at = simp (readAt-shaped, readAt-seq, readAt-absent, places-rest noIdentity noIdentity s zeroIdentity (noIdentity-at s) 8)
 
-  noExternals-at : readAt noExternals s at ≡ got zeroNumbers at
+  pub noExternals-at : readAt noExternals s at ≡ got zeroNumbers at
   unfolding noExternals
   noExternals-at = simp (readAt-shaped, readAt-seq, readAt-absent, places-rest noExternal noExternal s zeroNumber (noExternal-at s) 8)
 

@@ -1,30 +1,28 @@
 -- A part that is read is read part by part, and where its numbers are read their bits are there. Assumes nothing.
 use mathlib.Core.Path.{_≡_, refl, sym, ap, _∙_, subst}
-use mathlib.Core.Bool.{Bool, true, false}
-use mathlib.Core.List.{List, [], _∷_, _++_}
+use mathlib.Core.Bool.{Bool}
+use mathlib.Core.List.{List}
 use Prim.Native.Nat.{ℕ, zero, suc, _+_, _-_, _*_, _/_, _%_, _^_, _≤_, _<_}
 use native.Mathlib.Omega.{arith}
-use borrow.Author.Tests.{leb-true, leb-false}
-use lib.ListN.{length, take, drop}
+use lib.ListN.{length}
 use lib.Seq.{take-all}
-use lib.Dec.{leb}
-use Rattle.bits.specs.Bits.{bits, value}
+use Rattle.bits.specs.Bits.{bits}
 use Rattle.bits.specs.Frame.{bitsIn}
 use Rattle.bits.specs.Element.{windowAt}
 use Rattle.bits.proofs.Tests.{never}
 use Rattle.bits.proofs.Bytes.{length-bits}
 use Rattle.bits.proofs.Numbers.{length-bitsOf}
-use Rattle.bits.proofs.Elements.{element-there, element-short}
+use Rattle.bits.proofs.Elements.{element-there}
 use Rattle.bits.proofs.Windows.{window-front, window-lt}
 use Rattle.codec.specs.Codec.{Codec}
-use Rattle.codec.specs.Parts.{number, narrow, element}
+use Rattle.codec.specs.Parts.{number, narrow}
 use Rattle.codec.specs.Reading.{Found, got, refused, andNext, unlessAt, readAt}
-use Rattle.codec.proofs.Reading.{taken, readAt-number, readAt-tested, readAt-legal}
+use Rattle.codec.proofs.Reading.{taken, readAt-number, readAt-legal}
 use Rattle.codec.proofs.Windows.{number-in-window}
 use Rattle.grammar.specs.Grammar.{identity, extension}
-use Rattle.grammar.specs.declared.record.Identity.{Identity}
 use Rattle.grammar.proofs.Steps.{identity-at}
 use Rattle.grammar.proofs.Windows.{plainIn, wideIn, up-to-extension, identity-plain, identity-wide}
+use Rattle.walk.proofs.Numbers.{number-says}
 use Rattle.reader.specs.Inner.{Read, Reads}
 
 -- ---- what was read was read in steps
@@ -39,6 +37,11 @@ pub steps : {A B : Type 0} (o : Found A) (k : A → ℕ → Found B) {b : B} {en
 steps (got a at) k e = record { value = a; next = at; first = refl; then = e }
 steps (refused n p) k e = never cc
 
+-- what was read first
+pub first-reads : {A B : Type 0} {c : Codec A} {s : List Bool} {at : ℕ} {k : A → ℕ → Found B} {b : B} {end : ℕ}
+    → Steps (readAt c s at) k b end → Reads c s at
+first-reads x = record { value = x .value; end = x .next; read = record { same = x .first } }
+
 -- a test that was passed
 pub passed : {A : Type 0} (n p : ℕ) (o : Found A) {b : A} {end : ℕ} → unlessAt n p o ≡ got b end → (n ≡ 0) × (o ≡ got b end)
 passed zero p o e = (refl, e)
@@ -46,29 +49,12 @@ passed (suc n) p o e = never cc
 
 -- ---- numbers
 
-module _ (s : List Bool) (at w : ℕ) (h : 1 ≤ w) where
-  there-cases : (t : Bool) → leb (at + w) (length s) ≡ t → {v end : ℕ} → readAt (number w) s at ≡ got v end → at + w ≤ length s
-  there-cases true e r = leb-true (at + w) (length s) e
-  there-cases false e r =
-      let x : refused 2 at ≡ readAt (number w) s at =
-      sym (readAt-number w s at h ∙ ap (taken at) (element-short s at w (leb-false (at + w) (length s) e))) in
-      never cc
-
-  pub number-there : {v end : ℕ} → readAt (number w) s at ≡ got v end → at + w ≤ length s
-  number-there = there-cases (leb (at + w) (length s)) refl
+pub number-there : (s : List Bool) (at w : ℕ) → 1 ≤ w → {v end : ℕ} → readAt (number w) s at ≡ got v end → at + w ≤ length s
+number-there s at w h e = number-says w s at h e .0
 
 pub number-small : {s : List Bool} {at : ℕ} (w : ℕ) {v end : ℕ} → Read (number w) s at v end → v < 2 ^ w
 unfolding number
 number-small {s} {at} w {v} {end} r = narrow w v (readAt-legal (number w) s at v end (r .same) .0 .faultless)
-
--- an element is a number that passed its test
-pub element-number : (w : ℕ) (refuse : ℕ → ℕ) (s : List Bool) (at : ℕ) {v end : ℕ} → readAt (element w refuse) s at ≡ got v end
-    → readAt (number w) s at ≡ got v end
-unfolding element
-element-number w refuse s at e =
-    let x = steps (readAt (number w) s at) (λ v m. unlessAt (refuse v) (at + 0) (got v m)) (sym (readAt-tested (number w) refuse (λ v. 0) s at) ∙ e)
-    in
-    x .first ∙ passed (refuse (x .value)) (at + 0) (got (x .value) (x .next)) (x .then) .1
 
 -- where a number ends
 pub number-end : (s : List Bool) (at w : ℕ) {v end : ℕ} → readAt (number w) s at ≡ got v end → end ≡ at + w

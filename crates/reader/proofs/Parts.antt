@@ -1,47 +1,38 @@
 -- What a part needs where the whole is read, and what the whole has where its parts are stored: a law for each way to build a codec.
 -- Assumes nothing.
 use mathlib.Core.Path.{_≡_, refl, sym, ap, _∙_, subst}
-use mathlib.Core.Bool.{Bool, true, false}
+use mathlib.Core.Bool.{Bool, true}
 use mathlib.Core.List.{List, _++_}
 use Prim.Native.Nat.{ℕ, _+_, _≤_}
 use native.Mathlib.Nat.{add-assoc}
-use native.Mathlib.Omega.{arith}
-use borrow.Author.Tests.{leb-true, leb-false}
-use lib.Dec.{leb}
 use lib.ListN.{length, replicate}
 use Rattle.codec.specs.Codec.{Codec}
 use Rattle.codec.specs.Parts.{number, absent, numberFault, element, seq, tested, shaped, mark, only, first-none}
 use Rattle.codec.specs.Places.{places}
 use Rattle.codec.specs.Reading.{got, andNext, unlessAt, readAt}
 use Rattle.codec.proofs.Reading.{readAt-seq, readAt-tested, readAt-shaped, readAt-absent, readAt-legal, mark-at}
-use Rattle.codec.proofs.Filling.{places-rest}
-use Rattle.grammar.specs.SiteSheet.{rangeRefusal}
-use Rattle.grammar.specs.Grammar.{noIdentity, zeroIdentity, noIdentities, noExternal, noExternals, noServices, noPart}
-use Rattle.grammar.specs.Zero.{zeroIdentities, zeroNumber, zeroNumbers, zeroServices, zeroLists}
+use Rattle.grammar.specs.Grammar.{noIdentities, noExternals, noServices, noPart}
+use Rattle.grammar.specs.Zero.{zeroIdentities, zeroNumbers, zeroServices, zeroLists}
 use Rattle.grammar.specs.declared.record.Services.{Services}
 use Rattle.grammar.specs.declared.record.Lists.{Lists}
-use Rattle.grammar.specs.declared.site.ListKind.{ListKind}
-use Rattle.grammar.proofs.Codes.{above-nine}
-use Rattle.grammar.proofs.Steps.{noIdentity-at, noExternal-at, noServices-at, noPart-at}
+use Rattle.grammar.proofs.Steps.{noIdentities-at, noExternals-at, noServices-at, noPart-at}
+use Rattle.walk.proofs.Numbers.{element-says}
 use Rattle.words.specs.Inner.{Put}
 use Rattle.words.proofs.Putting as words
 use Rattle.reader.specs.Inner.{one, Read, Reads, Fillable, Fills}
-use Rattle.reader.proofs.Elements.{steps, passed, element-number, number-end}
+use Rattle.reader.proofs.Elements.{steps, first-reads, passed, number-end}
 use Rattle.reader.proofs.Entries.{put-as}
 
 -- ---- one part after another
 
 module _ {A B : Type 0} (c : Codec A) (d : A → Codec B) {s : List Bool} {at : ℕ} where
   pub reads-first : Reads (seq c d) s at → Reads c s at
-  reads-first r =
-      let x = steps _ _ (sym (readAt-seq c d s at) ∙ r .read .same) in
-      record { value = x .value; end = x .next; read = record { same = x .first } }
+  reads-first r = first-reads (steps _ _ (sym (readAt-seq c d s at) ∙ r .read .same))
 
   pub reads-next : {a : A} {m : ℕ} → Reads (seq c d) s at → Read c s at a m → Reads (d a) s m
   reads-next {a} {m} r e =
       let whole : readAt (seq c d) s at ≡ andNext (readAt (d a) s m) (λ b end. got (a, b) end) = readAt-seq c d s at ∙ rw (e .same) in
-      let x = steps _ _ (sym whole ∙ r .read .same) in
-      record { value = x .value; end = x .next; read = record { same = x .first } }
+      first-reads (steps _ _ (sym whole ∙ r .read .same))
 
   pub read-then : {a : A} {b : B} {m end : ℕ} → Read c s at a m → Read (d a) s m b end → Read (seq c d) s at (a, b) end
   read-then e f = record { same = readAt-seq c d s at ∙ rw (e .same, f .same) }
@@ -60,9 +51,7 @@ module _ {A B : Type 0} (c : Codec A) (d : A → Codec B) {s : List Bool} {at : 
 module _ {A B : Type 0} (c : Codec A) (to : A → B) (from : B → A)
     (there : (a : A) → c .clean a ≡ true → c .fault a ≡ 0 → from (to a) ≡ a) (back : (b : B) → to (from b) ≡ b) {s : List Bool} {at : ℕ} where
   pub reads-shaped : Reads (shaped c to from there back) s at → Reads c s at
-  reads-shaped r =
-      let x = steps _ _ (sym (readAt-shaped c to from there back s at) ∙ r .read .same) in
-      record { value = x .value; end = x .next; read = record { same = x .first } }
+  reads-shaped r = first-reads (steps _ _ (sym (readAt-shaped c to from there back s at) ∙ r .read .same))
 
   pub fill-shaped : {f : A → List ℕ} {g : B → List ℕ} {n o end : ℕ} {w w′ : List ℕ} → ((a : A) → f a ≡ g (to a))
       → Fills c f n s at w o w′ end → Fills (shaped c to from there back) g n s at w o w′ end
@@ -76,9 +65,7 @@ module _ {A B : Type 0} (c : Codec A) (to : A → B) (from : B → A)
 
 module _ {A : Type 0} (c : Codec A) (refuse into : A → ℕ) {s : List Bool} {at : ℕ} (r : Reads (tested c refuse into) s at) where
   pub reads-tested : Reads c s at
-  reads-tested =
-      let x = steps _ _ (sym (readAt-tested c refuse into s at) ∙ r .read .same) in
-      record { value = x .value; end = x .next; read = record { same = x .first } }
+  reads-tested = first-reads (steps _ _ (sym (readAt-tested c refuse into s at) ∙ r .read .same))
 
   pub tested-read : {a : A} {end : ℕ} → Read c s at a end → Read (tested c refuse into) s at a end
   tested-read {a} {end} e =
@@ -132,14 +119,6 @@ pub fill-list : {c : Codec (List ℕ)} {s : List Bool} {at end to n : ℕ} {l wo
     → Put words to l n words′ (to + n) → Fills c (λ (x : List ℕ). x) n s at words to words′ end
 fill-list {l} r p = record { value = l; read = r; put = p }
 
--- a legal range type is at most 9
-pub legal-code : (l : ListKind) (code : ℕ) → rangeRefusal l code ≡ 0 → code ≤ 9
-legal-code l code e = go (leb code 9) refl
-  where
-    go : (t : Bool) → leb code 9 ≡ t → code ≤ 9
-    go true t = leb-true code 9 t
-    go false t = absurd (omega (arith, e, above-nine l code (leb-false code 9 t)))
-
 -- ---- how many places are used, by an equation
 
 module _ {A : Type 0} (c z : Codec A) (m : ℕ) {n k : ℕ} (e : n ≡ k) {s : List Bool} {at : ℕ} where
@@ -156,19 +135,12 @@ pub none-fill : {A : Type 0} (c : Codec A) (f : A → List ℕ) (v : A) {s : Lis
     → {n to : ℕ} {w w′ : List ℕ} → f v ≡ replicate n 0 → Put w to (replicate n 0) n w′ (to + n) → Fills c f n s at w to w′ at
 none-fill c f v e z p = record { value = v; read = record { same = e }; put = put-as p (sym z) refl refl }
 
-noExternals-at : (s : List Bool) (at : ℕ) → readAt noExternals s at ≡ got zeroNumbers at
-unfolding noExternals
-noExternals-at s at = simp (readAt-shaped, readAt-seq, readAt-absent, places-rest noExternal noExternal s zeroNumber (noExternal-at s) 8)
-
 pub no-numbers : (s : List Bool) (at : ℕ) → readAt (seq noExternals (λ l. noExternals)) s at ≡ got (zeroNumbers, zeroNumbers) at
 no-numbers s at = readAt-seq noExternals (λ l. noExternals) s at ∙ rw (noExternals-at, noExternals-at)
 
 -- a list of identities that the PDU does not carry
 pub no-identities : (s : List Bool) (at : ℕ) → Read noIdentities s at zeroIdentities at
-unfolding noIdentities
-no-identities s at = record {
-  same = simp (readAt-shaped, readAt-seq, readAt-absent, places-rest noIdentity noIdentity s zeroIdentity (noIdentity-at s) 8);
-}
+no-identities s at = record { same = noIdentities-at s at }
 
 -- what an INTERROGATE does not carry after the interrogation type
 abbrev Unasked : Type 0
@@ -186,7 +158,7 @@ module _ {A : Type 0} (w v : ℕ) (c : Codec A) {s : List Bool} {at : ℕ} (r : 
   mark-read : readAt (mark w v c) s at ≡ readAt c s (at + w)
   mark-read =
       let x = steps (readAt (element w (only v)) s at) (λ n m. readAt c s m) (sym (mark-at w v c s at) ∙ r .read .same) in
-      mark-at w v c s at ∙ rw (x .first) (ap (readAt c s) (number-end s at w (element-number w (only v) s at (x .first))))
+      mark-at w v c s at ∙ rw (x .first) (ap (readAt c s) (number-end s at w (element-says w (only v) s at (x .first) .0)))
 
   pub reads-mark : Reads c s (at + w)
   reads-mark = record { value = r .value; end = r .end; read = record { same = sym mark-read ∙ r .read .same } }

@@ -1,7 +1,7 @@
 -- Several numbers from one window of a PDU: those that it carries, and zeros after them. Assumes nothing.
 use mathlib.Core.Path.{_≡_, refl, sym, ap, _∙_, subst}
 use mathlib.Core.Bool.{Bool, true, false}
-use mathlib.Core.List.{List, [], _∷_, _++_}
+use mathlib.Core.List.{List, _∷_, _++_}
 use Prim.Native.Nat.{ℕ, zero, suc, _+_, _-_, _*_, _/_, _%_, _^_, _≤_, _<_, min}
 use native.Mathlib.Nat.{mul-assoc, mul-mod-left}
 use native.Mathlib.Omega.{arith}
@@ -20,8 +20,9 @@ use Rattle.codec.specs.Reading.{Found, got, andNext, readAt}
 use Rattle.codec.proofs.Reading.{readAt-absent, readAt-cons}
 use Rattle.codec.proofs.Filling.{places-each}
 use Rattle.grammar.specs.SiteSheet.{digitRefusal, serviceRefusal}
+use Rattle.walk.proofs.Numbers.{element-says}
 use Rattle.reader.specs.Inner.{Read, Reads, heldIn, twelveIn, sevenIn}
-use Rattle.reader.proofs.Elements.{steps, element-number, number-there, number-end, number-inside}
+use Rattle.reader.proofs.Elements.{steps, number-there, number-end, number-inside}
 use Rattle.reader.proofs.Parts.{element-read}
 
 -- ---- a part of the bits that are held
@@ -83,7 +84,7 @@ module _ (s : List Bool) (w : ℕ) (refuse : ℕ → ℕ) where
       (sym (readAt-cons (element w refuse) (listing m n) s at) ∙ e) in
       let b = steps (readAt (listing m n) s (a .next)) (λ t q. got (a .value ∷ t) q) (a .then) in
       go i k (record { value = a .value; end = a .next; read = record { same = a .first } })
-      (number-end s at w (element-number w refuse s at (a .first))) (λ j. each-reads m n (a .next) (omega arith) (b .first) j)
+      (number-end s at w (element-says w refuse s at (a .first) .0)) (λ j. each-reads m n (a .next) (omega arith) (b .first) j)
     where
       go : (i : ℕ) → i < suc n → Reads (element w refuse) s at → {next : ℕ} → next ≡ at + w
           → ((j : ℕ) → j < n → Reads (element w refuse) s (next + w * j)) → Reads (element w refuse) s (at + w * i)
@@ -100,7 +101,7 @@ module _ (s : List ℕ) (at w : ℕ) (refuse : ℕ → ℕ) (m n : ℕ) (wide : 
   one-read : (i : ℕ) → i < n → readAt (element w refuse) (bits s) (at + w * i) ≡ got (getD l i 0) (at + w * suc i)
   one-read i h =
       let e = each-reads (bits s) w refuse m n at few (r .read .same) i h in
-      let there = number-there (bits s) (at + w * i) w wide (element-number w refuse (bits s) (at + w * i) (e .read .same)) in
+      let there = number-there (bits s) (at + w * i) w wide (element-says w refuse (bits s) (at + w * i) (e .read .same) .0) in
       let next : at + w * i + w ≡ at + w * suc i = omega arith in
       element-read w refuse e (used i h there) .same ∙ ap {B = Found ℕ} (λ (x : ℕ). got (getD l i 0) x) next
 

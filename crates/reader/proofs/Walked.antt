@@ -5,7 +5,7 @@ use mathlib.Core.List.{List, _++_}
 use Prim.Native.Nat.{ℕ, _+_, _≤_}
 use native.Mathlib.Omega.{arith}
 use borrow.Author.Tests.{eq-eqb}
-use lib.ListN.{length, take, drop, replicate, take-append-drop}
+use lib.ListN.{length, drop, replicate, take-append-drop}
 use Rattle.bits.specs.Bits.{bits, pick}
 use Rattle.bits.specs.Frame.{bitsIn, framed}
 use Rattle.bits.proofs.Tests.{never}

@@ -15,7 +15,7 @@ use Rattle.bits.proofs.Tests.{both, picked}
 use Rattle.bits.proofs.Bytes.{length-bits}
 use Rattle.bits.proofs.Numbers.{value-take-fits}
 use Rattle.bits.proofs.Windows.{window-part}
-use Rattle.codec.specs.Parts.{number, absent, element, only}
+use Rattle.codec.specs.Parts.{absent, element, only}
 use Rattle.codec.specs.Places.{places}
 use Rattle.codec.specs.Reading.{got, readAt, resume, reachedOf}
 use Rattle.codec.specs.declared.Reached.{Reached}
@@ -97,12 +97,19 @@ unfolding coded
 coded-single code l r h =
     pass-untested _ _ _ _ _ (not-nine code h) ∙ pass-places identity noIdentity zeroIdentity _ (noIdentity-at _) 8 _ _ (entriesOf-le code)
 
-pub legal-code : (list : ListKind) (code : ℕ) → rangeRefusal list code ≡ 0 → code ≤ 9
-legal-code list code e = go (leb code 9) refl
+-- a code that is not refused is at most the highest that is not
+at-most : (high code : ℕ) {refusal : ℕ} → (high < code → refusal ≡ 3) → refusal ≡ 0 → code ≤ high
+at-most high code {refusal} above e = go (leb code high) refl
   where
-    go : (b : Bool) → leb code 9 ≡ b → code ≤ 9
-    go true h = leb-true code 9 h
-    go false h = absurd (omega (arith, above-nine list code (leb-false code 9 h)))
+    go : (b : Bool) → leb code high ≡ b → code ≤ high
+    go true h = leb-true code high h
+    go false h = absurd (omega (arith, above (leb-false code high h)))
+
+pub legal-code : (list : ListKind) (code : ℕ) → rangeRefusal list code ≡ 0 → code ≤ 9
+legal-code list code = at-most 9 code (above-nine list code)
+
+pub single-code : (code : ℕ) → rangeRefusal of.Numbers code ≡ 0 → code ≤ 8
+single-code code = at-most 8 code (not-single code)
 
 pub list-ends : (list : ListKind) {s : List ℕ} {at code m end : ℕ} → Holds s at 4 code → rangeRefusal list code ≡ 0
     → Ends (pass (coded code)) s (at + 4) m end
@@ -158,13 +165,6 @@ module _ {s : List ℕ} {at count size : ℕ} (is : count ≡ windowAt s at / 2 
       (in-front s (at + 57) (size - 52) (109 - size) (omega arith) (omega arith) refl)) more)) in
       subst (Ends (pass external) s at 4097) place
       (ends-as (λ l r. refl) (omega arith) (number-ends (in-front s at 5 52 refl (omega arith) is) counted digits))
-
-pub single-code : (code : ℕ) → rangeRefusal of.Numbers code ≡ 0 → code ≤ 8
-single-code code e = go (leb code 8) refl
-  where
-    go : (b : Bool) → leb code 8 ≡ b → code ≤ 8
-    go true h = leb-true code 8 h
-    go false h = absurd (omega (arith, not-single code (leb-false code 8 h)))
 
 pub externals-end : {s : List ℕ} {at code m end : ℕ} → Holds s at 4 code → rangeRefusal of.Numbers code ≡ 0
     → Ends (λ l. steps (pass external l) code) s (at + 4) m end → Ends (pass externals) s at (4 + m) end

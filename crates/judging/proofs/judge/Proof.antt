@@ -1,5 +1,4 @@
 -- One test after the other. Assumes nothing.
-use mathlib.Core.Path.{_≡_}
 use native.Mathlib.Omega.{arith}
 use borrow.Author.Tests.{eq-eqb, ne-eqb, le-leb, lt-leb}
 use Rattle.judging.specs.Judge.{judgedIs}
@@ -20,17 +19,14 @@ returns-2 c =
 returns-3 : tie.Need-returns-3
 unfolding judgedIs
 returns-3 c =
-    let r = c .before .before in
-    let k = r .before .before in
+    let r = c .before .before in let k = r .before .before in
     let h = k .before .before .args .head in
     rw (eq-eqb (h .kind) 12 (k .if1 .left), le-leb 1 (h .result) (omega (arith, r .if2 .left)), lt-leb (h .result) 2 (c .if3 .taken))
 
 returns-4 : tie.Need-returns-4
 unfolding judgedIs
 returns-4 c =
-    let p = c .before .before in
-    let r = p .before .before in
-    let k = r .before .before in
+    let p = c .before .before in let r = p .before .before in let k = r .before .before in
     let h = k .before .before .args .head in
     rw (
       eq-eqb (h .kind) 12 (k .if1 .left),
@@ -42,10 +38,7 @@ returns-4 c =
 returns-5 : tie.Need-returns-5
 unfolding judgedIs
 returns-5 c =
-    let u = c .before in
-    let p = u .before .before in
-    let r = p .before .before in
-    let k = r .before .before in
+    let u = c .before in let p = u .before .before in let r = p .before .before in let k = r .before .before in
     let h = k .before .before .args .head in
     rw (
       eq-eqb (h .kind) 12 (k .if1 .left),

@@ -1,5 +1,5 @@
 -- The answer of reading into words, and the record that those words give back. Assumes nothing.
-use mathlib.Core.Path.{_≡_, ap, _∙_}
+use mathlib.Core.Path.{ap, _∙_}
 use mathlib.Core.List.{List}
 use Prim.Native.Nat.{ℕ}
 use borrow.Author.Needs.{needs}
@@ -14,8 +14,7 @@ use Rattle.reader.proofs.read.Tie as tie
 returns : tie.Need-returns
 unfolding readWordsIs
 returns c =
-    let f = c .before in
-    let r = f .before .before .before in
+    let f = c .before in let r = f .before .before .before in
     let a = r .before .before .before .args in
     let found = ap (λ (x : GivenRecord). x .found) (f .record-from .ensures)
     ∙ ap (λ (w : List ℕ). givenRecord w .found) (r .read-words .ensures .1)

@@ -41,9 +41,7 @@ fill-record-requires c κs =
 returns-2 : tie.Need-returns-2
 unfolding readWordsIs readWords
 returns-2 c =
-    let f = c .before .before in
-    let t = f .before .before in
-    let e = t .before .before .before in
+    let f = c .before .before in let t = f .before .before in let e = t .before .before .before in
     let a = accepted t in
     let left = put-whole (e .if1 .left) (fills-is (f .fill-record .ensures) (a .read) .1) in
     (rw (whole e, a .same), rw (whole e, a .same) left)
@@ -51,8 +49,7 @@ returns-2 c =
 returns-3 : tie.Need-returns-3
 unfolding readWordsIs readWords
 returns-3 c =
-    let w = c .before .before .before in
-    let e = w .before in
+    let w = c .before .before .before in let e = w .before in
     let a = e .before .before .before .args in
     let q = same-answer (now (a .s)) (a .n .0) ∙ ap answerOf (sym (w .walk .ensures) ∙ c .before .refusal .given .1) in
     (rw (whole e, q), rw (whole e, q))
@@ -60,12 +57,4 @@ returns-3 c =
 pub read-words-spec : {M : Type 1} → statement M
 read-words-spec =
     tie.close
-    (tie.spec
-    returns
-    (λ c κs. search needs)
-    (λ c. search needs)
-    fill-record-requires
-    (λ c. search needs)
-    (λ c. search needs)
-    returns-2
-    returns-3)
+    (tie.spec returns (λ c κs. search needs) (λ c. search needs) fill-record-requires (λ c. search needs) (λ c. search needs) returns-2 returns-3)

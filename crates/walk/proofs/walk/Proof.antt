@@ -15,9 +15,7 @@ returns c = sym (not-framed _ _ (said-no (c .before .is-framed .ensures) (c .if1
 
 returns-2 : tie.Need-returns-2
 returns-2 c =
-    let t = c .before in
-    let p = t .before .before .before in
-    let e = p .before in
+    let t = c .before in let p = t .before .before .before in let e = p .before in
     let a = e .before .before .before .args in
     let framed = said-yes (e .before .is-framed .ensures) (e .if1 .left) in
     let says = framed-says (now (a .s)) (a .n .0) framed in

@@ -7,7 +7,7 @@ use Rattle.bits.specs.Bits.{bits}
 use Rattle.words.specs.RecordWords.{identityWords}
 use Rattle.grammar.specs.Grammar.{identity, noIdentity}
 use Rattle.grammar.proofs.Steps.{noIdentity-at}
-use Rattle.reader.proofs.Entries.{Entries, entries-none, entries-next, entries-more, entries-all}
+use Rattle.reader.proofs.Entries.{Entries, entries-none, entries-next, entries-room, entries-left, entries-more, entries-all}
 use Rattle.reader.proofs.identities.fill_entries.Statement.{statement}
 use Rattle.reader.proofs.identities.fill_entries.Tie as tie
 
@@ -19,55 +19,26 @@ abbrev μ-loop : tie.MeasureT-loop
 μ-loop s words₀ to count at₀ next₀ i₀ words at next i = count - i
 
 loop-holds : tie.Need-loop-holds Inv-loop μ-loop
-loop-holds c = entries-none (omega arith) (c .before .before .pre .1 .reads)
+loop-holds c = let b = c .before .before .pre .1 in entries-none (omega arith) (b .room) (b .reads)
 
 fill-identity-requires : tie.Need-fill-identity-requires Inv-loop μ-loop
 fill-identity-requires c κs =
-    let l = c .before .before in
-    let b = l .before .before .before in
-    record {
-      few = b .pre .1 .few;
-      room = omega (arith, b .pre .1 .room, b .pre .0, l .loop .inv .put .ends, l .loop .inv .long);
-      reads = entries-next (l .loop .inv) (c .before .loop-test .taken);
-    }
+    let l = c .before .before in let k = c .before .loop-test .taken in
+    record { few = l .before .before .before .pre .1 .few; room = entries-room (l .loop .inv) k; reads = entries-next (l .loop .inv) k }
 
 loop-again : tie.Need-loop-again Inv-loop μ-loop
 loop-again c =
-    let p = c .before .before in
-    let t = p .before .before in
-    let l = t .before in
-    let b = l .before .before .before in
-    entries-more (l .loop .inv) (omega (arith, b .pre .1 .room)) (t .loop-test .taken) (p .fill-identity .ensures) (p .fill-identity .kept .1 .1 .0)
-
-zero-words-requires : tie.Need-zero-words-requires Inv-loop μ-loop
-zero-words-requires c κs =
-    let l = c .before .before in
-    let b = l .before .before .before in
-    omega (arith, b .pre .1 .room, b .pre .0, l .loop .inv .put .ends, l .loop .inv .long, l .loop .inv .within)
+    let p = c .before .before in let t = p .before .before in
+    entries-more (t .before .loop .inv) (t .loop-test .taken) (p .fill-identity .ensures) (p .fill-identity .kept .1 .1 .0)
 
 returns : tie.Need-returns Inv-loop μ-loop
 unfolding identityWords
 returns c =
-    let p = c .before .before in
-    let t = p .before .before in
-    let l = t .before in
-    let b = l .before .before .before in
-    entries-all (l .loop .inv) (omega (arith, b .pre .1 .room)) (t .loop-test .left) (noIdentity-at _) refl refl (p .zero-words .ensures)
+    let p = c .before .before in let t = p .before .before in
+    entries-all (t .before .loop .inv) (t .loop-test .left) (noIdentity-at _) refl refl (p .zero-words .ensures)
 
 pub fill-entries-spec : {M : Type 1} → statement M
 fill-entries-spec =
     tie.close
-    (tie.spec
-    Inv-loop
-    μ-loop
-    loop-holds
-    fill-identity-requires
-    (λ c. omega arith)
-    (λ c. search needs)
-    (λ c. search needs)
-    loop-again
-    (λ c. omega arith)
-    (λ c. omega arith)
-    zero-words-requires
-    (λ c. search needs)
-    returns)
+    (tie.spec Inv-loop μ-loop loop-holds fill-identity-requires (λ c. omega arith) (λ c. search needs) (λ c. search needs) loop-again
+    (λ c. omega arith) (λ c. omega arith) (λ c κs. entries-left (c .before .before .loop .inv)) (λ c. search needs) returns)

@@ -19,8 +19,7 @@ fill-identities-requires c κs =
 fill-identities-requires-2 : tie.Need-fill-identities-requires-2
 unfolding identityPart
 fill-identities-requires-2 c κs =
-    let p = c .before .before .before in
-    let b = p .before .before .before .before in
+    let p = c .before .before .before in let b = p .before .before .before .before in
     record {
       few = b .pre .few;
       room = omega (arith, b .pre .room, p .fill-identities .kept .1 .1 .0);
@@ -30,9 +29,7 @@ fill-identities-requires-2 c κs =
 fill-identities-requires-3 : tie.Need-fill-identities-requires-3
 unfolding identityPart
 fill-identities-requires-3 c κs =
-    let q = c .before .before .before in
-    let p = q .before .before .before .before in
-    let b = p .before .before .before .before in
+    let q = c .before .before .before in let p = q .before .before .before .before in let b = p .before .before .before .before in
     record {
       few = b .pre .few;
       room = omega (arith, b .pre .room, p .fill-identities .kept .1 .1 .0, q .fill-identities2 .kept .1 .1 .0);
@@ -44,11 +41,8 @@ fill-identities-requires-3 c κs =
 returns : tie.Need-returns
 unfolding identityPart records
 returns c =
-    let z = c .before .before in
-    let r = z .before .before .before .before in
-    let q = r .before .before .before .before in
-    let p = q .before .before .before .before in
-    let b = p .before .before .before .before in
+    let z = c .before .before in let r = z .before .before .before .before in let q = r .before .before .before .before in
+    let p = q .before .before .before .before in let b = p .before .before .before .before in
     let k = p .fill-identities .kept .1 .1 .0 in
     let l = q .fill-identities2 .kept .1 .1 .0 in
     fill-shaped _ _ _ _ _ (λ a. refl)
@@ -61,13 +55,5 @@ returns c =
 pub fill-identity-part-spec : {M : Type 1} → statement M
 fill-identity-part-spec =
     tie.close
-    (tie.spec
-    (λ c. search needs)
-    (λ c. search needs)
-    (λ c. search needs)
-    fill-identities-requires
-    fill-identities-requires-2
-    fill-identities-requires-3
-    (λ c κs. search needs)
-    (λ c. search needs)
-    returns)
+    (tie.spec (λ c. search needs) (λ c. search needs) (λ c. search needs) fill-identities-requires fill-identities-requires-2
+    fill-identities-requires-3 (λ c κs. search needs) (λ c. search needs) returns)

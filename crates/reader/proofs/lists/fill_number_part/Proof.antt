@@ -21,15 +21,12 @@ fill-identities-requires c κs =
 
 zero-words-requires : tie.Need-zero-words-requires
 zero-words-requires c κs =
-    let g = c .before .before .before in
-    let b = g .before .before .before .before in
+    let g = c .before .before .before in let b = g .before .before .before .before in
     omega (arith, b .pre .room, g .fill-identities .kept .1 .1 .0)
 
 zero-words-requires-2 : tie.Need-zero-words-requires-2
 zero-words-requires-2 c κs =
-    let z = c .before .before .before in
-    let g = z .before .before .before .before in
-    let b = g .before .before .before .before in
+    let z = c .before .before .before in let g = z .before .before .before .before in let b = g .before .before .before .before in
     omega (arith, b .pre .room, g .fill-identities .kept .1 .1 .0, z .zero-words .kept .0)
 
 -- the two lists of numbers
@@ -42,9 +39,7 @@ both c =
 
 fill-numbers-requires : tie.Need-fill-numbers-requires
 fill-numbers-requires c κs =
-    let y = c .before .before .before in
-    let z = y .before .before .before .before in
-    let g = z .before .before .before .before in
+    let y = c .before .before .before in let z = y .before .before .before .before in let g = z .before .before .before .before in
     let b = g .before .before .before .before in
     record {
       few = b .pre .few;
@@ -54,11 +49,8 @@ fill-numbers-requires c κs =
 
 fill-numbers-requires-2 : tie.Need-fill-numbers-requires-2
 fill-numbers-requires-2 c κs =
-    let n = c .before .before .before in
-    let y = n .before .before .before .before in
-    let z = y .before .before .before .before in
-    let g = z .before .before .before .before in
-    let b = g .before .before .before .before in
+    let n = c .before .before .before in let y = n .before .before .before .before in let z = y .before .before .before .before in
+    let g = z .before .before .before .before in let b = g .before .before .before .before in
     let k = g .fill-identities .kept .1 .1 .0 in
     record {
       few = b .pre .few;
@@ -69,12 +61,8 @@ fill-numbers-requires-2 c κs =
 returns : tie.Need-returns
 unfolding numberPart records
 returns c =
-    let x = c .before .before in
-    let n = x .before .before .before .before in
-    let y = n .before .before .before .before in
-    let z = y .before .before .before .before in
-    let g = z .before .before .before .before in
-    let b = g .before .before .before .before in
+    let x = c .before .before in let n = x .before .before .before .before in let y = n .before .before .before .before in
+    let z = y .before .before .before .before in let g = z .before .before .before .before in let b = g .before .before .before .before in
     let k = g .fill-identities .kept .1 .1 .0 in
     fill-shaped _ _ _ _ _ (λ a. refl)
     (fill-then _ _ identitiesWords (omega (arith, b .pre .room)) (g .fill-identities .ensures .read) (g .fill-identities .ensures .put)
@@ -87,15 +75,5 @@ returns c =
 pub fill-number-part-spec : {M : Type 1} → statement M
 fill-number-part-spec =
     tie.close
-    (tie.spec
-    (λ c. search needs)
-    (λ c. search needs)
-    (λ c. search needs)
-    (λ c. search needs)
-    fill-identities-requires
-    zero-words-requires
-    zero-words-requires-2
-    fill-numbers-requires
-    fill-numbers-requires-2
-    (λ c. search needs)
-    returns)
+    (tie.spec (λ c. search needs) (λ c. search needs) (λ c. search needs) (λ c. search needs) fill-identities-requires zero-words-requires
+    zero-words-requires-2 fill-numbers-requires fill-numbers-requires-2 (λ c. search needs) returns)

@@ -60,14 +60,12 @@ held-requires-2 c κs =
 
 put-twelve-requires : tie.Need-put-twelve-requires
 put-twelve-requires c κs =
-    let o = c .before .before .before in
-    let b = o .before .before .before .before .before .before .before .before .before in
+    let o = c .before .before .before in let b = o .before .before .before .before .before .before .before .before .before in
     omega (arith, b .pre .room, o .store .kept .0)
 
 put-twelve-requires-2 : tie.Need-put-twelve-requires-2
 put-twelve-requires-2 c κs =
-    let p = c .before .before .before in
-    let o = p .before .before .before .before in
+    let p = c .before .before .before in let o = p .before .before .before .before in
     let b = o .before .before .before .before .before .before .before .before .before in
     omega (arith, b .pre .room, o .store .kept .0, p .put-twelve .kept .0)
 
@@ -77,14 +75,8 @@ window-of c = c .before .before .before .before .before .before .before .before 
 returns : tie.Need-returns
 unfolding external numberWords
 returns c =
-    let q = c .before .before in
-    let p = q .before .before .before .before in
-    let o = p .before .before .before .before in
-    let h′ = o .before .before in
-    let w′ = h′ .before in
-    let h = w′ .before in
-    let l = h .before in
-    let w = l .before in
+    let q = c .before .before in let p = q .before .before .before .before in let o = p .before .before .before .before in
+    let h′ = o .before .before in let w′ = h′ .before in let h = w′ .before in let l = h .before in let w = l .before in
     let b = w .before .before .before in
     let digits = digits-read (pdu w) (at w) (count w) (l .least .result) (l .least .ensures) (few w) (rest w) (w .window .ensures)
     (w′ .window2 .ensures) (h .held .ensures) (h′ .held2 .ensures) in
@@ -96,25 +88,8 @@ returns c =
 pub fill-number-spec : {M : Type 1} → statement M
 fill-number-spec =
     tie.close
-    (tie.spec
-    (λ c κs. search needs)
-    (λ c. search needs)
-    (λ c. search needs)
-    (λ c κs. search needs)
-    (λ c. omega (arith, c .least .ensures))
-    held-requires
-    (λ c. omega (arith, near (c .before .before)))
-    (λ c κs. search needs)
-    (λ c. omega (arith, c .before .before .least .ensures))
-    (λ c. omega (arith, few (c .before .before .before)))
-    held-requires-2
-    (λ c. search needs)
-    (λ c κs. search needs)
-    put-twelve-requires
-    (λ c. search needs)
-    put-twelve-requires-2
-    (λ c. omega (arith, near (window-of c)))
-    (λ c. omega (arith, few (window-of c)))
-    (λ c. omega (arith, near (window-of c), few (window-of c)))
-    (λ c. search needs)
-    returns)
+    (tie.spec (λ c κs. search needs) (λ c. search needs) (λ c. search needs) (λ c κs. search needs) (λ c. omega (arith, c .least .ensures))
+    held-requires (λ c. omega (arith, near (c .before .before))) (λ c κs. search needs) (λ c. omega (arith, c .before .before .least .ensures))
+    (λ c. omega (arith, few (c .before .before .before))) held-requires-2 (λ c. search needs) (λ c κs. search needs) put-twelve-requires
+    (λ c. search needs) put-twelve-requires-2 (λ c. omega (arith, near (window-of c))) (λ c. omega (arith, few (window-of c)))
+    (λ c. omega (arith, near (window-of c), few (window-of c))) (λ c. search needs) returns)

@@ -28,9 +28,7 @@ add-t12 c =
 returns : tie.Need-returns
 unfolding interrogate records
 returns c =
-    let z = c .before .before in
-    let o = z .before .before .before .before in
-    let n = o .before in
+    let z = c .before .before in let o = z .before .before .before .before in let n = o .before in
     let b = n .before .before .before .before in
     fill-then _ _ one (omega (arith, b .pre .room)) (element-read 2 askedRefusal (reads-first _ _ (b .pre .reads)) (n .number-at .ensures))
     (o .store .ensures)
@@ -40,11 +38,5 @@ returns c =
 pub fill-interrogate-spec : {M : Type 1} → statement M
 fill-interrogate-spec =
     tie.close
-    (tie.spec
-    (λ c κs. (omega arith, omega arith, asked (c .before .before .before)))
-    (λ c κs. search needs)
-    (λ c. search needs)
-    (λ c κs. search needs)
-    add-t12
-    (λ c. search needs)
-    returns)
+    (tie.spec (λ c κs. (omega arith, omega arith, asked (c .before .before .before))) (λ c κs. search needs) (λ c. search needs)
+    (λ c κs. search needs) add-t12 (λ c. search needs) returns)

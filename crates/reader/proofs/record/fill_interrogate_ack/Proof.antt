@@ -40,15 +40,12 @@ add-delivery-at c =
 
 add-t15 : tie.Need-add-t15
 add-t15 c =
-    let n = c .before .before .before .before .before in
-    let b = n .before .before .before in
+    let n = c .before .before .before .before .before in let b = n .before .before .before in
     omega (arith, number-fits (now (b .args .s)) (b .args .c .at + 3) 2 (omega arith) (b .pre .few) (reads-first _ _ (from-delivery n)))
 
 fill-services-requires : tie.Need-fill-services-requires
 fill-services-requires c κs =
-    let t = c .before .before .before in
-    let m = t .before .before in
-    let b = m .before .before .before .before in
+    let t = c .before .before .before in let m = t .before .before in let b = m .before .before .before .before in
     record {
       few = b .pre .few;
       room = omega (arith, b .pre .room, t .three-words .kept .0);
@@ -57,9 +54,7 @@ fill-services-requires c κs =
 
 fill-part-requires : tie.Need-fill-part-requires
 fill-part-requires c κs =
-    let f = c .before .before .before in
-    let t = f .before .before .before .before in
-    let m = t .before .before in
+    let f = c .before .before .before in let t = f .before .before .before .before in let m = t .before .before in
     let b = m .before .before .before .before in
     record {
       few = b .pre .few;
@@ -70,12 +65,8 @@ fill-part-requires c κs =
 returns : tie.Need-returns
 unfolding interrogateAck
 returns c =
-    let p = c .before .before in
-    let f = p .before .before .before .before in
-    let t = f .before .before .before .before in
-    let m = t .before .before in
-    let n = m .before in
-    let b = n .before .before .before in
+    let p = c .before .before in let f = p .before .before .before .before in let t = f .before .before .before .before in
+    let m = t .before .before in let n = m .before in let b = n .before .before .before in
     let s = f .fill-services .ensures in
     let l = p .fill-part .ensures in
     record {
@@ -93,15 +84,6 @@ returns c =
 pub fill-interrogate-ack-spec : {M : Type 1} → statement M
 fill-interrogate-ack-spec =
     tie.close
-    (tie.spec
-    add-delivery-at
-    (λ c. search needs)
-    (λ c. search needs)
-    (λ c κs. (omega arith, omega arith, result-reads (c .before .before)))
-    (λ c κs. (omega arith, omega arith, reads-first _ _ (from-delivery c)))
-    (λ c κs. search needs)
-    add-t15
-    fill-services-requires
-    fill-part-requires
-    (λ c. search needs)
-    returns)
+    (tie.spec add-delivery-at (λ c. search needs) (λ c. search needs) (λ c κs. (omega arith, omega arith, result-reads (c .before .before)))
+    (λ c κs. (omega arith, omega arith, reads-first _ _ (from-delivery c))) (λ c κs. search needs) add-t15 fill-services-requires fill-part-requires
+    (λ c. search needs) returns)

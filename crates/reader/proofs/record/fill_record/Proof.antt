@@ -26,9 +26,7 @@ from-users c = rest-reads _ _ _ _ _ _ _ (reads-mark 6 ssType _ (c .before .befor
 
 fill-identities-requires : tie.Need-fill-identities-requires
 fill-identities-requires c κs =
-    let o = c .before .before .before in
-    let n = o .before .before in
-    let b = n .before .before .before in
+    let o = c .before .before .before in let n = o .before .before in let b = n .before .before .before in
     record {
       few = b .pre .few;
       room = omega (arith, b .pre .room, o .store .kept .0);
@@ -37,9 +35,7 @@ fill-identities-requires c κs =
 
 fill-rest-requires : tie.Need-fill-rest-requires
 fill-rest-requires c κs =
-    let u = c .before .before .before in
-    let o = u .before .before .before .before in
-    let n = o .before .before in
+    let u = c .before .before .before in let o = u .before .before .before .before in let n = o .before .before in
     let b = n .before .before .before in
     let users = fill-alike Users (reads-first _ _ (from-users n)) (u .fill-identities .ensures) in
     record {
@@ -51,11 +47,8 @@ fill-rest-requires c κs =
 returns : tie.Need-returns
 unfolding pdu recordWords
 returns c =
-    let r = c .before .before in
-    let u = r .before .before .before .before in
-    let o = u .before .before .before .before in
-    let n = o .before .before in
-    let b = n .before .before .before in
+    let r = c .before .before in let u = r .before .before .before .before in let o = u .before .before .before .before in
+    let n = o .before .before in let b = n .before .before .before in
     let users = fill-alike Users (reads-first _ _ (from-users n)) (u .fill-identities .ensures) in
     fill-mark 6 ssType _ (b .pre .reads)
     (headed-fill _ _ _ _ _ _ _ (reads-mark 6 ssType _ (b .pre .reads)) (λ q. refl) (omega (arith, b .pre .room)) (n .number-at .ensures)
@@ -65,10 +58,5 @@ returns c =
 pub fill-record-spec : {M : Type 1} → statement M
 fill-record-spec =
     tie.close
-    (tie.spec
-    (λ c κs. (omega arith, omega arith, kind-reads (c .before .before)))
-    (λ c κs. search needs)
-    fill-identities-requires
-    fill-rest-requires
-    (λ c. search needs)
-    returns)
+    (tie.spec (λ c κs. (omega arith, omega arith, kind-reads (c .before .before))) (λ c κs. search needs) fill-identities-requires fill-rest-requires
+    (λ c. search needs) returns)

@@ -11,14 +11,10 @@ use Rattle.reader.proofs.record.fill_rest.Statement.{statement}
 use Rattle.reader.proofs.record.fill_rest.Tie as tie
 
 fill-interrogate-requires : tie.Need-fill-interrogate-requires
-fill-interrogate-requires c κs =
-    let t = c .before in
-    fillable-by (ap (λ (x : ℕ). restOf x) (t .if1 .taken)) (t .before .before .before .pre)
+fill-interrogate-requires c κs = let t = c .before in fillable-by (ap (λ (x : ℕ). restOf x) (t .if1 .taken)) (t .before .before .before .pre)
 
 returns : tie.Need-returns
-returns c =
-    let f = c .before .before in
-    fill-by (ap (λ (x : ℕ). restOf x) (f .before .before .if1 .taken)) (f .fill-interrogate .ensures)
+returns c = let f = c .before .before in fill-by (ap (λ (x : ℕ). restOf x) (f .before .before .if1 .taken)) (f .fill-interrogate .ensures)
 
 is-ack : (c : tie.Else1) → restOf (c .before .before .before .args .kind) ≡ interrogateAck
 is-ack c = ap (λ (t : Bool). pick t interrogate interrogateAck) (ne-eqb (c .before .before .before .args .kind) 11 (c .if1 .left))

@@ -1,5 +1,5 @@
 -- The number of services, then as many. Assumes nothing.
-use mathlib.Core.Path.{_≡_, refl}
+use mathlib.Core.Path.{refl}
 use mathlib.Core.List.{List}
 use Prim.Native.Nat.{ℕ, _+_, _/_, _^_, _≤_}
 use native.Mathlib.Omega.{arith}
@@ -49,8 +49,7 @@ held-requires c κs = (small-window (pdu c) (at c) (c .window .ensures), omega (
 
 put-seven-requires : tie.Need-put-seven-requires
 put-seven-requires c κs =
-    let p = c .before .before .before in
-    let b = p .before .before .before .before .before .before in
+    let p = c .before .before .before in let b = p .before .before .before .before .before .before in
     omega (arith, b .pre .room, p .store .kept .0)
 
 abbrev window-of : tie.After-slice-known3 → tie.After-window
@@ -59,10 +58,7 @@ window-of c = c .before .before .before .before .before .before .before .before 
 returns : tie.Need-returns
 unfolding services servicesWords
 returns c =
-    let p = c .before .before in
-    let o = p .before .before .before .before in
-    let h = o .before .before in
-    let w = h .before in
+    let p = c .before .before in let o = p .before .before .before .before in let h = o .before .before in let w = h .before in
     let b = w .before .before .before in
     let list = services-read (pdu w) (at w) (count w) (few w) (rest w) (w .window .ensures) refl (h .held .ensures) in
     headed-fill _ _ _ _ _ _ _ (b .pre .reads) (λ l. refl) (omega (arith, b .pre .room)) (count-read w) (o .store .ensures)
@@ -71,16 +67,6 @@ returns c =
 pub fill-services-spec : {M : Type 1} → statement M
 fill-services-spec =
     tie.close
-    (tie.spec
-    (λ c κs. search needs)
-    (λ c. search needs)
-    (λ c. search needs)
-    (λ c. search needs)
-    held-requires
-    (λ c κs. search needs)
-    (λ c. search needs)
-    put-seven-requires
-    (λ c. omega (arith, near (window-of c)))
-    (λ c. omega (arith, near (window-of c), few (window-of c)))
-    (λ c. search needs)
-    returns)
+    (tie.spec (λ c κs. search needs) (λ c. search needs) (λ c. search needs) (λ c. search needs) held-requires (λ c κs. search needs)
+    (λ c. search needs) put-seven-requires (λ c. omega (arith, near (window-of c))) (λ c. omega (arith, near (window-of c), few (window-of c)))
+    (λ c. search needs) returns)

@@ -1,11 +1,10 @@
 -- Each turn puts one service. Assumes nothing.
-use Prim.Native.Nat.{ℕ, _-_, _*_, _/_, _%_, _^_}
+use Prim.Native.Nat.{_-_}
 use native.Mathlib.Omega.{arith}
 use borrow.Author.Needs.{needs}
-use lib.ListN.{length-set}
-use Rattle.words.proofs.Putting.{word-put, inTurn-words, Turned, turned-none, turned-more, turned-all}
+use Rattle.words.proofs.Putting.{Turned, turned-none}
 use Rattle.reader.specs.Inner.{one, sevenIn}
-use Rattle.reader.proofs.Entries.{put-as}
+use Rattle.reader.proofs.Entries.{word-more, words-all}
 use Rattle.reader.proofs.Runs.{seven-at, seven-long}
 use Rattle.reader.proofs.services.put_seven.Statement.{statement}
 use Rattle.reader.proofs.services.put_seven.Tie as tie
@@ -18,35 +17,14 @@ abbrev μ-loop : tie.MeasureT-loop
 
 loop-again : tie.Need-loop-again Inv-loop μ-loop
 loop-again c =
-    let l = c .before .loop in
-    let run = c .before .before .args .run in
-    let k = c .loop-test .taken in
-    let x : ℕ = run / 2 ^ (18 - 3 * l .i) % 8 in
-    turned-more 0 (seven-long run) (omega arith) k (l .inv) (rw (seven-at run (l .i) k) (word-put (l .words) (l .next) x (omega arith)))
-    (length-set (l .words) (l .next) x)
+    let l = c .before .loop in let run = c .before .before .args .run in let k = c .loop-test .taken in
+    word-more (seven-long run) (l .inv) (omega arith) k (omega arith) (seven-at run (l .i) k)
 
 returns : tie.Need-returns Inv-loop μ-loop
-returns c =
-    let run = c .before .before .args .run in
-    let p = turned-all (seven-long run) (c .loop-test .left) (c .before .loop .inv) in
-    put-as p (inTurn-words (sevenIn run)) (omega arith) (omega (arith, p .ends))
+returns c = words-all (seven-long (c .before .before .args .run)) (c .before .loop .inv) (c .loop-test .left)
 
 pub put-seven-spec : {M : Type 1} → statement M
 put-seven-spec =
     tie.close
-    (tie.spec
-    Inv-loop
-    μ-loop
-    (λ c. turned-none)
-    (λ c. search needs)
-    (λ c. omega arith)
-    (λ c. search needs)
-    (λ c. search needs)
-    (λ c. search needs)
-    (λ c. omega arith)
-    (λ c. omega arith)
-    (λ c. search needs)
-    (λ c. search needs)
-    loop-again
-    (λ c. search needs)
-    returns)
+    (tie.spec Inv-loop μ-loop (λ c. turned-none) (λ c. search needs) (λ c. omega arith) (λ c. search needs) (λ c. search needs) (λ c. search needs)
+    (λ c. omega arith) (λ c. omega arith) (λ c. search needs) (λ c. search needs) loop-again (λ c. search needs) returns)

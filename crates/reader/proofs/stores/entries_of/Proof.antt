@@ -2,7 +2,6 @@
 use mathlib.Core.Path.{_≡_, refl, sym, ap, _∙_}
 use Prim.Native.Nat.{ℕ}
 use native.Mathlib.Omega.{arith}
-use borrow.Author.Needs.{needs}
 use Rattle.grammar.specs.SiteSheet.{rangeType, rowOf, entriesOf}
 use Rattle.grammar.proofs.Codes.{single}
 use Rattle.reader.proofs.stores.entries_of.Statement.{statement}

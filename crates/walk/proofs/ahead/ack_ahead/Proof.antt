@@ -12,10 +12,7 @@ use Rattle.walk.proofs.ahead.ack_ahead.Tie as tie
 
 returns-4 : tie.Need-returns-4
 returns-4 c =
-    let t = c .before in
-    let b = t .before .before in
-    let e = b .before .before in
-    let w = e .before .before in
+    let t = c .before in let b = t .before .before in let e = b .before .before in let w = e .before .before in
     let count = w .window .result / 2 ^ 49 % 8 in
     ack-finds (ap (λ (x : ℕ). x / 2 ^ 54) (w .window .ensures)) (sym (e .before .result-refusal .ensures) ∙ e .if1 .left)
     (ap (λ (x : ℕ). x / 2 ^ 49 % 8) (w .window .ensures)) (sym (b .before .between-refusal .ensures) ∙ b .if2 .left)

@@ -18,20 +18,14 @@ few c = within 24 (c .before .before .window .result / 2 ^ 52) (counted c) .1
 
 returns-2 : tie.Need-returns-2
 returns-2 c =
-    let d = c .before in
-    let b = d .before .before in
-    let w = b .before .before .before in
+    let d = c .before in let b = d .before .before in let w = b .before .before .before in
     external-few (ap (λ (x : ℕ). x / 2 ^ 52) (w .window .ensures)) (counted (b .before)) (b .bits .ensures) (omega (arith, d .before .if2 .taken))
     (ap (λ (x : ℕ). allDigits 16 (x % 2 ^ 52 / 2 ^ (52 - b .bits .result .0))) (sym (w .window .ensures)) ∙ sym (d .are-digits .ensures)
     ∙ c .if3 .taken)
 
 returns-5 : tie.Need-returns-5
 returns-5 c =
-    let d = c .before in
-    let v = d .before in
-    let f = v .before .before in
-    let b = f .before .before in
-    let w = b .before .before .before in
+    let d = c .before in let v = d .before in let f = v .before .before in let b = f .before .before in let w = b .before .before .before in
     external-many (ap (λ (x : ℕ). x / 2 ^ 52) (w .window .ensures)) (counted (b .before)) (b .bits .ensures) (omega (arith, f .before .if2 .left))
     (ap (λ (x : ℕ). allDigits 16 (x % 2 ^ 52)) (sym (w .window .ensures)) ∙ said-yes (f .are-digits2 .ensures) (v .before .if4 .left))
     (ap (λ (x : ℕ). allDigits 16 (x / 2 ^ (109 - b .bits .result .0))) (sym (v .window2 .ensures)) ∙ sym (d .are-digits3 .ensures) ∙ c .if5 .taken)

@@ -10,8 +10,7 @@ use Rattle.walk.proofs.ahead.externals_ahead.Tie as tie
 
 returns-2 : tie.Need-returns-2
 returns-2 c =
-    let e = c .before in
-    let r = e .before in
+    let e = c .before in let r = e .before in
     externals-end (in-front _ _ 4 53 refl (omega arith) (ap (λ (w : ℕ). w / 2 ^ 53) (r .before .window .ensures)))
     (sym (r .range-refusal .ensures) ∙ e .if1 .left) (c .numbers-ahead .ensures)
 

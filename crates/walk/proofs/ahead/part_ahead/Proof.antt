@@ -13,8 +13,7 @@ use Rattle.walk.proofs.ahead.part_ahead.Tie as tie
 
 returns : tie.Need-returns
 returns c =
-    let r = c .before in
-    let g = r .before in
+    let r = c .before in let g = r .before in
     rw (g .before .if1 .taken)
     (ends-as (λ l r. pass-three identityPart (identities of.Identities) (identities of.Identities) (identities of.Identities) identityLists l r
     (identityPart-at l)) (omega arith)
@@ -22,8 +21,7 @@ returns c =
 
 returns-2 : tie.Need-returns-2
 returns-2 c =
-    let n = c .before in
-    let g = n .before in
+    let n = c .before in let g = n .before in
     rw (g .before .if2 .taken)
     (ends-as (λ l r. pass-three numberPart (identities of.Identities) externals externals numberLists l r (numberPart-at l)) (omega arith)
     (ends-then (ends-then (g .list-ahead4 .ensures) (n .externals-ahead .ensures)) (c .externals-ahead2 .ensures)))

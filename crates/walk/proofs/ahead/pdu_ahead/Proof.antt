@@ -13,11 +13,7 @@ use Rattle.walk.proofs.ahead.pdu_ahead.Tie as tie
 returns-2 : tie.Need-returns-2
 unfolding kindRefusal
 returns-2 c =
-    let t = c .before in
-    let u = t .before in
-    let e = u .before in
-    let r = e .before in
-    let w = r .before in
+    let t = c .before in let u = t .before in let e = u .before in let r = e .before in let w = r .before in
     pdu-finds 12 (ap (λ (x : ℕ). x / 2 ^ 46) (sym (w .window .ensures)) ∙ t .if2 .taken) (omega arith) refl
     (ap (λ (x : ℕ). x / 2 ^ 42 % 16) (w .window .ensures)) (sym (r .range-refusal .ensures) ∙ e .if1 .left) (u .coded-ahead .ensures)
     (c .ack-ahead .ensures)
@@ -25,11 +21,7 @@ returns-2 c =
 returns-3 : tie.Need-returns-3
 unfolding kindRefusal
 returns-3 c =
-    let t = c .before in
-    let u = t .before .before in
-    let e = u .before in
-    let r = e .before in
-    let w = r .before in
+    let t = c .before in let u = t .before .before in let e = u .before in let r = e .before in let w = r .before in
     pdu-finds 11 (ap (λ (x : ℕ). x / 2 ^ 46) (sym (w .window .ensures)) ∙ t .if3 .taken) (omega arith) refl
     (ap (λ (x : ℕ). x / 2 ^ 42 % 16) (w .window .ensures)) (sym (r .range-refusal .ensures) ∙ e .if1 .left) (u .coded-ahead .ensures)
     (c .interrogate-ahead .ensures)

@@ -19,10 +19,7 @@ last-lt c = present-lt _ (c .identity-in2 .ensures)
 
 returns-2 : tie.Need-returns-2
 returns-2 c =
-    let e = c .before in
-    let r = e .before in
-    let y = r .before in
-    let x = y .before .before .before in
+    let e = c .before in let r = e .before in let y = r .before in let x = y .before .before .before in
     range-ends (x .identity-in .ensures ∙ ap identityIn (x .before .window .ensures)) refl
     (y .identity-in2 .ensures ∙ ap identityIn (y .before .window2 .ensures)) (sym (r .ends-refusal .ensures) ∙ e .if1 .left)
 

@@ -12,9 +12,7 @@ use Rattle.walk.proofs.exact.pass_interrogate_ack.Tie as tie
 returns : tie.Need-returns
 unfolding elementOf resultFrom
 returns c =
-    let s = c .before in
-    let d = s .before in
-    let t = d .before in
+    let s = c .before in let d = s .before in let t = d .before in
     resume-same _ _ _ (ack-result _)
     ∙ go-on _ _ _ _ _ (number-read _ (t .tested .ensures ∙ tested-element 3 _ _ _ (t .before .before .number .ensures)
     (t .before .result-refusal .ensures)))

@@ -13,8 +13,7 @@ use Rattle.walk.proofs.exact.pass_part.Tie as tie
 
 returns : tie.Need-returns
 returns c =
-    let r = c .before in
-    let g = r .before in
+    let r = c .before in let g = r .before in
     rw (g .before .if1 .taken)
     (c .pass-identities3 .ensures
     ∙ ap (pass _ _) (r .pass-identities2 .ensures ∙ ap (pass _ _) (g .pass-identities .ensures))
@@ -23,8 +22,7 @@ returns c =
 
 returns-2 : tie.Need-returns-2
 returns-2 c =
-    let n = c .before in
-    let g = n .before in
+    let n = c .before in let g = n .before in
     rw (g .before .if2 .taken)
     (c .pass-externals2 .ensures
     ∙ ap (pass _ _) (n .pass-externals .ensures ∙ ap (pass _ _) (g .pass-identities4 .ensures))

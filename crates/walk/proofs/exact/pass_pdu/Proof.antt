@@ -21,8 +21,7 @@ after-users : (c : tie.After-pass-identities) →
     resultIn l ≡ resultFrom (restOf (k .tested2 .result .value)) l (c .pass-identities .result)
 unfolding elementOf resultFrom
 after-users c =
-    let k = c .before in
-    let t = k .before .before .before in
+    let k = c .before in let t = k .before .before .before in
     pdu-result _
     ∙ go-on _ _ _ _ _ (number-read _ (t .tested .ensures ∙ tested-element 6 _ _ _ (t .before .before .number .ensures)
     (t .before .ss-refusal .ensures)))
@@ -35,8 +34,7 @@ returns c = let t = c .before in rw (after-users (t .before .before), t .if1 .ta
 
 returns-2 : tie.Need-returns-2
 returns-2 c =
-    let e = c .before in
-    let u = e .before .before in
+    let e = c .before in let u = e .before .before in
     rw (after-users u, ne-eqb (u .before .tested2 .result .value) 11 (e .if1 .left)) (c .pass-interrogate-ack .ensures)
 
 pub pass-pdu-spec : {M : Type 1} → statement M

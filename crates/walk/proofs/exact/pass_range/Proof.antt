@@ -8,8 +8,7 @@ use Rattle.walk.proofs.exact.pass_range.Tie as tie
 
 returns : tie.Need-returns
 returns c =
-    let e = c .before in
-    let y = e .before .before .before in
+    let e = c .before in let y = e .before .before .before in
     ap (λ (r : NumberRead). r .reached) (c .tested .ensures)
     ∙ range-tested _ _ _ _ _ _ (y .before .identity-of .ensures) (y .identity-of2 .ensures) (e .ends-refusal .ensures)
 
