@@ -45,15 +45,15 @@ module _ (home : ℕ) (r : Record) (q : Request) where
   unfolding networkOf
   extended p = ap (λ (t : Bool). pick t (affectedUser r .extension) home) (eq-eqb _ _ p)
 
+  missing : affectedUser r .present ≡ 0 → missingIn home r ≡ home
+  unfolding networkOf
+  missing p = ap (λ (n : ℕ). pick (eqb n 1) (affectedUser r .extension) home) p
+
   visitor : affectedUser r .present ≡ 1 → ruling home r q ≡ sixRules (affectedUser r .extension) r q
   visitor p = read-with home r q _ (extended p)
 
   no-extension : affectedUser r .present ≡ 0 → ruling home r q ≡ sixRules home r q
-  no-extension p = read-with home r q home missing
-    where
-      missing : missingIn home r ≡ home
-      unfolding networkOf
-      missing = ap (λ (n : ℕ). pick (eqb n 1) (affectedUser r .extension) home) p
+  no-extension p = read-with home r q home (missing p)
 
   spelt-out : affectedUser r .present ≡ 1 → affectedUser r .extension ≡ home → ruling home r q ≡ sixRules home r q
   spelt-out p e = read-with home r q home (extended p ∙ e)
@@ -93,13 +93,14 @@ module _ (b : List ℕ) (q : Request) where
         sym (ap (λ (x : Entry). x .key .network) (a .entry)) ∙ ap (λ (k : Key). k .network) (d .for) in
         ap decisionOf (read-with home r q (q .user .network) n)
 
+  -- the answer, after the two tests
+  abbrev after : Bool → Bool → Decision → Decision
+  after t a d = guard t (Refused (requestRefusal q)) (guard a (Refused 7) d)
+
   callers-network : decideIs b q ≡ decideWith (q .user .network) b q
   unfolding decideIs
   callers-network = go (eqb (requestRefusal q) 0) refl (isArchive b) refl
     where
-      abbrev after : Bool → Bool → Decision → Decision
-      after t a d = guard t (Refused (requestRefusal q)) (guard a (Refused 7) d)
-
       go : (t : Bool) → eqb (requestRefusal q) 0 ≡ t → (a : Bool) → isArchive b ≡ a
           → after t a (judgedBy (reading b .home) q (partIn b q)) ≡ after t a (judgedWith (q .user .network) q (partIn b q))
       go false e a f = refl

@@ -343,3 +343,16 @@ held : (decideIs bytesA (dial n112 NoGroup) ≡ decision.NotHeld)
     }) ≡ decision.NotHeld)
 unfolding calls rules requests bodyAgrees filingOf partFor decideIs
 held = (refl, refl, refl, refl)
+
+-- Only visitor 2/5 with A's lists held: network 2 is judged by them, the home network is not, and user 1/5 has no part.
+abbrev bytesVisitor : List ℕ
+bytesVisitor =
+    0x00 ∷ 0x00 ∷ 0x01 ∷ 0x00 ∷ 0x01 ∷ 0x00 ∷ 0x00 ∷ 0x02 ∷ 0x00 ∷ 0x00 ∷ 0x05 ∷ 0x01 ∷ 0x00 ∷ 0xa2
+    ∷ 0x49 ∷ 0x82 ∷ 0x00 ∷ 0x00 ∷ 0x0b ∷ 0x00 ∷ 0x00 ∷ 0x02 ∷ 0x21 ∷ 0x21 ∷ 0x20 ∷ 0x00
+    ∷ 0x0c ∷ 0x80 ∷ 0x00 ∷ 0x0c ∷ 0x70 ∷ 0x80 ∷ 0x00 ∷ 0x4b ∷ 0x00 ∷ []
+
+held-visitor : (decideIs bytesVisitor (visitorSpeech 2 100 NoGroup) ≡ decision.Barred 2)
+    × (decideIs bytesVisitor (visitorSpeech 1 100 NoGroup) ≡ decision.Allowed)
+    × (decideIs bytesVisitor (speech 2 100 NoGroup) ≡ decision.NotHeld)
+unfolding calls rules requests bodyAgrees filingOf partFor decideIs
+held-visitor = (refl, refl, refl)
