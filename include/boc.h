@@ -69,6 +69,9 @@ enum boc_limits {
  * entry i begins at the list's place + 1 + 25 * i. Range type 0 is an empty list, 1 to 8 that many entries, and 9 the
  * first and the last of a range, both included. Affected users are never empty; external numbers have no range.
  *
+ * An extension is the identity's network. Without one, an affected user is of the archive's home network, and a closed
+ * user group, a restricted or an excepted identity is of the network of the PDU's affected user.
+ *
  * A list that the PDU does not carry has range type 0; any other element that it does not carry, unused places of
  * entries, services and digits, and an absent extension are zero. A word that is wider than its element is a refused
  * value of it.

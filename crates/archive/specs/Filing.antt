@@ -5,9 +5,8 @@ use Prim.Native.Nat.{ℕ}
 use lib.ListN.{length}
 use lib.Dec.{ltb, eqb}
 use Rattle.bits.specs.Bits.{pick}
-use Rattle.grammar.specs.Grammar.{networkOf}
+use Rattle.grammar.specs.Grammar.{networkOf, userOf}
 use Rattle.grammar.specs.declared.record.Record.{Record}
-use Rattle.walk.specs.Walk.{userOf}
 use Rattle.reader.specs.Read.{isAccepted, readIs}
 use Rattle.judging.specs.Judge.{mayHold}
 use Rattle.archive.specs.Model.{Held, Archive, rank, lengthOf, withinLimits}

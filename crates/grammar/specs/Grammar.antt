@@ -214,6 +214,10 @@ toRecord (kind, (affected, (asked, (result, (delivery, (services, lists)))))) =
 abbrev pub fromRecord : Record → ℕ × (Identities × Rest)
 fromRecord r = (r .kind, (r .affected, (r .asked, (r .result, (r .delivery, (r .services, r .lists))))))
 
+-- the first affected user
+abbrev pub userOf : Record → Identity
+userOf r = getD (r .affected .entries) 0 zeroIdentity
+
 abbrev pub restOf : ℕ → Codec Rest
 restOf kind = pick (eqb kind 11) interrogate interrogateAck
 

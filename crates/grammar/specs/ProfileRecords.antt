@@ -1,4 +1,5 @@
--- The records of document 01's "Profiles to try": A, B, C and the INTERROGATE of P14. User 5, no extensions.
+-- The records of document 01's "Profiles to try": A, B, C and the INTERROGATE of P14, for user 5 without extensions; and A's lists for
+-- visitor 2/5 (document 02, request 2026-04).
 use mathlib.Core.List.{_∷_}
 use Prim.Native.Nat.{ℕ}
 use lib.ListN.{replicate}
@@ -14,11 +15,11 @@ user ssi = record { ssi = ssi; present = 0; extension = 0 }
 abbrev one : Identity → Identities
 one e = record { code = 1; entries = e ∷ replicate 7 zeroIdentity }
 
--- an identity part of user 5 that lists one service
-abbrev part : ℕ → Identities → Identities → Identities → Record
-part service groups restricted exceptions = record {
+-- an identity part that lists one service
+abbrev part : Identity → ℕ → Identities → Identities → Identities → Record
+part affected service groups restricted exceptions = record {
   kind = 12;
-  affected = one (user 5);
+  affected = one affected;
   asked = 0;
   result = 1;
   delivery = 0;
@@ -30,16 +31,23 @@ abbrev range : ℕ → ℕ → Identities
 range first last = record { code = 9; entries = user first ∷ user last ∷ replicate 6 zeroIdentity }
 
 -- services [1], no groups, restricted range 100 to 199, exception 150
+abbrev listsA : Identity → Record
+listsA affected = part affected 1 zeroIdentities (range 100 199) (one (user 150))
+
 abbrev pub A : Record
-A = part 1 zeroIdentities (range 100 199) (one (user 150))
+A = listsA (user 5)
+
+-- for visitor 2/5
+abbrev pub visitorA : Record
+visitorA = listsA (record { ssi = 5; present = 1; extension = 2 })
 
 -- services [0], no groups, none restricted, exception 7
 abbrev pub B : Record
-B = part 0 zeroIdentities zeroIdentities (one (user 7))
+B = part (user 5) 0 zeroIdentities zeroIdentities (one (user 7))
 
 -- services [1], group 500, restricted 8
 abbrev pub C : Record
-C = part 1 (one (user 500)) (one (user 8)) zeroIdentities
+C = part (user 5) 1 (one (user 500)) (one (user 8)) zeroIdentities
 
 -- an INTERROGATE for one user
 abbrev pub asking : Record

@@ -2,6 +2,7 @@ pub mod Tables
 pub mod Requests
 pub mod Archive
 pub mod Demand1
+pub mod Visitors
 pub mod Words
 pub mod Calls
 pub mod Sequences

@@ -1,5 +1,5 @@
 -- Worked cases of the six rules, as lists that antt computes beside the profiles: services, single entries and ranges with and without
--- extension, groups, external numbers; and decisions from the bytes of an archive. Home network 1, user 1/5.
+-- extension, groups, external numbers, visitors; and decisions from the bytes of an archive. Home network 1, user 1/5, visitor 2/5.
 use mathlib.Core.Path.{_≡_, refl}
 use mathlib.Core.List.{List, [], _∷_, _++_, map}
 use Prim.Native.Nat.{ℕ, _-_}
@@ -15,7 +15,7 @@ use Rattle.grammar.specs.declared.record.Lists.{Lists}
 use Rattle.grammar.specs.declared.record.Record.{Record}
 use Rattle.rules.specs.Request.{requests}
 use Rattle.rules.specs.Rule.{rules}
-use Rattle.rules.specs.ProfileCalls.{speech, circuitData, shortData}
+use Rattle.rules.specs.ProfileCalls.{speech, circuitData, shortData, visitorSpeech}
 use Rattle.rules.specs.declared.request.Destination.the-variants as to
 use Rattle.rules.specs.declared.request.Group.{Group}
 use Rattle.rules.specs.declared.request.Group.the-variants.{Of, NoGroup}
@@ -49,11 +49,11 @@ number digits = record { length = record { 0 = length digits }; digits = digits 
 abbrev numbers : List (List ℕ) → Numbers
 numbers l = record { code = length l; entries = map number l ++ replicate (8 - length l) zeroNumber }
 
--- the part of a result, with services and lists
-abbrev part : ℕ → List ℕ → Lists → Record
-part result services lists = record {
+-- the part of an affected user and a result, with services and lists
+abbrev partOf : Identity → ℕ → List ℕ → Lists → Record
+partOf affected result services lists = record {
   kind = 12;
-  affected = identities (at 5 ∷ []);
+  affected = identities (affected ∷ []);
   asked = 0;
   result = result;
   delivery = 0;
@@ -62,15 +62,18 @@ part result services lists = record {
 }
 
 -- an identity part with groups, restricted identities and exceptions
-abbrev identityPart : List ℕ → Identities → Identities → Identities → Record
-identityPart services groups restricted exceptions =
-    part 1 services
+abbrev identityPartOf : Identity → List ℕ → Identities → Identities → Identities → Record
+identityPartOf affected services groups restricted exceptions =
+    partOf affected 1 services
     (record { groups = groups; restricted = restricted; exceptions = exceptions; numbers = zeroNumbers; excepted = zeroNumbers })
 
+abbrev identityPart : List ℕ → Identities → Identities → Identities → Record
+identityPart = identityPartOf (at 5)
+
 -- a number part for speech with groups, restricted numbers and exceptions
-abbrev numberPart : List Identity → List (List ℕ) → List (List ℕ) → Record
-numberPart groups restricted excepted =
-    part 2 (1 ∷ [])
+abbrev numberPartOf : Identity → List Identity → List (List ℕ) → List (List ℕ) → Record
+numberPartOf affected groups restricted excepted =
+    partOf affected 2 (1 ∷ [])
     (record {
       groups = identities groups;
       restricted = zeroIdentities;
@@ -78,6 +81,9 @@ numberPart groups restricted excepted =
       numbers = numbers restricted;
       excepted = numbers excepted;
     })
+
+abbrev numberPart : List Identity → List (List ℕ) → List (List ℕ) → Record
+numberPart = numberPartOf (at 5)
 
 -- services alone
 abbrev bare : List ℕ → Record
@@ -104,6 +110,16 @@ grouped = identityPart (1 ∷ []) (identities (at 500 ∷ of 2 600 ∷ of 1 700 
 -- groups 500 to 509 of the home network
 abbrev ranged : Record
 ranged = identityPart (1 ∷ []) (range (at 500) (at 509)) zeroIdentities zeroIdentities
+
+-- for any affected user: restricted 7, and 8 and 9 of networks 1 and 2 spelt out; exception 12; groups 500, and 600 and 700 of these networks
+abbrev singlesOf : Identity → Record
+singlesOf affected =
+    identityPartOf affected (1 ∷ []) (identities (at 500 ∷ of 1 600 ∷ of 2 700 ∷ [])) (identities (at 7 ∷ of 1 8 ∷ of 2 9 ∷ []))
+    (identities (at 12 ∷ []))
+
+-- for any affected user: groups 500 to 509, restricted 100 to 199, exceptions 150 to 159
+abbrev rangesOf : Identity → Record
+rangesOf affected = identityPartOf affected (1 ∷ []) (range (at 500) (at 509)) (range (at 100) (at 199)) (range (at 150) (at 159))
 
 abbrev n112 : List ℕ
 n112 = 1 ∷ 1 ∷ 2 ∷ []
@@ -252,7 +268,54 @@ numberDigits =
     ∷ decides (numberPart [] eightNumbers []) (dial (9 ∷ []) NoGroup) Allowed
     ∷ []
 
+-- visitor 2/5: single entries and groups without extension are of network 2
+abbrev visitorEntries : List Case
+visitorEntries =
+    decides (singlesOf (of 2 5)) (visitorSpeech 2 7 (group 2 500)) (Barred 2)  -- no extension: the visitor's network
+    ∷ decides (singlesOf (of 2 5)) (visitorSpeech 1 7 (group 2 500)) Allowed  -- and not the home network
+    ∷ decides (singlesOf (of 2 5)) (visitorSpeech 1 8 (group 2 500)) (Barred 2)  -- the home network spelt out
+    ∷ decides (singlesOf (of 2 5)) (visitorSpeech 2 8 (group 2 500)) Allowed
+    ∷ decides (singlesOf (of 2 5)) (visitorSpeech 2 9 (group 2 500)) (Barred 2)  -- the visitor's network spelt out
+    ∷ decides (singlesOf (of 2 5)) (visitorSpeech 1 9 (group 2 500)) Allowed
+    ∷ decides (singlesOf (of 2 5)) (visitorSpeech 2 12 NoGroup) Allowed  -- an exception of the visitor's network
+    ∷ decides (singlesOf (of 2 5)) (visitorSpeech 1 12 NoGroup) (Barred 0)  -- not one of the home network
+    ∷ decides (singlesOf (of 2 5)) (visitorSpeech 2 10 (group 2 500)) Allowed  -- a group of the visitor's network
+    ∷ decides (singlesOf (of 2 5)) (visitorSpeech 2 10 (group 1 500)) (Barred 0)  -- not of the home network
+    ∷ decides (singlesOf (of 2 5)) (visitorSpeech 2 10 (group 1 600)) Allowed  -- the home network spelt out
+    ∷ decides (singlesOf (of 2 5)) (visitorSpeech 2 10 (group 2 600)) (Barred 0)
+    ∷ decides (singlesOf (of 2 5)) (visitorSpeech 2 10 (group 2 700)) Allowed  -- the visitor's network spelt out
+    ∷ decides (numberPartOf (of 2 5) (at 500 ∷ []) (n112 ∷ []) []) (dial n113 (group 2 500)) Allowed  -- groups of a number part
+    ∷ decides (numberPartOf (of 2 5) (at 500 ∷ []) (n112 ∷ []) []) (dial n113 (group 1 500)) (Barred 0)
+    ∷ []
+
+-- visitor 2/5: ranges without extension are of network 2; a user of network 0 is a visitor too
+abbrev visitorRanges : List Case
+visitorRanges =
+    decides (rangesOf (of 2 5)) (visitorSpeech 2 100 NoGroup) (Barred 2)  -- the first
+    ∷ decides (rangesOf (of 2 5)) (visitorSpeech 2 199 NoGroup) (Barred 2)  -- the last
+    ∷ decides (rangesOf (of 2 5)) (visitorSpeech 2 200 (group 2 509)) Allowed
+    ∷ decides (rangesOf (of 2 5)) (visitorSpeech 1 100 (group 2 500)) Allowed  -- the home network is not in it
+    ∷ decides (rangesOf (of 2 5)) (visitorSpeech 2 155 NoGroup) Allowed  -- excepted
+    ∷ decides (rangesOf (of 2 5)) (visitorSpeech 1 155 NoGroup) (Barred 0)  -- the home network is not excepted
+    ∷ decides (rangesOf (of 2 5)) (visitorSpeech 2 200 (group 1 509)) (Barred 0)  -- nor are its groups listed
+    ∷ decides (rangesOf (of 0 5)) (speech 0 100 NoGroup) (Barred 2)
+    ∷ decides (rangesOf (of 0 5)) (speech 1 100 (group 0 500)) Allowed
+    ∷ []
+
+-- user 1/5 with the home network spelt out is judged as without: no extension means the home network
+abbrev homeSpeltOut : List Case
+homeSpeltOut =
+    decides (singlesOf (of 1 5)) (speech 1 7 (group 1 500)) (Barred 2)
+    ∷ decides (singlesOf (of 1 5)) (speech 2 7 (group 1 500)) Allowed
+    ∷ decides (singlesOf (of 1 5)) (speech 1 10 (group 1 500)) Allowed
+    ∷ decides (singlesOf (of 1 5)) (speech 1 10 (group 2 500)) (Barred 0)
+    ∷ decides (rangesOf (of 1 5)) (speech 1 100 NoGroup) (Barred 2)
+    ∷ decides (rangesOf (of 1 5)) (speech 1 155 NoGroup) Allowed
+    ∷ decides (rangesOf (of 1 5)) (speech 2 100 (group 1 509)) Allowed
+    ∷ []
+
 pub cases : All listedServices × All singleEntries × All rangesAbroad × All groupLists × All groupRanges × All numberLists × All numberDigits
+    × All visitorEntries × All visitorRanges × All homeSpeltOut
 unfolding rules
 cases = (
   (refl, (refl, (refl, (refl, (refl, (refl, (refl, (refl, (refl, (refl, (refl, (refl, tt)))))))))))),
@@ -262,6 +325,9 @@ cases = (
   (refl, (refl, (refl, (refl, (refl, tt))))),
   (refl, (refl, (refl, (refl, (refl, (refl, (refl, (refl, (refl, (refl, (refl, (refl, (refl, (refl, (refl, tt))))))))))))))),
   (refl, (refl, (refl, (refl, (refl, (refl, (refl, (refl, (refl, (refl, (refl, (refl, (refl, (refl, (refl, tt))))))))))))))),
+  (refl, (refl, (refl, (refl, (refl, (refl, (refl, (refl, (refl, (refl, (refl, (refl, (refl, (refl, (refl, tt))))))))))))))),
+  (refl, (refl, (refl, (refl, (refl, (refl, (refl, (refl, (refl, tt))))))))),
+  (refl, (refl, (refl, (refl, (refl, (refl, (refl, tt))))))),
 )
 
 -- Only A held. A number is judged by the number part, which is not held; nor is any part of user 2/5. The other answers are what A says.
@@ -277,3 +343,16 @@ held : (decideIs bytesA (dial n112 NoGroup) ≡ decision.NotHeld)
     }) ≡ decision.NotHeld)
 unfolding calls rules requests bodyAgrees filingOf partFor decideIs
 held = (refl, refl, refl, refl)
+
+-- Only visitor 2/5 with A's lists held: network 2 is judged by them, the home network is not, and user 1/5 has no part.
+abbrev bytesVisitor : List ℕ
+bytesVisitor =
+    0x00 ∷ 0x00 ∷ 0x01 ∷ 0x00 ∷ 0x01 ∷ 0x00 ∷ 0x00 ∷ 0x02 ∷ 0x00 ∷ 0x00 ∷ 0x05 ∷ 0x01 ∷ 0x00 ∷ 0xa2
+    ∷ 0x49 ∷ 0x82 ∷ 0x00 ∷ 0x00 ∷ 0x0b ∷ 0x00 ∷ 0x00 ∷ 0x02 ∷ 0x21 ∷ 0x21 ∷ 0x20 ∷ 0x00
+    ∷ 0x0c ∷ 0x80 ∷ 0x00 ∷ 0x0c ∷ 0x70 ∷ 0x80 ∷ 0x00 ∷ 0x4b ∷ 0x00 ∷ []
+
+held-visitor : (decideIs bytesVisitor (visitorSpeech 2 100 NoGroup) ≡ decision.Barred 2)
+    × (decideIs bytesVisitor (visitorSpeech 1 100 NoGroup) ≡ decision.Allowed)
+    × (decideIs bytesVisitor (speech 2 100 NoGroup) ≡ decision.NotHeld)
+unfolding calls rules requests bodyAgrees filingOf partFor decideIs
+held-visitor = (refl, refl, refl)

@@ -7,6 +7,7 @@ pub mod Archive
 pub mod Profiles
 pub mod Cases
 pub mod Rules
+pub mod Visitors
 pub mod Words
 pub mod Calls
 pub mod CallsMet

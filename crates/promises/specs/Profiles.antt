@@ -1,16 +1,17 @@
--- The profiles of document 01, P1 to P14, as one list that antt computes. Home network 1, user 1/5, no extensions.
+-- The profiles of document 01, P1 to P14, as one list that antt computes: home network 1, user 1/5, no extensions. With them visitor 2/5
+-- with A's lists, P15 and P16 (document 02, request 2026-04).
 use mathlib.Core.Path.{_≡_, refl}
 use mathlib.Core.List.{List, [], _∷_}
 use Prim.Native.Nat.{ℕ}
 use lib.ListN.{replicate}
 use Rattle.bits.specs.Frame.{bytesFor}
 use Rattle.grammar.specs.Grammar.{grammar}
-use Rattle.grammar.specs.ProfileRecords.{A, B, C, asking}
+use Rattle.grammar.specs.ProfileRecords.{A, B, C, asking, visitorA}
 use Rattle.grammar.specs.declared.record.Record.{Record}
 use Rattle.writer.specs.Write.{recordRefusal, writeRefusal, writeIs}
 use Rattle.writer.specs.declared.Written.the-variants.{Bits}
 use Rattle.rules.specs.Rule.{ruling, rules}
-use Rattle.rules.specs.ProfileCalls.{speech, circuitData, shortData, group500}
+use Rattle.rules.specs.ProfileCalls.{speech, circuitData, shortData, visitorSpeech, group500}
 use Rattle.rules.specs.declared.request.Group.the-variants.{NoGroup}
 use Rattle.rules.specs.declared.request.Request.{Request}
 use Rattle.rules.specs.declared.Ruling.{Ruling}
@@ -45,6 +46,9 @@ pub profiles : All (
     ∷ decides C (speech 1 8 group500) (Barred 2)  -- P12
     ∷ measures A 138 18  -- P13
     ∷ measures asking 42 6  -- P14
+    ∷ decides visitorA (visitorSpeech 2 100 NoGroup) (Barred 2)  -- P15
+    ∷ decides visitorA (visitorSpeech 1 100 NoGroup) Allowed  -- P16
     ∷ [])
 unfolding grammar rules recordRefusal writeRefusal writeIs
-profiles = (refl, (refl, (refl, (refl, (refl, (refl, (refl, (refl, (refl, (refl, (refl, (refl, ((refl, refl), ((refl, refl), tt))))))))))))))
+profiles =
+    (refl, (refl, (refl, (refl, (refl, (refl, (refl, (refl, (refl, (refl, (refl, (refl, ((refl, refl), ((refl, refl), (refl, (refl, tt))))))))))))))))

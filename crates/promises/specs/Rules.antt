@@ -4,7 +4,7 @@ use mathlib.Core.Bool.{true, false}
 use Prim.Native.Nat.{ℕ}
 use Rattle.grammar.specs.declared.record.Record.{Record}
 use Rattle.rules.specs.Matching.{covered}
-use Rattle.rules.specs.Rule.{isExcepted, ruling, outsideGroup}
+use Rattle.rules.specs.Rule.{isExcepted, missingIn, ruling, outsideGroup}
 use Rattle.rules.specs.declared.request.Request.{Request}
 use Rattle.rules.specs.declared.Ruling.the-variants.{Allowed, Barred}
 use Rattle.rules.proofs.Rules as rules
@@ -15,7 +15,7 @@ module _ (home : ℕ) (part : Record) (q : Request) where
   unlisted-allowed = rules.unlisted-allowed home part q
 
   -- A destination among the exceptions is never barred, though it is restricted or the group is missing.
-  pub excepted-allowed : isExcepted home (part .lists) (q .destination) (q .digits) ≡ true → ruling home part q ≡ Allowed
+  pub excepted-allowed : isExcepted (missingIn home part) (part .lists) (q .destination) (q .digits) ≡ true → ruling home part q ≡ Allowed
   excepted-allowed = rules.excepted-allowed home part q
 
   -- An empty group list bars no call for its group.

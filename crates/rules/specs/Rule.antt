@@ -9,7 +9,7 @@ use Rattle.grammar.specs.declared.record.Identities.{Identities}
 use Rattle.grammar.specs.declared.record.Lists.{Lists}
 use Rattle.grammar.specs.declared.record.Record.{Record}
 use Rattle.grammar.specs.SiteSheet.{codes}
-use Rattle.grammar.specs.Grammar.{networkOf}
+use Rattle.grammar.specs.Grammar.{networkOf, userOf}
 use Rattle.rules.specs.Matching.{isEntry, inRange, identityAmong, same, isNumber, numberAmong, isCovering, covered}
 use Rattle.rules.specs.declared.request.Destination.{Destination}
 use Rattle.rules.specs.declared.request.Destination.the-variants.{Identity, Number}
@@ -74,9 +74,13 @@ sixRules missing r q =
     (pick (bothEmpty (r .lists) (q .destination)) (Barred restrictedService)  -- 5
     Allowed))))  -- 6
 
--- an entry without extension means the home network
+-- the network that a missing extension of a group, a restricted or an excepted identity means: that of the PDU's affected user,
+-- for whom alone a missing extension means the home network
+abbrev pub missingIn : ℕ → Record → ℕ
+missingIn home r = networkOf home (userOf r)
+
 unfoldable pub ruling : ℕ → Record → Request → Ruling
-ruling home r q = sixRules home r q
+ruling home r q = sixRules (missingIn home r) r q
 
 -- `unfolding rules` opens all of it
 unfoldable pub rules : Unit {0}

@@ -4,6 +4,7 @@ mod matching;
 pub mod request;
 
 use grammar::record::Record;
+use grammar::site::network_of;
 use lists::both_empty;
 use lists::is_excepted;
 use lists::is_outside;
@@ -11,7 +12,7 @@ use lists::is_restricted;
 use matching::covers;
 use request::Request;
 ghost use mathlib.Core.Path.{_≡_};
-ghost use Rattle.rules.specs.Rule.{ruling};
+ghost use Rattle.rules.specs.Rule.{ruling, sixRules};
 
 // Rejection causes (table 38).
 const OUTSIDE_GROUP: u32 = 0;
@@ -26,12 +27,19 @@ pub enum Ruling {
     Barred(u32),
 }
 
-// What the part of a user says of a call of that user: the first rule that applies.
+// What the part of a user says of a call of that user. A group, a restricted or an excepted identity without extension is of the affected
+// user's network; an affected user without extension is of the home network.
 pub fn rule(part: Record, home: u32, request: Request) -> Ruling
     ensures { λ r. ⌜ r ≡ ruling home part request ⌝ }
 {
-    // An entry without extension means the home network.
-    let missing = home;
+    let users = part.affected.entries;
+    six_rules(part, network_of(home, users[0]), request)
+}
+
+// The first rule that applies. `missing` is the network that a missing extension means.
+fn six_rules(part: Record, missing: u32, request: Request) -> Ruling
+    ensures { λ r. ⌜ r ≡ sixRules missing part request ⌝ }
+{
     let services = part.services;
     if !covers(services, request.service) {
         return Ruling::Allowed;

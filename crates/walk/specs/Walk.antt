@@ -1,23 +1,17 @@
 -- Walking a PDU: refusal 1 first, then element by element, 5 last. An accepted PDU gives its head, a refused one the number and the bit place.
 use mathlib.Core.List.{List}
 use Prim.Native.Nat.{ℕ}
-use lib.ListN.{getD}
 use Rattle.bits.specs.Bits.{pick}
 use Rattle.bits.specs.Frame.{bitsIn, framed}
 use Rattle.codec.specs.Codec.{Outcome, ok, no}
 use Rattle.codec.specs.Whole.{wholeParse}
-use Rattle.grammar.specs.Grammar.{zeroIdentity, pdu}
-use Rattle.grammar.specs.declared.record.Identity.{Identity}
+use Rattle.grammar.specs.Grammar.{userOf, pdu}
 use Rattle.grammar.specs.declared.record.Record.{Record}
 use Rattle.walk.specs.declared.Head.{Head}
 use Rattle.walk.specs.declared.BitPlace.{BitPlace}
 use Rattle.walk.specs.declared.BitPlace.the-variants as place
 use Rattle.walk.specs.declared.Walked.{Walked}
 use Rattle.walk.specs.declared.Walked.the-variants.{Accepted, Refused}
-
--- the first affected user
-abbrev pub userOf : Record → Identity
-userOf r = getD (r .affected .entries) 0 zeroIdentity
 
 -- what steers the reading of a PDU: PDU type, range type of the affected users, the first of them, interrogation result
 abbrev pub headOf : Record → Head

@@ -15,11 +15,11 @@
 //!
 //! // Speech to 100 to 199 is barred for user 5 of the home network, except to 150.
 //! let record = Record {
-//!     affected: List::of([Identity::at_home(5)]),
+//!     affected: List::of([Identity::without_extension(5)]),
 //!     result: Outcome::Identities,
 //!     services: Services::of([Service::Speech]),
-//!     restricted: List::range(Identity::at_home(100), Identity::at_home(199)),
-//!     exceptions: List::of([Identity::at_home(150)]),
+//!     restricted: List::range(Identity::without_extension(100), Identity::without_extension(199)),
+//!     exceptions: List::of([Identity::without_extension(150)]),
 //!     ..Record::default()
 //! };
 //! let mut pdu = [0; PDU_BYTES];

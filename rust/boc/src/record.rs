@@ -23,13 +23,14 @@ const RANGE: u32 = 9;
 pub struct Identity {
     /// Below 16,777,216.
     pub ssi: u32,
-    /// The network, below 16,777,216; without it the home network.
+    /// The network, below 16,777,216. Without it an affected user is of the home network, and a group, a
+    /// restricted or an excepted identity is of the network of the record's affected user.
     pub extension: Option<u32>,
 }
 
 impl Identity {
     /// An identity without extension.
-    pub const fn at_home(ssi: u32) -> Self {
+    pub const fn without_extension(ssi: u32) -> Self {
         Identity { ssi, extension: None }
     }
 }

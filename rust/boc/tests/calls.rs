@@ -11,11 +11,11 @@ const PROFILE_A: [u8; 18] = [
 
 fn profile_a() -> Record {
     Record {
-        affected: List::of([Identity::at_home(5)]),
+        affected: List::of([Identity::without_extension(5)]),
         result: Outcome::Identities,
         services: Services::of([Service::Speech]),
-        restricted: List::range(Identity::at_home(100), Identity::at_home(199)),
-        exceptions: List::of([Identity::at_home(150)]),
+        restricted: List::range(Identity::without_extension(100), Identity::without_extension(199)),
+        exceptions: List::of([Identity::without_extension(150)]),
         ..Record::default()
     }
 }
@@ -42,7 +42,7 @@ fn a_record_is_written_and_read() {
     let record = read(&PROFILE_A, 138).unwrap();
     assert_eq!(record, profile_a());
     assert!(record.restricted.is_range());
-    assert_eq!(record.exceptions.entries(), [Identity::at_home(150)]);
+    assert_eq!(record.exceptions.entries(), [Identity::without_extension(150)]);
     assert_eq!(record.services.as_slice(), [Service::Speech]);
 }
 
@@ -94,7 +94,7 @@ fn words_that_no_record_has_are_none() {
 #[test]
 fn refusals_have_their_numbers_and_words() {
     let mut small = [0; 4];
-    let reversed = List::range(Identity::at_home(200), Identity::at_home(199));
+    let reversed = List::range(Identity::without_extension(200), Identity::without_extension(199));
     assert_eq!(read(&PROFILE_A, 145), Err(Refusal::Frame));
     assert_eq!(read(&PROFILE_A, 137), Err(Refusal::Short));
     assert_eq!(read(&[0, 0], 11), Err(Refusal::Value));
@@ -129,7 +129,7 @@ fn an_archive_lists_restores_and_decides() {
     };
     assert_eq!(decide(&archive, &to_number), Ok(Decision::NotHeld));
     let numbers = Record {
-        affected: List::of([Identity::at_home(5)]),
+        affected: List::of([Identity::without_extension(5)]),
         result: Outcome::Numbers,
         services: Services::of([Service::All]),
         groups: List::of([Identity { ssi: 500, extension: Some(2) }]),
@@ -147,7 +147,7 @@ fn an_archive_lists_restores_and_decides() {
 
 #[test]
 fn lists_take_eight_entries() {
-    let eight = List::of([1, 2, 3, 4, 5, 6, 7, 8].map(Identity::at_home));
+    let eight = List::of([1, 2, 3, 4, 5, 6, 7, 8].map(Identity::without_extension));
     let record = Record { affected: eight, ..profile_a() };
     let mut pdu = [0; PDU_BYTES];
     let bits = write(&record, &mut pdu).unwrap();

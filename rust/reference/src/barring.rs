@@ -92,7 +92,8 @@ fn number(words: &[u32; REQUEST_WORDS]) -> Option<Number> {
 /// The visitor that compares a part with a request.
 struct Compare<'a> {
     request: &'a Request,
-    home: u32,
+    /// The network of the PDU's affected user, which a missing extension in its lists means.
+    missing: u32,
     service_listed: bool,
     excepted: bool,
     restricted: bool,
@@ -105,10 +106,11 @@ impl Compare<'_> {
     /// Notes that a list of identities has those from `first` to `last`.
     #[inline(always)]
     fn identities(&mut self, list: List, first: Identity, last: Identity) {
-        let network = first.network(self.home);
+        let network = first.network(self.missing);
         let among = |party: Party| party.network == network && (first.ssi..=last.ssi).contains(&party.ssi);
         let called = matches!(self.request.destination, Destination::Identity(party) if among(party));
         match list {
+            List::Affected => self.missing = network,
             List::Groups => self.in_group |= self.request.group.is_some_and(among),
             List::Restricted => self.restricted |= called,
             List::Exceptions => self.excepted |= called,
@@ -183,7 +185,8 @@ pub fn decide(archive: &[u8], request: &[u32]) -> Result<Decision, Refusal> {
     };
     let mut compare = Compare {
         request: &request,
-        home: held.home,
+        // Until the walk meets the affected user: the home network, which its own missing extension means.
+        missing: held.home,
         service_listed: false,
         excepted: false,
         restricted: false,

@@ -42,13 +42,13 @@ pub struct Identity {
 }
 
 impl Identity {
-    /// The network that the entry means.
+    /// The network that the entry means, where a missing extension means `missing`.
     #[inline(always)]
-    pub fn network(self, home: u32) -> u32 {
+    pub fn network(self, missing: u32) -> u32 {
         if self.present {
             self.extension
         } else {
-            home
+            missing
         }
     }
 }

@@ -37,6 +37,13 @@ fn profile_a() -> Record {
     profile(1, &[], (9, &[100, 199]), &[150])
 }
 
+/// A's lists for a user of network 2.
+fn visitor_a() -> Record {
+    let mut words = profile_a();
+    words[record::AFFECTED + 2..][..2].copy_from_slice(&[1, 2]);
+    words
+}
+
 fn number_profile(digits: &[u32]) -> Record {
     let mut words = profile(1, &[], (0, &[]), &[]);
     words[record::RESULT] = 2;
@@ -98,6 +105,46 @@ fn profiles() {
     for (i, (archive, request, decision)) in cases.iter().enumerate() {
         assert_eq!(decide(archive, request), Ok(*decision), "P{}", i + 1);
     }
+}
+
+/// P15 and P16 (document 02, request 2026-04): a missing extension means the network of the affected user.
+#[test]
+fn visitors() {
+    use Decision::*;
+    let from = |network: u32, mut call: [u32; REQUEST_WORDS]| {
+        call[request::USER_NETWORK] = network;
+        call
+    };
+    let a = archive_with(&visitor_a());
+    assert_eq!(decide(&a, &from(2, call(1, [2, 100], None))), Ok(RestrictedDestination), "P15");
+    assert_eq!(decide(&a, &from(2, call(1, [1, 100], None))), Ok(Allowed), "P16");
+    assert_eq!(decide(&a, &from(2, call(1, [2, 150], None))), Ok(Allowed));
+    assert_eq!(decide(&a, &from(1, call(1, [2, 100], None))), Ok(NotHeld));
+
+    // A group without extension is of the visitor's network too, in either part.
+    let mut words = profile(1, &[500], (1, &[8]), &[]);
+    words[record::AFFECTED + 2..][..2].copy_from_slice(&[1, 2]);
+    let c = archive_with(&words);
+    assert_eq!(decide(&c, &from(2, call(1, [2, 9], Some([2, 500])))), Ok(Allowed));
+    assert_eq!(decide(&c, &from(2, call(1, [2, 9], Some([1, 500])))), Ok(OutsideGroup));
+    let mut words = number_profile(&[1, 1, 2]);
+    words[record::AFFECTED + 2..][..2].copy_from_slice(&[1, 2]);
+    list(&mut words, record::GROUPS, 1, &[500]);
+    let numbers = archive_with(&words);
+    let dial = |group: [u32; 2]| {
+        let mut call = from(2, call_number(&[1, 1, 3]));
+        call[request::GROUP_GIVEN..].copy_from_slice(&[1, group[0], group[1]]);
+        call
+    };
+    assert_eq!(decide(&numbers, &dial([2, 500])), Ok(Allowed));
+    assert_eq!(decide(&numbers, &dial([1, 500])), Ok(OutsideGroup));
+
+    // The home network spelt out judges as no extension does.
+    let mut words = profile_a();
+    words[record::AFFECTED + 2..][..2].copy_from_slice(&[1, 1]);
+    let a = archive_with(&words);
+    assert_eq!(decide(&a, &call(1, [1, 100], None)), Ok(RestrictedDestination));
+    assert_eq!(decide(&a, &call(1, [2, 100], None)), Ok(Allowed));
 }
 
 #[test]

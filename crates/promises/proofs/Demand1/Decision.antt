@@ -11,7 +11,7 @@ use Rattle.bits.proofs.Tests.{differ, false-unless}
 use Rattle.grammar.specs.declared.record.Record.{Record}
 use Rattle.reader.specs.Read.{readIs}
 use Rattle.rules.specs.Request.{requestRefusal}
-use Rattle.rules.specs.Rule.{ruling, sixRules, isExcepted, isRestricted, isOutside, bothEmpty}
+use Rattle.rules.specs.Rule.{missingIn, ruling, sixRules, isExcepted, isRestricted, isOutside, bothEmpty}
 use Rattle.rules.specs.Matching.{covered}
 use Rattle.rules.specs.declared.request.Request.{Request}
 use Rattle.rules.specs.declared.Ruling.the-variants.{Allowed, Barred}
@@ -49,9 +49,10 @@ module _ (q : Request) where
   by-rule : (home : ℕ) (r : Record) → Decided (decisionOf (ruling home r q))
   unfolding ruling sixRules
   by-rule home r =
-      go (not (covered (r .services) (q .service))) (isExcepted home (r .lists) (q .destination) (q .digits))
-      (isRestricted home (r .lists) (q .destination) (q .digits))
-      (isOutside home (r .lists .groups) (q .group)) (bothEmpty (r .lists) (q .destination))
+      let missing = missingIn home r in
+      go (not (covered (r .services) (q .service))) (isExcepted missing (r .lists) (q .destination) (q .digits))
+      (isRestricted missing (r .lists) (q .destination) (q .digits))
+      (isOutside missing (r .lists .groups) (q .group)) (bothEmpty (r .lists) (q .destination))
     where
       go : (v w x y z : Bool)
           → Decided (decisionOf (pick v Allowed (pick w Allowed (pick x (Barred 2) (pick y (Barred 0) (pick z (Barred 1) Allowed))))))

@@ -3,7 +3,7 @@
 use std::fmt::Debug;
 
 use differential::*;
-use reference::layout::REQUEST_WORDS;
+use reference::layout::{request as at, REQUEST_WORDS};
 use reference::Refusal;
 
 use crate::lent::{bytes, words, Lent, MARGIN};
@@ -19,6 +19,9 @@ const CALLS: [(&str, &[u32]); 7] = [
     ("contents", &[0, 7, 8]),
 ];
 
+/// What a visitor's own network tells apart from the home network.
+const TELLS: [&str; 2] = ["destination", "group"];
+
 /// The calls, which compare and count.
 pub struct Calls {
     /// Of which seed, kind and number the case is.
@@ -31,13 +34,16 @@ pub struct Calls {
 }
 
 impl Calls {
-    /// Nothing met yet of all that has to be: each answer and decision, 7 for each damage, 8 for each reason.
+    /// Nothing met yet of all that has to be: each answer and decision, a visitor's too, 7 for each damage, 8 for
+    /// each reason.
     pub fn new() -> Self {
         let mut met = Met::default();
         for (call, answers) in CALLS {
             met.expect(call, answers);
         }
         met.expect("decide, decision", 0..5);
+        met.expect("decide, visitor's", 0..5);
+        met.expect("decide, visitor's own network", TELLS);
         met.expect("capture, 8", LACKS);
         for (call, answers) in CALLS {
             if answers.contains(&7) {
@@ -146,6 +152,30 @@ impl Calls {
         self.compare("decide", (library, decision), before, expected, &nothing);
         if let Ok(decision) = expected {
             self.met.meet("decide, decision", decision);
+            self.visitor(archive, request, decision);
+        }
+    }
+
+    /// Counts what was decided for a user of another network than the home network, and whether it turns where
+    /// the request names the home network for the user's own.
+    fn visitor(&mut self, archive: &[u8], request: &[u32], decision: u32) {
+        let home = u32::from_be_bytes([0, archive[0], archive[1], archive[2]]);
+        let own = request[at::USER_NETWORK];
+        if own == home {
+            return;
+        }
+        self.met.meet("decide, visitor's", decision);
+        for (tell, place, given) in [
+            (TELLS[0], at::NETWORK, request[at::KIND] == 1),
+            (TELLS[1], at::GROUP_NETWORK, request[at::GROUP_GIVEN] == 1),
+        ] {
+            if given && request[place] == own {
+                let mut other = request.to_vec();
+                other[place] = home;
+                if reference::decide(archive, &other).map(|decision| decision.number()) != Ok(decision) {
+                    self.met.meet("decide, visitor's own network", tell);
+                }
+            }
         }
     }
 

@@ -2,8 +2,9 @@
 //!
 //! Each case lends both sides equal buffers of random content and compares the answers, every byte or word of
 //! every buffer, margins before and after what was lent, and the number behind the last pointer. It ends with
-//! how often each answer of each call was met, 7 for each damage to an archive and 8 for each reason that
-//! capture can have; one that was never met is a failure too.
+//! how often each answer of each call was met, 7 for each damage to an archive, 8 for each reason that capture
+//! can have, each decision for a visitor from another network, and a visitor's call that is decided otherwise
+//! with the home network for the visitor's own; one that was never met is a failure too.
 
 #![forbid(unsafe_code)]
 

@@ -1,0 +1,120 @@
+-- What is promised of visitors: a part that judges is filed under the network of the user who calls. Assumes nothing.
+use mathlib.Core.Path.{_≡_, refl, sym, ap, _∙_, subst}
+use mathlib.Core.Logic.{_⊎_, inl, inr, ⊎-elim}
+use mathlib.Core.Bool.{Bool, true, false}
+use mathlib.Core.List.{List, [], _∷_, List·Memᴰ, List·Memᴰ·cases-cons, List·Memᴰ·not-nil}
+use mathlib.Core.Option.{Option, none, some}
+use Prim.Native.Nat.{ℕ}
+use lib.Dec.{eqb}
+use borrow.Author.Tests.{eq-eqb, eqb-true}
+use Rattle.bits.specs.Bits.{pick, guard}
+use Rattle.grammar.specs.Grammar.{networkOf}
+use Rattle.grammar.specs.declared.record.Record.{Record}
+use Rattle.reader.specs.Read.{readIs}
+use Rattle.rules.specs.Request.{requestRefusal}
+use Rattle.rules.specs.Rule.{missingIn, ruling, sixRules}
+use Rattle.rules.specs.declared.request.Destination.{Destination}
+use Rattle.rules.specs.declared.request.Destination.the-variants.{Identity, Number}
+use Rattle.rules.specs.declared.request.Request.{Request}
+use Rattle.archive.specs.Model.{Held, rank}
+use Rattle.archive.specs.Filing.{keepsRules, bodyAgrees}
+use Rattle.archive.specs.Reading.{reading, isArchive}
+use Rattle.archive.proofs.Model.Rules.{kept, archive-formed}
+use Rattle.archive.proofs.Model.Bodies as bodies
+use Rattle.archive.specs.declared.contents.Entry.{Entry}
+use Rattle.archive.specs.declared.contents.Key.{Key}
+use Rattle.barring.specs.Decide.{partFor, keyFor, judgedBy, partIn, decideIs}
+use Rattle.barring.specs.Decision.{decisionOf}
+use Rattle.barring.specs.declared.Decision.{Decision}
+use Rattle.barring.specs.declared.Decision.the-variants.{Refused}
+use Rattle.promises.specs.Archive.{affectedUser}
+use Rattle.promises.specs.Archive as said
+use Rattle.promises.specs.Visitors.{judgedWith, decideWith, Promise}
+use Rattle.promises.proofs.Archive.Finding.{found}
+use Rattle.promises.proofs.Demand1.Decision as decision
+
+-- ---- a part
+
+-- a part is read with the network that its affected user has
+read-with : (home : ℕ) (r : Record) (q : Request) (n : ℕ) → missingIn home r ≡ n → ruling home r q ≡ sixRules n r q
+unfolding ruling
+read-with home r q n e = ap (λ (m : ℕ). sixRules m r q) e
+
+module _ (home : ℕ) (r : Record) (q : Request) where
+  extended : affectedUser r .present ≡ 1 → missingIn home r ≡ affectedUser r .extension
+  unfolding networkOf
+  extended p = ap (λ (t : Bool). pick t (affectedUser r .extension) home) (eq-eqb _ _ p)
+
+  missing : affectedUser r .present ≡ 0 → missingIn home r ≡ home
+  unfolding networkOf
+  missing p = ap (λ (n : ℕ). pick (eqb n 1) (affectedUser r .extension) home) p
+
+  visitor : affectedUser r .present ≡ 1 → ruling home r q ≡ sixRules (affectedUser r .extension) r q
+  visitor p = read-with home r q _ (extended p)
+
+  no-extension : affectedUser r .present ≡ 0 → ruling home r q ≡ sixRules home r q
+  no-extension p = read-with home r q home (missing p)
+
+  spelt-out : affectedUser r .present ≡ 1 → affectedUser r .extension ≡ home → ruling home r q ≡ sixRules home r q
+  spelt-out p e = read-with home r q home (extended p ∙ e)
+
+-- ---- a decision
+
+-- an entry of an archive agrees with its body
+among-agrees : (home last : ℕ) (h : Held) (hs : List Held) → keepsRules home last hs ≡ true → List·Memᴰ h hs → bodyAgrees home h ≡ true
+among-agrees home last h [] k m = absurd (List·Memᴰ·not-nil m)
+among-agrees home last h (x ∷ xs) k m =
+    let u = kept home last x xs k in
+    ⊎-elim (λ e. subst (λ (y : Held). bodyAgrees home y ≡ true) (sym e) (u .agrees)) (λ t. among-agrees home (rank x) h xs (u .others) t)
+    (List·Memᴰ·cases-cons m)
+
+-- the part that judges is 1 or 2
+which : (d : Destination) → (partFor d ≡ 1) ⊎ (partFor d ≡ 2)
+unfolding partFor
+which (Identity u) = inl refl
+which (Number length) = inr refl
+
+module _ (b : List ℕ) (q : Request) where
+  module _ (f : requestRefusal q ≡ 0) (ok : isArchive b ≡ true) where
+    ranged : said.Ranged (keyFor q)
+    ranged =
+        let u = decision.promise .ranged q .0 f .user in
+        record { network = u .0; ssi = u .1; part = which (q .destination) }
+
+    -- the part held for the user who calls is of that user's network
+    judged : (l : Option Held) → partIn b q ≡ l → judgedBy (reading b .home) q l ≡ judgedWith (q .user .network) q l
+    judged none e = refl
+    judged (some h) e =
+        let home = reading b .home in
+        let d = found (keyFor q) b ok ranged h .0 e in
+        let a = bodies.agrees-says home h (among-agrees home 0 h (reading b .held) (archive-formed b ok .rules) (d .among)) in
+        let r = readIs (h .body) (h .entry .bits .0) .found in
+        let n : missingIn home r ≡ q .user .network =
+        sym (ap (λ (x : Entry). x .key .network) (a .entry)) ∙ ap (λ (k : Key). k .network) (d .for) in
+        ap decisionOf (read-with home r q (q .user .network) n)
+
+  -- the answer, after the two tests
+  abbrev after : Bool → Bool → Decision → Decision
+  after t a d = guard t (Refused (requestRefusal q)) (guard a (Refused 7) d)
+
+  callers-network : decideIs b q ≡ decideWith (q .user .network) b q
+  unfolding decideIs
+  callers-network = go (eqb (requestRefusal q) 0) refl (isArchive b) refl
+    where
+      go : (t : Bool) → eqb (requestRefusal q) 0 ≡ t → (a : Bool) → isArchive b ≡ a
+          → after t a (judgedBy (reading b .home) q (partIn b q)) ≡ after t a (judgedWith (q .user .network) q (partIn b q))
+      go false e a f = refl
+      go true e false f = refl
+      go true e true f = judged (eqb-true _ _ e) f (partIn b q) refl
+
+  home-user : q .user .network ≡ reading b .home → decideIs b q ≡ decideWith (reading b .home) b q
+  home-user e = callers-network ∙ ap (λ (n : ℕ). decideWith n b q) e
+
+pub promise : Promise
+promise = record {
+  visitor = visitor;
+  no-extension = no-extension;
+  spelt-out = spelt-out;
+  callers-network = callers-network;
+  home-user = home-user;
+}
