@@ -91,9 +91,17 @@ no-length : areRequest (1 ∷ 5 ∷ 1 ∷ 1 ∷ 1 ∷ 100 ∷ 3 ∷ replicate 24
 unfolding requests
 no-length = refl
 
-no-group : areRequest (1 ∷ 5 ∷ 1 ∷ 1 ∷ 1 ∷ 100 ∷ 0 ∷ replicate 24 0 ++ (0 ∷ 1 ∷ 0 ∷ [])) ≡ false
+-- a number with a network, or with an SSI
+no-identity : (areRequest (1 ∷ 5 ∷ 1 ∷ 2 ∷ 1 ∷ 0 ∷ 1 ∷ replicate 24 0 ++ (0 ∷ 0 ∷ 0 ∷ [])) ≡ false)
+    × (areRequest (1 ∷ 5 ∷ 1 ∷ 2 ∷ 0 ∷ 100 ∷ 1 ∷ replicate 24 0 ++ (0 ∷ 0 ∷ 0 ∷ [])) ≡ false)
 unfolding requests
-no-group = refl
+no-identity = (refl, refl)
+
+-- no group, with a network or with an SSI
+no-group : (areRequest (1 ∷ 5 ∷ 1 ∷ 1 ∷ 1 ∷ 100 ∷ 0 ∷ replicate 24 0 ++ (0 ∷ 1 ∷ 0 ∷ [])) ≡ false)
+    × (areRequest (1 ∷ 5 ∷ 1 ∷ 1 ∷ 1 ∷ 100 ∷ 0 ∷ replicate 24 0 ++ (0 ∷ 0 ∷ 1 ∷ [])) ≡ false)
+unfolding requests
+no-group = (refl, refl)
 
 -- ---- records
 
