@@ -3,7 +3,8 @@ use mathlib.Core.Path.{_≡_, refl, sym, ap, ap₂, _∙_, subst}
 use mathlib.Core.List.{List, [], _∷_, _++_}
 use mathlib.Core.Bool.{Bool, true, false}
 use Prim.Native.Nat.{ℕ, zero, suc, _+_, _*_, _/_, _%_, _^_, _≤_, _<_}
-use native.Mathlib.Nat.{zero-add, suc-add, add-comm, add-assoc, mul-assoc, add-mul, mul-add-div-right, mul-add-mod-self-right, mod-lt, mod-eq-of-lt, pow-succ', zero-lt-suc, lt-of-lt-of-le}
+use native.Mathlib.Nat.{zero-add, suc-add, add-comm, add-assoc, mul-assoc, add-mul, mul-add-div-right, mul-add-mod-self-right, mod-lt, mod-eq-of-lt}
+use native.Mathlib.Nat.{pow-succ', zero-lt-suc, lt-of-lt-of-le}
 use native.Mathlib.Omega.{arith}
 use native.Mathlib.Numerals.{one-add}
 use lib.ListN.{length, take, length-append, length-take}

@@ -135,7 +135,8 @@ module _ (s : List ℕ) (first into : ℕ) (inside : first + 8 ≤ length s) (h 
       let after : 7 ≡ 64 + into - into - 57 = omega arith in
       field (value eight * 2 ^ into) 57 7
       ∙ ap₂ (λ (x k : ℕ). x / 2 ^ k % 2 ^ 57)
-      (sym (value-append eight z ∙ ap₂ (λ (n v : ℕ). value eight * 2 ^ n + v) (length-replicate into false) (value-zeros into) ∙ add-zero (value eight * 2 ^ into)))
+      (sym (value-append eight z
+      ∙ ap₂ (λ (n v : ℕ). value eight * 2 ^ n + v) (length-replicate into false) (value-zeros into) ∙ add-zero (value eight * 2 ^ into)))
       after
       ∙ value-part l into 57 (64 + into) (omega arith) size
       ∙ ap value

@@ -35,11 +35,13 @@ module _ {A : Type 0} (c z : Codec A) (s : List Bool) where
       readAt-cons z (places c z m 0) s (place 0)
       ∙ rw (
         unused 0 (place 0) (omega arith) (omega arith),
-        places-each d m 0 (λ i. place 0) l (omega arith) (omega arith) (λ i h. absurd (omega arith)) (λ i at h k. unused (suc i) at (omega arith) (omega arith)),
+        places-each d m 0 (λ i. place 0) l (omega arith) (omega arith) (λ i h. absurd (omega arith))
+            (λ i at h k. unused (suc i) at (omega arith) (omega arith)),
       )
   places-each d (suc m) (suc n) place (a ∷ l) e h used unused =
       readAt-cons c (places c z m n) s (place 0)
       ∙ rw (
         used 0 (omega arith),
-        places-each d m n (λ i. place (suc i)) l (omega arith) (omega arith) (λ i h. used (suc i) (omega arith)) (λ i at h k. unused (suc i) at (omega arith) (omega arith)),
+        places-each d m n (λ i. place (suc i)) l (omega arith) (omega arith) (λ i h. used (suc i) (omega arith))
+            (λ i at h k. unused (suc i) at (omega arith) (omega arith)),
       )

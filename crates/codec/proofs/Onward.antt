@@ -87,7 +87,9 @@ element-small w refuse s at v at′ e =
     (legal-element w refuse v l, first-none (numberFault w v) (refuse v) (l .faultless) .1)
 
 -- a number that is not refused is an element
-pub element-got : (w : ℕ) (refuse : ℕ → ℕ) (s : List Bool) (at v at′ : ℕ) → readAt (number w) s at ≡ got v at′ → refuse v ≡ 0 → readAt (element w refuse) s at ≡ got v at′
+pub element-got : (w : ℕ) (refuse : ℕ → ℕ) (s : List Bool) (at v at′ : ℕ)
+    → readAt (number w) s at ≡ got v at′ → refuse v ≡ 0
+    → readAt (element w refuse) s at ≡ got v at′
 unfolding element
 element-got w refuse s at v at′ e h = readAt-tested (number w) refuse (λ v. 0) s at ∙ rw (e, h)
 

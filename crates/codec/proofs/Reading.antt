@@ -40,7 +40,8 @@ rest-at : {A : Type 0} (c : Codec A) (s : List Bool) (at : ℕ) (o : Outcome A) 
 rest-at c s at (ok b p t) h a at′ r e =
     let q : t ≡ r = cc in
     let q′ : p ≡ at′ = cc in
-    rw (← q, ← q′) (sym (ap (λ (n : ℕ). drop n s) (h .3) ∙ sym (drop-drop (length (c .print b)) at s) ∙ ap (drop (length (c .print b))) (h .2) ∙ drop-append-seam (c .print b) t))
+    rw (← q, ← q′) (sym (ap (λ (n : ℕ). drop n s) (h .3) ∙ sym (drop-drop (length (c .print b)) at s)
+    ∙ ap (drop (length (c .print b))) (h .2) ∙ drop-append-seam (c .print b) t))
 rest-at c s at (no n p) h a at′ r e = never cc
 
 module _ {A B : Type 0} (c : Codec A) (k : A → ℕ → List Bool → Outcome B) (s : List Bool) (at : ℕ) where

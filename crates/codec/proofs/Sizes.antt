@@ -46,7 +46,12 @@ size-shaped c to from there back h = record { size = λ b. h .size (from b) }
 
 size-cons : {A : Type 0} (c : Codec A) (d : Codec (List A)) (k n : ℕ) → Within k c → Within n d → Within (k + n) (cons c d)
 unfolding cons
-size-cons c d k n h hd = record { size = λ l. elim l [ [] ↦ omega arith | a ∷ t ↦ omega (arith, h .size a, hd .size t, length-append (c .print a) (d .print t)) ] }
+size-cons c d k n h hd = record {
+  size = λ l. elim l [
+    | [] ↦ omega arith
+    | a ∷ t ↦ omega (arith, h .size a, hd .size t, length-append (c .print a) (d .print t))
+  ];
+}
 
 pub size-places : {A : Type 0} (c z : Codec A) (k : ℕ) → Within k c → Within k z → (m n : ℕ) → Within (m * k) (places c z m n)
 unfolding places nil

@@ -63,8 +63,11 @@ module _ (Code : ℕ → Type 0) where
         by : (a : A) (at′ : ℕ) (r : List Bool) → Faithful (c .clean) (c .fault) (c .print) at s (ok a at′ r) → (k : ℕ) → test a ≡ k → Code k
             → Stopped A (tested c test into) s (unless k (at + into a) (ok a at′ r))
         by a at′ r k zero e code = tt
-        by a at′ r k (suc n) e code =
-            (subst (λ (l : List Bool). Stops A (tested c test into) l (suc n)) (sym (k .2)) (refused c test into a n r (record { clean = k .0; faultless = k .1 }) e), of-test code)
+        by a at′ r k (suc n) e code = (
+          subst (λ (l : List Bool). Stops A (tested c test into) l (suc n)) (sym (k .2))
+              (refused c test into a n r (record { clean = k .0; faultless = k .1 }) e),
+          of-test code,
+        )
 
         go : (o : Outcome A) → Faithful (c .clean) (c .fault) (c .print) at s o → Stopped A c s o
             → Stopped A (tested c test into) s (andThen o (λ a at′ r. unless (test a) (at + into a) (ok a at′ r)))
@@ -99,7 +102,8 @@ module _ (Code : ℕ → Type 0) where
     unfolding seq cons
     stops-cons d h k at s = go (seqParse c (λ a. d) at s) (stops-seq (λ a. d) h (λ a. k) at s)
       where
-        go : (o : Outcome (A × List A)) → Stopped (A × List A) (seq c (λ a. d)) s o → Stopped (List A) (cons c d) s (andThen o (λ p at′ s′. ok (p .0 ∷ p .1) at′ s′))
+        go : (o : Outcome (A × List A)) → Stopped (A × List A) (seq c (λ a. d)) s o
+            → Stopped (List A) (cons c d) s (andThen o (λ p at′ s′. ok (p .0 ∷ p .1) at′ s′))
         go (ok p at′ s′) x = tt
         go (no n p) x = (entries c d s n (x .0), x .1)
 

@@ -9,8 +9,11 @@ use Rattle.codec.specs.Codec.{Codec}
 use Rattle.codec.specs.Parts.{number, element, seq, mark}
 use Rattle.codec.specs.Places.{places}
 use Rattle.codec.proofs.Kept.{Kept}
-use Rattle.grammar.specs.SiteSheet.{ssType, rangeType, refusalIn, rangeRefusal, digitOf, refusalOfDigit, digitRefusal, serviceOf, refusalOfService, serviceRefusal, kindRefusal, resultRefusal, between, entriesOf}
-use Rattle.grammar.specs.Grammar.{extension, identity, noIdentity, zeroIdentity, endsRefusal, rangeEnds, identities, noIdentities, external, noExternal, externals, noExternals, services, noServices, identityPart, numberPart, noPart, partOf, interrogate, interrogateAck, restOf, Five, Rest, pdu}
+use Rattle.grammar.specs.SiteSheet.{ssType, rangeType, refusalIn, rangeRefusal, digitOf, refusalOfDigit, digitRefusal, serviceOf}
+use Rattle.grammar.specs.SiteSheet.{refusalOfService, serviceRefusal, kindRefusal, resultRefusal, between, entriesOf}
+use Rattle.grammar.specs.Grammar.{extension, identity, noIdentity, zeroIdentity, endsRefusal, rangeEnds, identities, noIdentities, external}
+use Rattle.grammar.specs.Grammar.{noExternal, externals, noExternals, services, noServices, identityPart, numberPart, noPart, partOf}
+use Rattle.grammar.specs.Grammar.{interrogate, interrogateAck, restOf, Five, Rest, pdu}
 use Rattle.grammar.specs.declared.site.RangeType.{RangeType}
 use Rattle.grammar.specs.declared.site.RangeType.the-variants.{Empty, Single, FirstAndLast, NoRangeType}
 use Rattle.grammar.specs.declared.site.ListKind.{ListKind}

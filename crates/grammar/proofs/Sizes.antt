@@ -12,8 +12,11 @@ use Rattle.codec.specs.Codec.{Codec}
 use Rattle.codec.specs.Parts.{absent, element, seq, shaped, mark, only}
 use Rattle.codec.specs.Places.{places}
 use Rattle.codec.proofs.Sizes.{Within, size-number, size-absent, size-more, size-seq, size-tested, size-element, size-shaped, size-places}
-use Rattle.grammar.specs.SiteSheet.{ssType, entriesOf, rangeRefusal, digitRefusal, serviceRefusal, kindRefusal, resultRefusal, askedRefusal, countRefusal, lengthRefusal}
-use Rattle.grammar.specs.Grammar.{extension, identity, noIdentity, identities, noIdentities, external, noExternal, externals, noExternals, services, noServices, identityPart, numberPart, noPart, partOf, interrogate, interrogateAck, restOf, fromRecord, pdu}
+use Rattle.grammar.specs.SiteSheet.{ssType, entriesOf, rangeRefusal, digitRefusal, serviceRefusal, kindRefusal, resultRefusal, askedRefusal}
+use Rattle.grammar.specs.SiteSheet.{countRefusal, lengthRefusal}
+use Rattle.grammar.specs.Grammar.{extension, identity, noIdentity, identities, noIdentities, external, noExternal, externals, noExternals}
+use Rattle.grammar.specs.Grammar.{services, noServices, identityPart, numberPart, noPart, partOf, interrogate, interrogateAck, restOf}
+use Rattle.grammar.specs.Grammar.{fromRecord, pdu}
 use Rattle.grammar.specs.declared.site.ListKind.{ListKind}
 use Rattle.grammar.specs.declared.site.ListKind.the-variants as of
 use Rattle.grammar.specs.declared.record.Identities.{Identities}
@@ -88,7 +91,9 @@ size-part : (result : ℕ) → Within 2020 (partOf result)
 unfolding identityPart numberPart
 size-part result =
     by-test (Within _) (eqb result 1)
-    (size-shaped _ _ _ _ _ (size-more (size-lists (size-identities of.Identities) (size-identities of.Identities) (size-identities of.Identities) size-noExternals size-noExternals) (omega arith)))
+    (size-shaped _ _ _ _ _ (size-more
+    (size-lists (size-identities of.Identities) (size-identities of.Identities) (size-identities of.Identities)
+    size-noExternals size-noExternals) (omega arith)))
     (by-test (Within _) (eqb result 2)
     (size-shaped _ _ _ _ _ (size-lists (size-identities of.Identities) size-noIdentities size-noIdentities size-externals size-externals))
     (size-more size-noPart (omega arith)))
@@ -101,7 +106,8 @@ size-interrogate =
 size-ack : Within 2049 interrogateAck
 unfolding interrogateAck
 size-ack =
-    size-seq size-absent (λ a. size-seq (size-element 3 resultRefusal) (λ result. size-seq (size-number 2) (λ c. size-seq size-services (λ d. size-part result))))
+    size-seq size-absent (λ a. size-seq (size-element 3 resultRefusal) (λ result.
+    size-seq (size-number 2) (λ c. size-seq size-services (λ d. size-part result))))
 
 -- SS type, PDU type and affected users are at most 407 bits
 size-pdu : (r : Record) (n : ℕ) → Within n (restOf (r .kind)) → length (pdu .print r) ≤ 407 + n

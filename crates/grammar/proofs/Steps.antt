@@ -9,7 +9,8 @@ use Rattle.codec.specs.Reading.{got, andNext, readAt}
 use Rattle.codec.proofs.Reading.{andNext-assoc, readAt-seq, readAt-absent, readAt-shaped}
 use Rattle.codec.proofs.Filling.{places-rest}
 use Rattle.grammar.specs.SiteSheet.{entriesOf, rangeRefusal, digitRefusal, serviceRefusal, countRefusal, lengthRefusal}
-use Rattle.grammar.specs.Grammar.{extension, identity, noIdentity, zeroIdentity, rangeEnds, secondEnd, identities, noIdentities, external, noExternal, externals, noExternals, services, noServices, identityPart, numberPart, noPart}
+use Rattle.grammar.specs.Grammar.{extension, identity, noIdentity, zeroIdentity, rangeEnds, secondEnd, identities, noIdentities, external}
+use Rattle.grammar.specs.Grammar.{noExternal, externals, noExternals, services, noServices, identityPart, numberPart, noPart}
 use Rattle.grammar.specs.Zero.{zeroIdentities, zeroNumber, zeroNumbers, zeroServices, zeroLists}
 use Rattle.grammar.specs.declared.record.Identities.{Identities}
 use Rattle.grammar.specs.declared.record.Numbers.{Numbers}

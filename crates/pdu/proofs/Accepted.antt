@@ -61,7 +61,8 @@ users-small r h =
     first-small (r .affected .entries) (legal-places Small identity-small unused-small 8 (entriesOf (r .affected .code)) (r .affected .entries) l .1)
 
 pub accepted-small : (s : List ℕ) (n : ℕ) → readIs s n .answer ≡ Accepted
-    → (getD (readIs s n .found .affected .entries) 0 zeroIdentity .ssi < 16777216) × (getD (readIs s n .found .affected .entries) 0 zeroIdentity .extension < 16777216)
+    → (getD (readIs s n .found .affected .entries) 0 zeroIdentity .ssi < 16777216)
+    × (getD (readIs s n .found .affected .entries) 0 zeroIdentity .extension < 16777216)
 accepted-small s n e =
     let k = users-small (readIs s n .found) (accepted-legal s n e) in
     (k .ssi, k .extension)

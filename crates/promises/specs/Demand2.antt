@@ -34,5 +34,7 @@ pub write-gives-the-bits : (s : List ℕ) (n : ℕ) (r : Record) (out : List ℕ
 write-gives-the-bits = trip.written-read
 
 -- Reading what was written gives the same record.
-pub read-gives-the-record : (r : Record) (out : List ℕ) (n : ℕ) → writeIs r out ≡ Bits (record { 0 = n }) → readIs (take (bytesFor n) (outIs r out)) n ≡ acceptedAs r
+pub read-gives-the-record : (r : Record) (out : List ℕ) (n : ℕ)
+    → writeIs r out ≡ Bits (record { 0 = n })
+    → readIs (take (bytesFor n) (outIs r out)) n ≡ acceptedAs r
 read-gives-the-record = trip.read-written

@@ -64,7 +64,8 @@ SmallNumbers l = (length (l .entries) ≡ 8) × Each SmallNumber (l .entries)
 
 externals-small : (l : Numbers) → Legal externals l → SmallNumbers l
 unfolding externals
-externals-small l h = legal-places SmallNumber external-small no-external-small 8 (entriesOf (l .code)) (l .entries) (legal-seq _ _ _ (legal-shaped _ _ _ _ _ _ h) .1)
+externals-small l h = legal-places SmallNumber external-small no-external-small 8 (entriesOf (l .code)) (l .entries)
+    (legal-seq _ _ _ (legal-shaped _ _ _ _ _ _ h) .1)
 
 no-externals-small : (l : Numbers) → Legal noExternals l → SmallNumbers l
 unfolding noExternals
@@ -133,7 +134,8 @@ part-small : (one two : Bool) (l : Lists) → Legal (pick one identityPart (pick
 unfolding identityPart numberPart
 part-small true two l h =
     lists-small (identities-sized _) (identities-sized _) (identities-sized _) no-externals-small no-externals-small l (legal-shaped _ _ _ _ _ _ h)
-part-small false true l h = lists-small (identities-sized _) no-identities-sized no-identities-sized externals-small externals-small l (legal-shaped _ _ _ _ _ _ h)
+part-small false true l h =
+    lists-small (identities-sized _) no-identities-sized no-identities-sized externals-small externals-small l (legal-shaped _ _ _ _ _ _ h)
 part-small false false l h = no-part-small l h
 
 -- ---- the record
@@ -143,7 +145,9 @@ SmallRest q = (length (q .1 .1 .1 .0 .list) ≡ 7) × SmallLists (q .1 .1 .1 .1)
 
 interrogate-small : (q : Rest) → Legal interrogate q → SmallRest q
 unfolding interrogate
-interrogate-small q h = let s = legal-seq _ _ _ (legal-seq _ _ _ (legal-seq _ _ _ (legal-seq _ _ _ h .1) .1) .1) in (no-services-sized _ (s .0), no-part-small _ (s .1))
+interrogate-small q h =
+    let s = legal-seq _ _ _ (legal-seq _ _ _ (legal-seq _ _ _ (legal-seq _ _ _ h .1) .1) .1)
+    in (no-services-sized _ (s .0), no-part-small _ (s .1))
 
 ack-small : (q : Rest) → Legal interrogateAck q → SmallRest q
 unfolding interrogateAck

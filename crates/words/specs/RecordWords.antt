@@ -115,6 +115,14 @@ unfoldable pub givenRecord : List ℕ → GivenRecord
 givenRecord words = pick (areRecord (length words)) (record { given = true; found = recordFrom words }) (record { given = false; found = zeroRecord })
 
 -- `unfolding records` opens all of it
+unfoldable pub intoWords : Unit {0}
+unfolding inTurn identityWords identitiesWords numberWords numbersWords servicesWords listsWords recordWords
+intoWords = tt
+
+unfoldable pub outOfWords : Unit {0}
+unfolding entriesFrom narrowed identityFrom identitiesFrom numberFrom numbersFrom servicesFrom listsFrom recordFrom
+outOfWords = tt
+
 unfoldable pub records : Unit {0}
-unfolding inTurn identityWords identitiesWords numberWords numbersWords servicesWords listsWords recordWords entriesFrom narrowed identityFrom identitiesFrom numberFrom numbersFrom servicesFrom listsFrom recordFrom
+unfolding intoWords outOfWords
 records = tt

@@ -48,7 +48,9 @@ returns c =
     let all : l .i ≡ n = omega arith in
     let end : 0 + n ≡ n = omega arith in
     ap bits
-    (l .inv .2 ∙ ap (paste s 0 held) all ∙ ap (λ (k : ℕ). take n held ++ drop k s) end ∙ ap (λ (x : List ℕ). take n held ++ x) (drop-length s) ∙ append-nil (take n held))
+    (l .inv .2 ∙ ap (paste s 0 held) all
+    ∙ ap (λ (k : ℕ). take n held ++ drop k s) end
+    ∙ ap (λ (x : List ℕ). take n held ++ x) (drop-length s) ∙ append-nil (take n held))
     ∙ splice-front s (replicate (8 - n) 0) held (a .at) (bitsOf (a .width) (a .element))
     (omega (arith, eight (c .before)))
     (d .put-within .ensures ∙ ap (λ (x : List ℕ). splice (bits x) (a .at) (bitsOf (a .width) (a .element))) (p .padded .ensures))

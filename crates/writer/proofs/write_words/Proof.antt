@@ -42,8 +42,12 @@ fill-requires c κs =
     let q = p .before .before .before in
     let a = q .before .before .before .args in
     let r = recordFrom (now (a .words)) in
-    let e = none p in
-    (q .if1 .left, numbers-small r (is-legal r (length (now (a .out))) e), has-room r (length (now (a .out))) e, bits-length (lengthOf r) (writeRefusal r (length (now (a .out)))) (told p))
+    let e = none p in (
+      q .if1 .left,
+      numbers-small r (is-legal r (length (now (a .out))) e),
+      has-room r (length (now (a .out))) e,
+      bits-length (lengthOf r) (writeRefusal r (length (now (a .out)))) (told p),
+    )
 
 returns-3 : tie.Need-returns-3
 unfolding writeWordsIs writeWordsOut writeIs outIs

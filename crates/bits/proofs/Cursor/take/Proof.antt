@@ -26,17 +26,20 @@ returns-2 c = let a = c .before .before .before .args in sym (take-wide (now (a 
 returns-3 : tie.Need-returns-3
 returns-3 c =
     let a = c .before .before .before .before .args in
-    sym (take-short (now (a .s)) (a .n .0) (a .self .at) (a .width) (omega (arith, length-take (a .n .0) (bits (now (a .s))))))
+    sym (take-short (now (a .s)) (a .n .0) (a .self .at) (a .width)
+    (omega (arith, length-take (a .n .0) (bits (now (a .s))))))
 
 returns-4 : tie.Need-returns-4
 returns-4 c =
     let a = c .before .before .before .before .before .args in
-    sym (take-short (now (a .s)) (a .n .0) (a .self .at) (a .width) (omega (arith, length-take (a .n .0) (bits (now (a .s))))))
+    sym (take-short (now (a .s)) (a .n .0) (a .self .at) (a .width)
+    (omega (arith, length-take (a .n .0) (bits (now (a .s))))))
 
 returns-5 : tie.Need-returns-5
 returns-5 c =
     let a = c .before .before .before .before .before .before .before .args in
-    sym (take-short (now (a .s)) (a .n .0) (a .self .at) (a .width) (omega (arith, length-take (a .n .0) (bits (now (a .s))), length-bits (now (a .s)), c .before .bytes .ensures)))
+    sym (take-short (now (a .s)) (a .n .0) (a .self .at) (a .width)
+    (omega (arith, length-take (a .n .0) (bits (now (a .s))), length-bits (now (a .s)), c .before .bytes .ensures)))
 
 there : (c : tie.After-window) → let a = c .before .before .before .before .before .before .before .before .args in
     c .window .result / 2 ^ (57 - a .width) ≡ value (take (a .width) (drop (a .self .at) (bits (now (a .s)))))
@@ -54,7 +57,8 @@ returns-6 : tie.Need-returns-6
 returns-6 c =
     let a = c .before .before .before .before .before .before .before .before .args in
     ap (λ (v : ℕ). Element v (record { at = a .self .at + a .width })) (there c)
-    ∙ sym (take-there (now (a .s)) (a .n .0) (a .self .at) (a .width) (omega arith) (omega arith) (omega arith) (omega (arith, c .before .before .bytes .ensures)))
+    ∙ sym (take-there (now (a .s)) (a .n .0) (a .self .at) (a .width)
+    (omega arith) (omega arith) (omega arith) (omega (arith, c .before .before .bytes .ensures)))
 
 pub take-spec : {M : Type 1} → statement M
 take-spec =

@@ -23,7 +23,11 @@ returns-3 c =
     let e = c .before .before .before in
     let d = e .before .before .before in
     let a = d .before .before .before .args in
-    rw (eq-eqb (a .first .present) (a .last .present) (d .if1 .left), eq-eqb (a .first .extension) (a .last .extension) (e .if2 .left), lt-leb (a .first .ssi) (a .last .ssi) (c .if3 .taken))
+    rw (
+      eq-eqb (a .first .present) (a .last .present) (d .if1 .left),
+      eq-eqb (a .first .extension) (a .last .extension) (e .if2 .left),
+      lt-leb (a .first .ssi) (a .last .ssi) (c .if3 .taken),
+    )
 
 returns-4 : tie.Need-returns-4
 unfolding endsRefusal
@@ -31,7 +35,11 @@ returns-4 c =
     let e = c .before .before .before in
     let d = e .before .before .before in
     let a = d .before .before .before .args in
-    rw (eq-eqb (a .first .present) (a .last .present) (d .if1 .left), eq-eqb (a .first .extension) (a .last .extension) (e .if2 .left), le-leb (a .first .ssi) (a .last .ssi) (c .if3 .left))
+    rw (
+      eq-eqb (a .first .present) (a .last .present) (d .if1 .left),
+      eq-eqb (a .first .extension) (a .last .extension) (e .if2 .left),
+      le-leb (a .first .ssi) (a .last .ssi) (c .if3 .left),
+    )
 
 pub ends-refusal-spec : {M : Type 1} → statement M
 ends-refusal-spec = tie.close (tie.spec returns returns-2 returns-3 returns-4)

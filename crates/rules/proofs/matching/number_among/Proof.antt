@@ -98,8 +98,10 @@ other c =
     let e = c .before .before .before in
     ⊎-elim
     (λ w.
-    let more : w .1 .j < e .before .before .least2 .result = omega arith in
-    (w .5 ∙ w .1 .inv .1 .0, sym (differs (entry (e .before) .digits) _ more (omega (arith, there e)) (omega (arith, there e)) (ne-eqb _ _ (w .4 .taken)) (w .1 .inv .1 .1))))
+    let more : w .1 .j < e .before .before .least2 .result = omega arith in (
+      w .5 ∙ w .1 .inv .1 .0,
+      sym (differs (entry (e .before) .digits) _ more (omega (arith, there e)) (omega (arith, there e)) (ne-eqb _ _ (w .4 .taken)) (w .1 .inv .1 .1)),
+    ))
     (λ w. (w .1 ∙ e .before .entries .inv .1 .0, rw (ne-eqb _ _ (w .0 .left)))) (c .if1 .came)
 
 entries-again : tie.Need-entries-again Inv-loop μ-loop Inv-entries μ-entries
