@@ -3,13 +3,26 @@
  * keeps INTERROGATE ACKs in an archive, restores them, and decides calls from it. Link libboc.a.
  *
  * Every function returns 0, or the number of a refusal (enum boc_refusal). What it answers besides, a length or a
- * decision, goes through its last pointer. A refused call changes no byte of any buffer and leaves what is behind that pointer as it was;
- * an accepted one leaves the bytes after what it wrote.
+ * decision, goes through `length`, `bits` or `decision`. A refused call changes no byte of any buffer and leaves what
+ * is behind that pointer as it was; an accepted one leaves the bytes after what it wrote.
+ *
+ * Where it stopped. `place` is the place of a bit in a PDU and `entry` the index of an entry in an archive, both from
+ * 0. A refused call writes those of the two that it has, BOC_NOWHERE where the refusal brings none; an accepted one
+ * leaves them as they were.
+ * - BOC_SHORT: the place of the element that is not there whole, which may be the PDU's length.
+ * - BOC_VALUE, BOC_OTHER_TYPE: the place of the element that is refused.
+ * - BOC_ENDS: the place of the second end's SSI.
+ * - BOC_LEFT: the place of the first bit left.
+ * - BOC_ARCHIVE, where header, contents and the archive's length are right: the first entry whose body is at fault, and
+ *   the place in that body where boc_read would bring one. BOC_FRAME brings none, and a bit length over 4,096 is that;
+ *   nor does a legal body that no entry, or not this one, may hold.
+ * - BOC_ARCHIVE otherwise, and every other refusal: neither.
+ * An element's place is that of its first bit.
  *
  * Buffers. A buffer is a pointer and a length, in bytes or in words of 32 bits. The pointer is valid for that length
  * and aligned for its type; at length 0 it may be any pointer, NULL included, for nothing is read or written through
- * it. The pointer through which a length or a decision goes is never NULL, even if the call will be refused. What a
- * call writes may not overlap anything else that it is lent.
+ * it. The pointers to a single number, through which lengths, decisions, entries and places go, are never NULL, whether
+ * the call will be refused or not. What a call writes may not overlap anything else that it is lent.
  *
  * At the same time. Nothing is allocated, no operating system is called, and nothing is kept between calls or shared by
  * them. Calls may run at the same time on one archive, PDU, record or request, as long as nobody changes it; what a
@@ -49,6 +62,9 @@ enum boc_refusal {
     BOC_OTHER_TYPE = 10, /* a BOC PDU type that the standard names and that is not read */
     BOC_NOT_HELD = 11    /* restore: not held */
 };
+
+/* The entry or the place of a refusal that has none. */
+#define BOC_NOWHERE SIZE_MAX
 
 /* Lengths that serve every case. */
 enum boc_limits {
@@ -182,12 +198,13 @@ enum boc_decision {
 /* ---- Calls ------------------------------------------------------------------------------------------------------- */
 
 /*
- * Reads the PDU of `bits` bits in `pdu` and writes its record to `record`.
+ * Reads the PDU of `bits` bits in `pdu` and writes its record to `record`; a refusal writes `place`.
  * Refuses, in this order: BOC_RANGE if record_words is not 514; BOC_FRAME; element by element from the first,
  * BOC_SHORT before BOC_VALUE (at the PDU type also BOC_OTHER_TYPE), and BOC_ENDS after the second end of a range;
  * BOC_LEFT.
  */
-uint32_t boc_read(const uint8_t *pdu, size_t pdu_len, size_t bits, uint32_t *record, size_t record_words);
+uint32_t boc_read(const uint8_t *pdu, size_t pdu_len, size_t bits, uint32_t *record, size_t record_words,
+                  size_t *place);
 
 /*
  * Writes the PDU of a record to the front of `out`, and its length in bits to `bits`.
@@ -207,10 +224,10 @@ uint32_t boc_empty(uint32_t home, uint8_t *out, size_t out_len, size_t *length);
  * `length`. A PDU that was held for the same user and part is replaced, and its room is used again.
  * Refuses, in this order: BOC_ARCHIVE; what boc_read refuses of the PDU, BOC_FRAME to BOC_LEFT and BOC_OTHER_TYPE;
  * BOC_UNFIT unless it is an INTERROGATE ACK with range type 1 for affected users and with identities or numbers as
- * its result; BOC_ROOM.
+ * its result; BOC_ROOM. Where the PDU is refused, `place` is one in it, and there is no entry.
  */
 uint32_t boc_capture(const uint8_t *archive, size_t archive_len, const uint8_t *pdu, size_t pdu_len, size_t bits,
-                     uint8_t *out, size_t out_len, size_t *length);
+                     uint8_t *out, size_t out_len, size_t *length, size_t *entry, size_t *place);
 
 /*
  * Writes the PDU held for a user and part (enum boc_part) to the front of `out`, and its length in bits to `bits`.
@@ -218,7 +235,7 @@ uint32_t boc_capture(const uint8_t *archive, size_t archive_len, const uint8_t *
  * BOC_ARCHIVE; BOC_NOT_HELD; BOC_ROOM.
  */
 uint32_t boc_restore(const uint8_t *archive, size_t archive_len, uint32_t network, uint32_t ssi, uint32_t part,
-                     uint8_t *out, size_t out_len, size_t *bits);
+                     uint8_t *out, size_t out_len, size_t *bits, size_t *entry, size_t *place);
 
 /*
  * Decides a request by the part that the archive holds for its user, and writes the decision (enum boc_decision) to
@@ -226,14 +243,15 @@ uint32_t boc_restore(const uint8_t *archive, size_t archive_len, uint32_t networ
  * BOC_ARCHIVE.
  */
 uint32_t boc_decide(const uint8_t *archive, size_t archive_len, const uint32_t *request, size_t request_words,
-                    uint32_t *decision);
+                    uint32_t *decision, size_t *entry, size_t *place);
 
 /*
  * Writes the listing of an archive to the front of `out` as text with no zero byte at its end, and its length in bytes
  * to `length`: `home H entries N`, then for each entry `NETWORK SSI part P bits B`, each on a line, in decimal.
  * Refuses, in this order: BOC_ARCHIVE; BOC_ROOM.
  */
-uint32_t boc_contents(const uint8_t *archive, size_t archive_len, uint8_t *out, size_t out_len, size_t *length);
+uint32_t boc_contents(const uint8_t *archive, size_t archive_len, uint8_t *out, size_t out_len, size_t *length,
+                      size_t *entry, size_t *place);
 
 #ifdef __cplusplus
 }
