@@ -5,7 +5,7 @@ use crate::pdu::{
     frame, unused_bits_are_zero, walk, Head, Judge, IDENTITIES_PROVIDED, INTERROGATE_ACK, MAX_BITS,
     NUMBERS_PROVIDED,
 };
-use crate::refusal::Refusal;
+use crate::refusal::{Refusal, Refused};
 
 /// Most bytes of an archive.
 const MAX_BYTES: usize = 65_536;
@@ -61,10 +61,9 @@ pub struct Line {
 impl Line {
     #[inline(always)]
     fn from_bytes(bytes: &[u8; LINE]) -> Self {
-        let [key @ .., high, low] = *bytes;
-        let [a, b, c, d, e, f, g] = key;
+        let [a, b, c, d, e, f, g, high, low] = *bytes;
         Line {
-            key: Key(u64::from_be_bytes([0, a, b, c, d, e, f, g])),
+            key: Key(u64::from_be_bytes([a, b, c, d, e, f, g, high]) >> 8),
             bits: u16::from_be_bytes([high, low]).into(),
         }
     }
@@ -99,12 +98,22 @@ struct Place {
 }
 
 impl<'a> Archive<'a> {
-    /// Checks an archive in one pass over contents and bodies, or 7.
-    pub fn check(bytes: &'a [u8]) -> Result<Self, Refusal> {
-        Self::check_all(bytes).ok_or(Refusal::Archive)
+    /// Checks an archive, first its shape and then its bodies, or 7: with the first entry whose body is at
+    /// fault, if its shape is right.
+    pub fn check(bytes: &'a [u8]) -> Result<Self, Refused> {
+        let archive = Self::shaped(bytes).ok_or(Refusal::Archive)?;
+        let mut bodies = &bytes[archive.bodies()..];
+        for (entry, line) in archive.lines().enumerate() {
+            if let Err(place) = check_first_body(bodies, line, archive.home) {
+                return Err(Refused { why: Refusal::Archive, entry: Some(entry), place });
+            }
+            bodies = &bodies[line.room()..];
+        }
+        Ok(archive)
     }
 
-    fn check_all(bytes: &'a [u8]) -> Option<Self> {
+    /// The archive of these bytes, if all is right but for its bodies: header, keys, parts and length.
+    fn shaped(bytes: &'a [u8]) -> Option<Self> {
         let ([a, b, c, high, low], rest) = bytes.split_first_chunk::<HEADER>()?;
         let home = u32::from_be_bytes([0, *a, *b, *c]);
         let count: usize = u16::from_be_bytes([*high, *low]).into();
@@ -112,23 +121,22 @@ impl<'a> Archive<'a> {
             return None;
         }
         let (lines, _) = rest.get(..LINE * count)?.as_chunks::<LINE>();
-        let mut body = HEADER + LINE * count;
+        let archive = Archive { bytes, home, lines };
+        let mut length = archive.bodies();
         // A key has a part of 1 or 2, so it is above 0.
         let mut last = Key(0);
-        for line in lines {
-            let line = Line::from_bytes(line);
-            let end = body + line.room();
-            if line.key <= last || line.bits > MAX_BITS || end > bytes.len() {
-                return None;
-            }
-            let head = walk(Cursor::new(bytes, body, line.bits), &mut Judge).ok()?;
-            if Key::of(&head, home) != Some(line.key) || !unused_bits_are_zero(&bytes[..end], line.bits) {
-                return None;
-            }
+        let mut rising = true;
+        for line in archive.lines() {
+            rising &= last < line.key && matches!(line.key.part(), 1 | 2);
             last = line.key;
-            body = end;
+            length += line.room();
         }
-        (body == bytes.len()).then_some(Archive { bytes, home, lines })
+        (rising && length == bytes.len()).then_some(archive)
+    }
+
+    /// First byte of the bodies.
+    fn bodies(&self) -> usize {
+        HEADER + LINE * self.lines.len()
     }
 
     /// The lines of the contents.
@@ -137,7 +145,7 @@ impl<'a> Archive<'a> {
     }
 
     fn find(&self, key: Key) -> Place {
-        let mut body = HEADER + LINE * self.lines.len();
+        let mut body = self.bodies();
         for (index, line) in self.lines().enumerate() {
             if line.key >= key {
                 return Place { index, body, held: (line.key == key).then_some(line.bits) };
@@ -157,8 +165,21 @@ impl<'a> Archive<'a> {
     /// A cursor on the body held under a key.
     pub fn cursor(&self, key: Key) -> Option<Cursor<'a>> {
         let place = self.find(key);
-        Some(Cursor::new(self.bytes, place.body, place.held?))
+        Some(Cursor::new(&self.bytes[place.body..], place.held?))
     }
+}
+
+/// Checks the first of some bodies by its line; a body at fault has the place that its refusal has.
+#[inline(always)]
+fn check_first_body(bodies: &[u8], line: Line, home: u32) -> Result<(), Option<usize>> {
+    if line.bits > MAX_BITS || !unused_bits_are_zero(&bodies[..line.room()], line.bits) {
+        return Err(None);
+    }
+    let head = walk(Cursor::new(bodies, line.bits), &mut Judge).map_err(|stop| Some(stop.place))?;
+    if Key::of(&head, home) != Some(line.key) {
+        return Err(None);
+    }
+    Ok(())
 }
 
 /// Writes an archive without entries and returns its length in bytes. Refuses with 9, 8.
@@ -173,7 +194,7 @@ pub fn empty(home: u32, out: &mut [u8]) -> Result<usize, Refusal> {
 
 /// Writes to `out` the archive that holds a PDU too, in place of one with the same key, and returns its
 /// length in bytes. Refuses with 7, the PDU's 1 to 5 and 10, 6, 8.
-pub fn capture(archive: &[u8], pdu: &[u8], bits: usize, out: &mut [u8]) -> Result<usize, Refusal> {
+pub fn capture(archive: &[u8], pdu: &[u8], bits: usize, out: &mut [u8]) -> Result<usize, Refused> {
     let held = Archive::check(archive)?;
     let head = walk(frame(pdu, bits)?, &mut Judge)?;
     let key = Key::of(&head, held.home).ok_or(Refusal::Unfit)?;
@@ -186,7 +207,7 @@ pub fn capture(archive: &[u8], pdu: &[u8], bits: usize, out: &mut [u8]) -> Resul
     let next_body = body + old.map_or(0, |bits| bits.div_ceil(8));
     let length = archive.len() - (next_line - line) - (next_body - body) + LINE + pdu.len();
     if count > MAX_ENTRIES || length > MAX_BYTES || length > out.len() {
-        return Err(Refusal::Room);
+        return Err(Refusal::Room.into());
     }
 
     let mut rest = out;
@@ -207,9 +228,9 @@ pub fn capture(archive: &[u8], pdu: &[u8], bits: usize, out: &mut [u8]) -> Resul
 
 /// Writes the PDU held for a user and part to `out` and returns its length in bits.
 /// Refuses with 9, 7, 11, 8.
-pub fn restore(archive: &[u8], network: u32, ssi: u32, part: u32, out: &mut [u8]) -> Result<usize, Refusal> {
+pub fn restore(archive: &[u8], network: u32, ssi: u32, part: u32, out: &mut [u8]) -> Result<usize, Refused> {
     if network >= LIMIT || ssi >= LIMIT || !matches!(part, 1 | 2) {
-        return Err(Refusal::Range);
+        return Err(Refusal::Range.into());
     }
     let held = Archive::check(archive)?;
     let (bits, body) = held.body(Key::new(network, ssi, part)).ok_or(Refusal::NotHeld)?;

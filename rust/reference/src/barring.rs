@@ -3,7 +3,7 @@
 use crate::archive::{Archive, Key, LIMIT};
 use crate::layout::{request, DIGITS, REQUEST_WORDS};
 use crate::pdu::{walk, Identity, List, Number, Visitor};
-use crate::refusal::Refusal;
+use crate::refusal::{Refusal, Refused};
 use crate::words::{any, are_digits, pack};
 
 /// The answer to a request; the discriminants are the numbers that cross the boundary.
@@ -172,7 +172,7 @@ impl Visitor for Compare<'_> {
 
 /// Decides on a request of [`REQUEST_WORDS`] words by the part that the archive holds for its user.
 /// Refuses with 9, 7.
-pub fn decide(archive: &[u8], request: &[u32]) -> Result<Decision, Refusal> {
+pub fn decide(archive: &[u8], request: &[u32]) -> Result<Decision, Refused> {
     let request = Request::new(request)?;
     let held = Archive::check(archive)?;
     let part = match request.destination {

@@ -1,10 +1,10 @@
 //! Bit cursors, most significant bit first. A step loads 8 or 16 bytes and shifts.
 
-use crate::refusal::Refusal;
+use crate::refusal::{Refusal, Stop};
 
 /// A place in a run of bits, and where the run ends.
 ///
-/// The run may lie inside a longer slice: bytes after its end may be loaded, but no bit of them is taken.
+/// The slice may be longer than the run: bytes after its end may be loaded, but no bit of them is taken.
 #[derive(Clone, Copy)]
 pub struct Cursor<'a> {
     bytes: &'a [u8],
@@ -13,10 +13,15 @@ pub struct Cursor<'a> {
 }
 
 impl<'a> Cursor<'a> {
-    /// A cursor at the first of the `bits` bits that begin with byte `start`.
-    pub fn new(bytes: &'a [u8], start: usize, bits: usize) -> Self {
-        let at = 8 * start;
-        Cursor { bytes, at, end: at + bits }
+    /// A cursor at the first of the `bits` bits that the slice begins with.
+    pub fn new(bytes: &'a [u8], bits: usize) -> Self {
+        Cursor { bytes, at: 0, end: bits }
+    }
+
+    /// Stops `ahead` bits after the cursor.
+    #[inline(always)]
+    pub fn stop(&self, ahead: usize, why: Refusal) -> Stop {
+        Stop { why, place: self.at + ahead }
     }
 
     /// Bits between the cursor and the end.
@@ -37,22 +42,25 @@ impl<'a> Cursor<'a> {
         load_wide(self.bytes, self.at >> 3) << (self.at & 7)
     }
 
-    /// Moves on by `width` bits; refused if the run ends before.
+    /// Moves on by `width` bits that are left.
     #[inline(always)]
-    pub fn skip(&mut self, width: usize) -> Result<(), Refusal> {
-        if self.left() < width {
-            return Err(Refusal::Short);
-        }
+    pub fn skip(&mut self, width: usize) {
         self.at += width;
-        Ok(())
     }
 
-    /// The next element of `width` bits, 1 to 32.
+    /// The next element of `width` bits, 1 to 32: 2 if it is not there whole, or why its value is refused.
     #[inline(always)]
-    pub fn take(&mut self, width: usize) -> Result<u32, Refusal> {
-        let window = self.window();
-        self.skip(width)?;
-        Ok((window >> (64 - width)) as u32)
+    pub fn take(&mut self, width: usize, refuse: impl FnOnce(u32) -> Option<Refusal>) -> Result<u32, Stop> {
+        let (window, place) = (self.window(), self.at);
+        if self.left() < width {
+            return Err(Stop { why: Refusal::Short, place });
+        }
+        self.skip(width);
+        let value = (window >> (64 - width)) as u32;
+        if let Some(why) = refuse(value) {
+            return Err(Stop { why, place });
+        }
+        Ok(value)
     }
 }
 

@@ -1,13 +1,13 @@
 //! The listing of an archive.
 
 use crate::archive::{Archive, Line};
-use crate::refusal::Refusal;
+use crate::refusal::{Refusal, Refused};
 
 /// Writes the listing of an archive to `out` and returns its length in bytes. Refuses with 7, 8.
 ///
 /// The first line has the home network and the count; each other line has network, SSI, part and bit
 /// length. Numbers are decimal, and each line ends in a line feed.
-pub fn contents(archive: &[u8], out: &mut [u8]) -> Result<usize, Refusal> {
+pub fn contents(archive: &[u8], out: &mut [u8]) -> Result<usize, Refused> {
     let archive = Archive::check(archive)?;
     let mut length = 0;
     list(&archive, |text| length += text.len());

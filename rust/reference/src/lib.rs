@@ -1,6 +1,6 @@
-//! TETRA "barring of outgoing calls" (BOC) in safe Rust, written from the scope (document 01) and the codes
-//! of the standard that it names (EN 300 392-12-18), not from the library's code. Records and requests are
-//! the words that `include/boc.h` lists.
+//! TETRA "barring of outgoing calls" (BOC) in safe Rust, written from the scope (document 01), its changes
+//! (document 02) and the codes of the standard that it names (EN 300 392-12-18), not from the library's
+//! code. Records and requests are the words that `include/boc.h` lists.
 //!
 //! It is the test oracle of the library's C boundary and the speed anchor of its benchmarks, so each
 //! call has the shape of its C twin: slices in, a lent slice out, a refusal or a value as the answer.
@@ -10,7 +10,7 @@
 //! |---|---|---|
 //! | `layout` | the words of records and requests | |
 //! | `words`, `bits` | runs of words; bit cursors, several bits at a time | |
-//! | `refusal` | the refusals | "Refusal numbers" |
+//! | `refusal` | the refusals, and where a call stopped | "Refusal numbers" |
 //! | `pdu` | the grammar of the two PDUs, and reading | "The two PDUs", "Site sheet" |
 //! | `write` | which records are legal, and writing | "The two PDUs", "Site sheet" |
 //! | `archive` | check, empty, capture, restore | "The archive" |
@@ -35,5 +35,5 @@ pub use archive::{capture, empty, restore};
 pub use barring::{decide, Decision};
 pub use contents::contents;
 pub use pdu::read;
-pub use refusal::Refusal;
+pub use refusal::{Refusal, Refused};
 pub use write::write;

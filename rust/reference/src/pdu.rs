@@ -5,7 +5,7 @@
 
 use crate::bits::Cursor;
 use crate::layout::{record, DIGITS, IDENTITY_WORDS, NUMBER_WORDS, RECORD_WORDS};
-use crate::refusal::Refusal;
+use crate::refusal::{Refusal, Refused, Stop};
 use crate::words::spread;
 
 /// Most bits of a PDU.
@@ -101,7 +101,7 @@ pub fn frame(pdu: &[u8], bits: usize) -> Result<Cursor<'_>, Refusal> {
     if bits > MAX_BITS || pdu.len() != bits.div_ceil(8) || !unused_bits_are_zero(pdu, bits) {
         return Err(Refusal::Frame);
     }
-    Ok(Cursor::new(pdu, 0, bits))
+    Ok(Cursor::new(pdu, bits))
 }
 
 /// Are the bits after `bits` in the last of its bytes zero?
@@ -113,34 +113,45 @@ pub fn unused_bits_are_zero(pdu: &[u8], bits: usize) -> bool {
     }
 }
 
-/// Walks a PDU from its first element to its last: 2, 3, 4, 5 or 10, or its head.
+/// 3 unless the value of an element is legal.
 #[inline(always)]
-pub fn walk<V: Visitor>(mut cursor: Cursor<'_>, visitor: &mut V) -> Result<Head, Refusal> {
+fn unless(legal: bool) -> Option<Refusal> {
+    (!legal).then_some(Refusal::Value)
+}
+
+/// Walks a PDU from its first element to its last: where it stops with 2, 3, 4, 5 or 10, or its head.
+#[inline(always)]
+pub fn walk<V: Visitor>(cursor: Cursor<'_>, visitor: &mut V) -> Result<Head, Stop> {
+    // A refused PDU is walked again to say where, so that no place is kept on the way through a legal one.
+    elements(cursor, visitor).map_err(|_| first_stop(cursor))
+}
+
+#[cold]
+#[inline(never)]
+fn first_stop(cursor: Cursor<'_>) -> Stop {
+    elements(cursor, &mut Judge).err().expect("it is refused")
+}
+
+/// The elements of a PDU.
+#[inline(always)]
+fn elements<V: Visitor>(mut cursor: Cursor<'_>, visitor: &mut V) -> Result<Head, Stop> {
     let cursor = &mut cursor;
-    if cursor.take(6)? != SS_TYPE {
-        return Err(Refusal::Value);
-    }
-    let pdu_type = cursor.take(5)?;
-    match pdu_type {
-        INTERROGATE | INTERROGATE_ACK => visitor.element(record::PDU_TYPE, pdu_type),
-        0..=10 | 13 => return Err(Refusal::OtherType),
-        _ => return Err(Refusal::Value),
-    }
+    cursor.take(6, |ss_type| unless(ss_type == SS_TYPE))?;
+    let pdu_type = cursor.take(5, |pdu_type| match pdu_type {
+        INTERROGATE | INTERROGATE_ACK => None,
+        0..=10 | 13 => Some(Refusal::OtherType),
+        _ => Some(Refusal::Value),
+    })?;
+    visitor.element(record::PDU_TYPE, pdu_type);
     let (affected_code, user) = identities(cursor, visitor, List::Affected)?;
     let mut result = 0;
     if pdu_type == INTERROGATE {
-        let interrogation_type = cursor.take(2)?;
-        if interrogation_type == 0 {
-            return Err(Refusal::Value);
-        }
+        let interrogation_type = cursor.take(2, |code| unless(code != 0))?;
         visitor.element(record::INTERROGATION_TYPE, interrogation_type);
     } else {
-        result = cursor.take(3)?;
-        if result == 5 {
-            return Err(Refusal::Value);
-        }
+        result = cursor.take(3, |code| unless(code != 5))?;
         visitor.element(record::RESULT, result);
-        visitor.element(record::DELIVERY, cursor.take(2)?);
+        visitor.element(record::DELIVERY, cursor.take(2, |_| None)?);
         services(cursor, visitor)?;
         match result {
             IDENTITIES_PROVIDED => {
@@ -157,32 +168,40 @@ pub fn walk<V: Visitor>(mut cursor: Cursor<'_>, visitor: &mut V) -> Result<Head,
         }
     }
     if cursor.left() != 0 {
-        return Err(Refusal::Left);
+        return Err(cursor.stop(0, Refusal::Left));
     }
     Ok(Head { pdu_type, result, affected_code, user })
 }
 
 /// The number of services and the services.
 #[inline(always)]
-fn services<V: Visitor>(cursor: &mut Cursor<'_>, visitor: &mut V) -> Result<(), Refusal> {
-    let count = cursor.take(3)?;
-    if count == 0 {
-        return Err(Refusal::Value);
-    }
+fn services<V: Visitor>(cursor: &mut Cursor<'_>, visitor: &mut V) -> Result<(), Stop> {
+    let count = cursor.take(3, |count| unless(count != 0))?;
     visitor.element(record::SERVICE_COUNT, count);
     let count = count as usize;
     let window = cursor.window();
     // Services of 4 to 7 have their first bit set.
     let refused = window & (0o4444444 << 43) & !(u64::MAX >> (3 * count));
     if refused != 0 || cursor.left() < 3 * count {
-        let whole = cursor.left() / 3;
-        let first = refused.leading_zeros() as usize / 3;
-        return Err(if first < whole { Refusal::Value } else { Refusal::Short });
+        return Err(stop_among(cursor, 3, refused.leading_zeros() as usize / 3));
     }
     for place in 0..count {
         visitor.service(place, (window >> (61 - 3 * place)) as u32 & 3);
     }
-    cursor.skip(3 * count)
+    cursor.skip(3 * count);
+    Ok(())
+}
+
+/// Where a run of elements of `width` bits stops: at the first that is refused, or at the first that is not
+/// there whole.
+#[inline(always)]
+fn stop_among(cursor: &Cursor<'_>, width: usize, first_refused: usize) -> Stop {
+    let whole = cursor.left() / width;
+    if first_refused < whole {
+        cursor.stop(width * first_refused, Refusal::Value)
+    } else {
+        cursor.stop(width * whole, Refusal::Short)
+    }
 }
 
 /// A range type and its identity entries: the code, and the first entry if there is one.
@@ -191,11 +210,10 @@ fn identities<V: Visitor>(
     cursor: &mut Cursor<'_>,
     visitor: &mut V,
     list: List,
-) -> Result<(u32, Identity), Refusal> {
-    let code = cursor.take(4)?;
+) -> Result<(u32, Identity), Stop> {
+    let code = cursor.take(4, |code| unless(code <= RANGE && (code > 0 || list != List::Affected)))?;
     let mut first = Identity { ssi: 0, present: false, extension: 0 };
     match code {
-        0 if list != List::Affected => {}
         1..=8 => {
             for place in 0..code as usize {
                 let entry = identity(cursor)?;
@@ -207,13 +225,14 @@ fn identities<V: Visitor>(
         }
         RANGE => {
             first = identity(cursor)?;
+            let second_end = *cursor;
             let last = identity(cursor)?;
             if first.present != last.present || first.extension != last.extension || first.ssi > last.ssi {
-                return Err(Refusal::Ends);
+                return Err(second_end.stop(0, Refusal::Ends));
             }
             visitor.range(list, first, last);
         }
-        _ => return Err(Refusal::Value),
+        _ => {}
     }
     visitor.range_type(list, code);
     Ok((code, first))
@@ -221,25 +240,33 @@ fn identities<V: Visitor>(
 
 /// An identity entry: no value of its elements is refused, so only its end is looked at.
 #[inline(always)]
-fn identity(cursor: &mut Cursor<'_>) -> Result<Identity, Refusal> {
+fn identity(cursor: &mut Cursor<'_>) -> Result<Identity, Stop> {
     let window = cursor.window();
     let ssi = (window >> 40) as u32;
-    if window & 1 << 39 != 0 {
-        cursor.skip(49)?;
-        Ok(Identity { ssi, present: true, extension: (window >> 15) as u32 & 0xff_ffff })
-    } else {
-        cursor.skip(25)?;
-        Ok(Identity { ssi, present: false, extension: 0 })
+    let present = window & 1 << 39 != 0;
+    let width = if present { 49 } else { 25 };
+    if cursor.left() < width {
+        return Err(stop_in_identity(cursor));
     }
+    cursor.skip(width);
+    Ok(Identity { ssi, present, extension: if present { (window >> 15) as u32 & 0xff_ffff } else { 0 } })
+}
+
+/// Where an identity entry that is not there whole stops: at its SSI, its present bit or its extension.
+#[inline(always)]
+fn stop_in_identity(cursor: &Cursor<'_>) -> Stop {
+    let whole = match cursor.left() {
+        ..24 => 0,
+        24 => 24,
+        _ => 25,
+    };
+    cursor.stop(whole, Refusal::Short)
 }
 
 /// A range type and its external numbers.
 #[inline(always)]
-fn numbers<V: Visitor>(cursor: &mut Cursor<'_>, visitor: &mut V, list: List) -> Result<(), Refusal> {
-    let code = cursor.take(4)?;
-    if code > 8 {
-        return Err(Refusal::Value);
-    }
+fn numbers<V: Visitor>(cursor: &mut Cursor<'_>, visitor: &mut V, list: List) -> Result<(), Stop> {
+    let code = cursor.take(4, |code| unless(code <= 8))?;
     visitor.range_type(list, code);
     for place in 0..code as usize {
         let entry = number(cursor)?;
@@ -250,19 +277,15 @@ fn numbers<V: Visitor>(cursor: &mut Cursor<'_>, visitor: &mut V, list: List) -> 
 
 /// An external number: its length, then each digit.
 #[inline(always)]
-fn number(cursor: &mut Cursor<'_>) -> Result<Number, Refusal> {
-    let length = cursor.take(5)?;
-    if !(1..=DIGITS as u32).contains(&length) {
-        return Err(Refusal::Value);
-    }
+fn number(cursor: &mut Cursor<'_>) -> Result<Number, Stop> {
+    let length = cursor.take(5, |length| unless((1..=DIGITS as u32).contains(&length)))?;
     let window = cursor.wide_window();
     let first_refused = first_refused_digit(window);
     let width = 4 * length as usize;
     if first_refused < length as usize || cursor.left() < width {
-        let whole = cursor.left() / 4;
-        return Err(if first_refused < whole { Refusal::Value } else { Refusal::Short });
+        return Err(stop_among(cursor, 4, first_refused));
     }
-    cursor.skip(width)?;
+    cursor.skip(width);
     Ok(Number { length, digits: window & !(u128::MAX >> width) })
 }
 
@@ -328,8 +351,9 @@ impl Visitor for Fill {
 
 /// Reads a PDU of `bits` bits into a record of [`RECORD_WORDS`] words.
 ///
-/// Refuses with 9 (word count), 1, then element by element 2, 3, 4 and 10, and 5 last.
-pub fn read(pdu: &[u8], bits: usize, record: &mut [u32]) -> Result<(), Refusal> {
+/// Refuses with 9 (word count), 1, then element by element 2, 3, 4 and 10, and 5 last. All but 9 and 1 bring
+/// the place.
+pub fn read(pdu: &[u8], bits: usize, record: &mut [u32]) -> Result<(), Refused> {
     let record: &mut [u32; RECORD_WORDS] = record.try_into().map_err(|_| Refusal::Range)?;
     let cursor = frame(pdu, bits)?;
     let mut filled = Fill([0; RECORD_WORDS]);

@@ -1,4 +1,4 @@
-//! Refusal numbers.
+//! Refusal numbers, and where a call stopped.
 
 /// Why a call was refused; the discriminants are the scope's numbers.
 #[derive(Clone, Copy, Debug, PartialEq, Eq)]
@@ -32,5 +32,42 @@ impl Refusal {
     /// The scope's number, 1 to 11.
     pub const fn number(self) -> u32 {
         self as u32
+    }
+}
+
+/// A refused call: why it was, and where it stopped.
+#[derive(Clone, Copy, Debug, PartialEq, Eq)]
+pub struct Refused {
+    /// Why.
+    pub why: Refusal,
+    /// The first entry of the archive whose body is at fault, from 0; of an archive's refusal alone.
+    pub entry: Option<usize>,
+    /// The first bit of the element at fault, from 0, in the PDU or in that entry's body.
+    pub place: Option<usize>,
+}
+
+impl Refused {
+    /// The scope's number, 1 to 11.
+    pub const fn number(self) -> u32 {
+        self.why.number()
+    }
+}
+
+/// A refusal that stopped nowhere.
+impl From<Refusal> for Refused {
+    fn from(why: Refusal) -> Self {
+        Refused { why, entry: None, place: None }
+    }
+}
+
+/// Why and at which bit, from 0, reading stopped.
+pub struct Stop {
+    pub why: Refusal,
+    pub place: usize,
+}
+
+impl From<Stop> for Refused {
+    fn from(Stop { why, place }: Stop) -> Self {
+        Refused { why, entry: None, place: Some(place) }
     }
 }

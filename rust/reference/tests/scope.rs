@@ -1,7 +1,7 @@
 //! The profiles and examples of the scope (document 01), and the orders of its refusals.
 
 use reference::layout::{record, request, RECORD_WORDS, REQUEST_WORDS};
-use reference::{capture, contents, decide, empty, read, restore, write, Decision, Refusal};
+use reference::{capture, contents, decide, empty, read, restore, write, Decision, Refusal, Refused};
 
 /// Profile A as a PDU of 138 bits.
 const A: [u8; 18] = [
@@ -12,6 +12,11 @@ const A: [u8; 18] = [
 const INTERROGATE: [u8; 6] = [0x49, 0x62, 0x00, 0x00, 0x0a, 0x40];
 
 type Record = [u32; RECORD_WORDS];
+
+/// Why a call was refused, wherever it stopped.
+fn why<T>(answer: Result<T, Refused>) -> Result<T, Refusal> {
+    answer.map_err(|refused| refused.why)
+}
 
 fn list(words: &mut Record, list: usize, code: u32, ssis: &[u32]) {
     words[list] = code;
@@ -220,7 +225,7 @@ fn example_archive() {
     let mut out = [0; 64];
     let length = contents(&archive, &mut out).unwrap();
     assert_eq!(&out[..length], b"home 1 entries 1\n1 5 part 1 bits 138\n");
-    assert_eq!(contents(&archive, &mut [0; 36]), Err(Refusal::Room));
+    assert_eq!(why(contents(&archive, &mut [0; 36])), Err(Refusal::Room));
     assert_eq!(restore(&archive, 1, 5, 1, &mut out), Ok(138));
     assert_eq!(out[..18], A);
 }
@@ -242,17 +247,17 @@ fn the_home_network_spelt_out_is_the_same_user() {
 #[test]
 fn orders_of_refusals() {
     let mut words = [7; RECORD_WORDS];
-    assert_eq!(read(&A, 137, &mut words), Err(Refusal::Short));
-    assert_eq!(read(&[], 0, &mut words), Err(Refusal::Short));
-    assert_eq!(read(&[0], 0, &mut words), Err(Refusal::Frame));
-    assert_eq!(read(&[0; 512], 4096, &mut words), Err(Refusal::Value));
-    assert_eq!(read(&[0; 513], 4097, &mut words), Err(Refusal::Frame));
-    assert_eq!(read(&A, usize::MAX, &mut words), Err(Refusal::Frame));
-    assert_eq!(read(&A, 144, &mut words), Err(Refusal::Left));
-    assert_eq!(read(&[0x48, 0x40], 11, &mut words), Err(Refusal::OtherType));
-    assert_eq!(read(&[0x49, 0xc0], 11, &mut words), Err(Refusal::Value));
-    assert_eq!(read(&[0x49, 0x80], 11, &mut words), Err(Refusal::Short));
-    assert_eq!(read(&A, 138, &mut words[1..]), Err(Refusal::Range));
+    assert_eq!(why(read(&A, 137, &mut words)), Err(Refusal::Short));
+    assert_eq!(why(read(&[], 0, &mut words)), Err(Refusal::Short));
+    assert_eq!(why(read(&[0], 0, &mut words)), Err(Refusal::Frame));
+    assert_eq!(why(read(&[0; 512], 4096, &mut words)), Err(Refusal::Value));
+    assert_eq!(why(read(&[0; 513], 4097, &mut words)), Err(Refusal::Frame));
+    assert_eq!(why(read(&A, usize::MAX, &mut words)), Err(Refusal::Frame));
+    assert_eq!(why(read(&A, 144, &mut words)), Err(Refusal::Left));
+    assert_eq!(why(read(&[0x48, 0x40], 11, &mut words)), Err(Refusal::OtherType));
+    assert_eq!(why(read(&[0x49, 0xc0], 11, &mut words)), Err(Refusal::Value));
+    assert_eq!(why(read(&[0x49, 0x80], 11, &mut words)), Err(Refusal::Short));
+    assert_eq!(why(read(&A, 138, &mut words[1..])), Err(Refusal::Range));
     assert!(words.iter().all(|word| *word == 7));
 
     // A stray value far behind a reversed range gives 3, not 4.
@@ -264,15 +269,15 @@ fn orders_of_refusals() {
     assert_eq!(write(&profile(1, &[], (9, &[200, 1 << 24]), &[]), &mut out), Err(Refusal::Value));
 
     let mut archive = archive_with(&profile_a());
-    assert_eq!(capture(&archive, &INTERROGATE, 42, &mut out[..0]), Err(Refusal::Unfit));
-    assert_eq!(restore(&archive, 1, 6, 1, &mut out[..0]), Err(Refusal::NotHeld));
-    assert_eq!(restore(&archive, 1, 5, 1, &mut out[..17]), Err(Refusal::Room));
+    assert_eq!(why(capture(&archive, &INTERROGATE, 42, &mut out[..0])), Err(Refusal::Unfit));
+    assert_eq!(why(restore(&archive, 1, 6, 1, &mut out[..0])), Err(Refusal::NotHeld));
+    assert_eq!(why(restore(&archive, 1, 5, 1, &mut out[..17])), Err(Refusal::Room));
     archive.push(0);
-    assert_eq!(capture(&archive, &A, 137, &mut out), Err(Refusal::Archive));
-    assert_eq!(restore(&archive, 1, 6, 1, &mut out), Err(Refusal::Archive));
-    assert_eq!(restore(&archive, 1, 5, 3, &mut out), Err(Refusal::Range));
-    assert_eq!(decide(&archive, &call(1, [1, 100], None)), Err(Refusal::Archive));
-    assert_eq!(decide(&archive, &call(0, [1, 100], None)), Err(Refusal::Range));
+    assert_eq!(why(capture(&archive, &A, 137, &mut out)), Err(Refusal::Archive));
+    assert_eq!(why(restore(&archive, 1, 6, 1, &mut out)), Err(Refusal::Archive));
+    assert_eq!(why(restore(&archive, 1, 5, 3, &mut out)), Err(Refusal::Range));
+    assert_eq!(why(decide(&archive, &call(1, [1, 100], None))), Err(Refusal::Archive));
+    assert_eq!(why(decide(&archive, &call(0, [1, 100], None))), Err(Refusal::Range));
     assert_eq!(empty(1 << 24, &mut out[..0]), Err(Refusal::Range));
     assert_eq!(empty(0, &mut out[..4]), Err(Refusal::Room));
     assert!(out.iter().all(|byte| *byte == 7));
