@@ -14,6 +14,7 @@ mod c {
             bits: usize,
             record: *mut u32,
             record_words: usize,
+            place: *mut usize,
         ) -> u32;
         pub fn boc_write(
             record: *const u32,
@@ -32,6 +33,8 @@ mod c {
             out: *mut u8,
             out_len: usize,
             length: *mut usize,
+            entry: *mut usize,
+            place: *mut usize,
         ) -> u32;
         pub fn boc_restore(
             archive: *const u8,
@@ -42,6 +45,8 @@ mod c {
             out: *mut u8,
             out_len: usize,
             bits: *mut usize,
+            entry: *mut usize,
+            place: *mut usize,
         ) -> u32;
         pub fn boc_decide(
             archive: *const u8,
@@ -49,6 +54,8 @@ mod c {
             request: *const u32,
             request_words: usize,
             decision: *mut u32,
+            entry: *mut usize,
+            place: *mut usize,
         ) -> u32;
         pub fn boc_contents(
             archive: *const u8,
@@ -56,14 +63,34 @@ mod c {
             out: *mut u8,
             out_len: usize,
             length: *mut usize,
+            entry: *mut usize,
+            place: *mut usize,
         ) -> u32;
     }
 }
 
+/// `BOC_NOWHERE`.
+pub const NOWHERE: usize = usize::MAX;
+
+/// What is behind the pointers `entry` and `place`: a refused call writes both, [`NOWHERE`] where its
+/// refusal has none, and an accepted one leaves them.
+#[derive(Clone, Copy, Debug, PartialEq, Eq)]
+pub struct Spot {
+    /// The index of an entry of the archive.
+    pub entry: usize,
+    /// The place of a bit in the PDU, or in the entry's body.
+    pub place: usize,
+}
+
+impl Spot {
+    /// No entry and no place.
+    pub const NONE: Spot = Spot { entry: NOWHERE, place: NOWHERE };
+}
+
 /// `boc_read`.
-pub fn read(pdu: &[u8], bits: usize, record: &mut [u32]) -> u32 {
-    // SAFETY: slices, as above.
-    unsafe { c::boc_read(pdu.as_ptr(), pdu.len(), bits, record.as_mut_ptr(), record.len()) }
+pub fn read(pdu: &[u8], bits: usize, record: &mut [u32], place: &mut usize) -> u32 {
+    // SAFETY: slices and a reference, as above.
+    unsafe { c::boc_read(pdu.as_ptr(), pdu.len(), bits, record.as_mut_ptr(), record.len(), place) }
 }
 
 /// `boc_write`.
@@ -79,29 +106,48 @@ pub fn empty(home: u32, out: &mut [u8], length: &mut usize) -> u32 {
 }
 
 /// `boc_capture`.
-pub fn capture(archive: &[u8], pdu: &[u8], bits: usize, out: &mut [u8], length: &mut usize) -> u32 {
+pub fn capture(
+    archive: &[u8],
+    pdu: &[u8],
+    bits: usize,
+    out: &mut [u8],
+    length: &mut usize,
+    Spot { entry, place }: &mut Spot,
+) -> u32 {
     let (held, held_len) = (archive.as_ptr(), archive.len());
-    // SAFETY: slices and a reference, as above.
+    let (out, out_len) = (out.as_mut_ptr(), out.len());
+    // SAFETY: slices and references, as above.
     unsafe {
-        c::boc_capture(held, held_len, pdu.as_ptr(), pdu.len(), bits, out.as_mut_ptr(), out.len(), length)
+        c::boc_capture(held, held_len, pdu.as_ptr(), pdu.len(), bits, out, out_len, length, entry, place)
     }
 }
 
 /// `boc_restore`.
-pub fn restore(archive: &[u8], network: u32, ssi: u32, part: u32, out: &mut [u8], bits: &mut usize) -> u32 {
+pub fn restore(
+    archive: &[u8],
+    network: u32,
+    ssi: u32,
+    part: u32,
+    out: &mut [u8],
+    bits: &mut usize,
+    Spot { entry, place }: &mut Spot,
+) -> u32 {
     let (held, held_len) = (archive.as_ptr(), archive.len());
-    // SAFETY: slices and a reference, as above.
-    unsafe { c::boc_restore(held, held_len, network, ssi, part, out.as_mut_ptr(), out.len(), bits) }
+    let (out, out_len) = (out.as_mut_ptr(), out.len());
+    // SAFETY: slices and references, as above.
+    unsafe { c::boc_restore(held, held_len, network, ssi, part, out, out_len, bits, entry, place) }
 }
 
 /// `boc_decide`.
-pub fn decide(archive: &[u8], request: &[u32], decision: &mut u32) -> u32 {
-    // SAFETY: slices and a reference, as above.
-    unsafe { c::boc_decide(archive.as_ptr(), archive.len(), request.as_ptr(), request.len(), decision) }
+pub fn decide(archive: &[u8], request: &[u32], decision: &mut u32, Spot { entry, place }: &mut Spot) -> u32 {
+    let (held, held_len) = (archive.as_ptr(), archive.len());
+    // SAFETY: slices and references, as above.
+    unsafe { c::boc_decide(held, held_len, request.as_ptr(), request.len(), decision, entry, place) }
 }
 
 /// `boc_contents`.
-pub fn contents(archive: &[u8], out: &mut [u8], length: &mut usize) -> u32 {
-    // SAFETY: slices and a reference, as above.
-    unsafe { c::boc_contents(archive.as_ptr(), archive.len(), out.as_mut_ptr(), out.len(), length) }
+pub fn contents(archive: &[u8], out: &mut [u8], length: &mut usize, Spot { entry, place }: &mut Spot) -> u32 {
+    let (held, held_len) = (archive.as_ptr(), archive.len());
+    // SAFETY: slices and references, as above.
+    unsafe { c::boc_contents(held, held_len, out.as_mut_ptr(), out.len(), length, entry, place) }
 }

@@ -2,9 +2,9 @@
 //! plain structs and enums.
 //!
 //! It reads and writes INTERROGATE and INTERROGATE ACK PDUs, keeps INTERROGATE ACKs in an archive, restores
-//! them bit for bit, and decides calls from it. Every call answers with a value or a [`Refusal`]; a refused
-//! call changes no byte of what it was lent, and an accepted one leaves the bytes after what it wrote.
-//! Nothing is allocated.
+//! them bit for bit, and decides calls from it. Every call answers with a value or a [`Refusal`], which a call
+//! that reads brings as [`Refused`], with the bit or the entry where it stopped. A refused call changes no
+//! byte of what it was lent, and an accepted one leaves the bytes after what it wrote. Nothing is allocated.
 //!
 //! A PDU is a number of bits, most significant first, in exactly the bytes that hold them, with zero bits
 //! after them. An archive is exactly the slice that was written: the first N bytes of the buffer, where N is
@@ -44,9 +44,13 @@
 //!
 //! let mut back = [0; PDU_BYTES];
 //! assert_eq!(restore(archive, user, Part::Identity, &mut back), Ok(bits));
-//! assert_eq!(restore(archive, user, Part::Number, &mut back), Err(Refusal::NotHeld));
 //! assert_eq!(&back[..pdu.len()], pdu);
-//! # Ok::<(), Refusal>(())
+//!
+//! let refused = restore(archive, user, Part::Number, &mut back).unwrap_err();
+//! assert_eq!(refused.why, Refusal::NotHeld);
+//! let refused = read(pdu, bits + 1).unwrap_err();
+//! assert_eq!((refused.why, refused.place), (Refusal::Left, Some(bits)));
+//! # Ok::<(), Refused>(())
 //! ```
 //!
 //! Building needs `libboc.a` for the target's processor, in the folder that `BOC_LIB_DIR` names.
@@ -64,8 +68,10 @@ mod words;
 
 pub use codes::{Decision, DeliveryStatus, InterrogationType, Outcome, Part, PduType, Service};
 pub use record::{Identities, Identity, List, Number, Numbers, Record, Services, RECORD_WORDS};
-pub use refusal::Refusal;
+pub use refusal::{Refusal, Refused};
 pub use request::{Destination, Party, Request, REQUEST_WORDS};
+
+use ffi::Spot;
 
 /// Bytes of the longest PDU that is read or written.
 pub const PDU_BYTES: usize = 307;
@@ -78,10 +84,11 @@ pub const CONTENTS_BYTES: usize = 26 + 35 * 512;
 ///
 /// Refuses with [`Frame`](Refusal::Frame); then, element by element, with [`Short`](Refusal::Short),
 /// [`Value`](Refusal::Value), [`OtherType`](Refusal::OtherType) and [`Ends`](Refusal::Ends); then with
-/// [`Left`](Refusal::Left).
-pub fn read(pdu: &[u8], bits: usize) -> Result<Record, Refusal> {
+/// [`Left`](Refusal::Left). All but the first bring the place.
+pub fn read(pdu: &[u8], bits: usize) -> Result<Record, Refused> {
     let mut words = [0; RECORD_WORDS];
-    Refusal::check(ffi::read(pdu, bits, &mut words))?;
+    let mut spot = Spot::NONE;
+    Refused::check(ffi::read(pdu, bits, &mut words, &mut spot.place), spot)?;
     Ok(Record::from_words(&words).expect("what is read is a record"))
 }
 
@@ -90,7 +97,8 @@ pub fn read(pdu: &[u8], bits: usize) -> Result<Record, Refusal> {
 /// Refuses with [`Value`](Refusal::Value) for anything that must be zero and is not; then, element by
 /// element, with [`Value`](Refusal::Value) and [`Ends`](Refusal::Ends); then with [`Room`](Refusal::Room).
 pub fn write(record: &Record, out: &mut [u8]) -> Result<usize, Refusal> {
-    answer(|bits| ffi::write(&record.to_words(), out, bits))
+    let mut bits = 0;
+    Refusal::check(ffi::write(&record.to_words(), out, &mut bits)).map(|()| bits)
 }
 
 /// Writes the archive of a home network that holds nothing to the front of `out`; answers its length in
@@ -98,7 +106,8 @@ pub fn write(record: &Record, out: &mut [u8]) -> Result<usize, Refusal> {
 ///
 /// Refuses with [`Range`](Refusal::Range), then with [`Room`](Refusal::Room).
 pub fn empty(home: u32, out: &mut [u8]) -> Result<usize, Refusal> {
-    answer(|length| ffi::empty(home, out, length))
+    let mut length = 0;
+    Refusal::check(ffi::empty(home, out, &mut length)).map(|()| length)
 }
 
 /// Writes to the front of `out` the archive that holds the PDU of `bits` bits too, in place of one for the
@@ -106,35 +115,35 @@ pub fn empty(home: u32, out: &mut [u8]) -> Result<usize, Refusal> {
 ///
 /// Refuses with [`Archive`](Refusal::Archive), then as [`read`] does, then with [`Unfit`](Refusal::Unfit),
 /// then with [`Room`](Refusal::Room).
-pub fn capture(archive: &[u8], pdu: &[u8], bits: usize, out: &mut [u8]) -> Result<usize, Refusal> {
-    answer(|length| ffi::capture(archive, pdu, bits, out, length))
+pub fn capture(archive: &[u8], pdu: &[u8], bits: usize, out: &mut [u8]) -> Result<usize, Refused> {
+    answer(|length, spot| ffi::capture(archive, pdu, bits, out, length, spot))
 }
 
 /// Writes the PDU held for a user and part to the front of `out`; answers its length in bits.
 ///
 /// Refuses with [`Range`](Refusal::Range), [`Archive`](Refusal::Archive), [`NotHeld`](Refusal::NotHeld) and
 /// [`Room`](Refusal::Room), in this order.
-pub fn restore(archive: &[u8], user: Party, part: Part, out: &mut [u8]) -> Result<usize, Refusal> {
-    answer(|bits| ffi::restore(archive, user.network, user.ssi, part.number(), out, bits))
+pub fn restore(archive: &[u8], user: Party, part: Part, out: &mut [u8]) -> Result<usize, Refused> {
+    answer(|bits, spot| ffi::restore(archive, user.network, user.ssi, part.number(), out, bits, spot))
 }
 
 /// Decides a call by the part that the archive holds for its user.
 ///
 /// Refuses with [`Range`](Refusal::Range), then with [`Archive`](Refusal::Archive).
-pub fn decide(archive: &[u8], request: &Request) -> Result<Decision, Refusal> {
-    let number = answer(|decision| ffi::decide(archive, &request.to_words(), decision))?;
+pub fn decide(archive: &[u8], request: &Request) -> Result<Decision, Refused> {
+    let number = answer(|decision, spot| ffi::decide(archive, &request.to_words(), decision, spot))?;
     Ok(Decision::from_number(number).expect("what is decided is a decision"))
 }
 
 /// Writes the listing of an archive to the front of `out` as text; answers its length in bytes.
 ///
 /// Refuses with [`Archive`](Refusal::Archive), then with [`Room`](Refusal::Room).
-pub fn contents(archive: &[u8], out: &mut [u8]) -> Result<usize, Refusal> {
-    answer(|length| ffi::contents(archive, out, length))
+pub fn contents(archive: &[u8], out: &mut [u8]) -> Result<usize, Refused> {
+    answer(|length, spot| ffi::contents(archive, out, length, spot))
 }
 
-/// The number that a call answers, or its refusal.
-fn answer<N: Default>(call: impl FnOnce(&mut N) -> u32) -> Result<N, Refusal> {
-    let mut number = N::default();
-    Refusal::check(call(&mut number)).map(|()| number)
+/// The number that a call on an archive answers, or its refusal.
+fn answer<N: Default>(call: impl FnOnce(&mut N, &mut Spot) -> u32) -> Result<N, Refused> {
+    let (mut number, mut spot) = (N::default(), Spot::NONE);
+    Refused::check(call(&mut number, &mut spot), spot).map(|()| number)
 }

@@ -1,6 +1,8 @@
-//! Refusals.
+//! Refusals, and where a call stopped.
 
 use core::fmt;
+
+use crate::ffi::{Spot, NOWHERE};
 
 /// Why a call was refused; the discriminants are the library's numbers.
 #[derive(Clone, Copy, Debug, PartialEq, Eq, Hash)]
@@ -80,3 +82,53 @@ impl fmt::Display for Refusal {
 }
 
 impl core::error::Error for Refusal {}
+
+/// A refused call that reads: why it was refused, and where it stopped.
+#[derive(Clone, Copy, Debug, PartialEq, Eq, Hash)]
+pub struct Refused {
+    /// Why.
+    pub why: Refusal,
+    /// The first entry whose body is at fault, from 0. Only [`Archive`](Refusal::Archive) has one, where the
+    /// archive's header, contents and length are right.
+    pub entry: Option<usize>,
+    /// The first bit, from 0, of the element at which reading stopped, in the PDU or in that entry's body.
+    ///
+    /// [`Short`](Refusal::Short): the element that is not there whole, which may be at the PDU's length.
+    /// [`Value`](Refusal::Value), [`OtherType`](Refusal::OtherType): the element that is refused.
+    /// [`Ends`](Refusal::Ends): the second end's SSI. [`Left`](Refusal::Left): the first bit left.
+    pub place: Option<usize>,
+}
+
+impl Refused {
+    /// What a call that returned `number` answers: nothing for 0, otherwise its refusal, and the spot that it
+    /// wrote.
+    pub(crate) fn check(number: u32, spot: Spot) -> Result<(), Refused> {
+        let somewhere = |index: usize| (index != NOWHERE).then_some(index);
+        Refusal::check(number).map_err(|why| Refused {
+            why,
+            entry: somewhere(spot.entry),
+            place: somewhere(spot.place),
+        })
+    }
+}
+
+/// A refusal that stopped nowhere.
+impl From<Refusal> for Refused {
+    fn from(why: Refusal) -> Self {
+        Refused { why, entry: None, place: None }
+    }
+}
+
+impl fmt::Display for Refused {
+    fn fmt(&self, f: &mut fmt::Formatter<'_>) -> fmt::Result {
+        self.why.fmt(f)?;
+        match (self.entry, self.place) {
+            (None, None) => Ok(()),
+            (None, Some(place)) => write!(f, ", at bit {place}"),
+            (Some(entry), None) => write!(f, ", at entry {entry}"),
+            (Some(entry), Some(place)) => write!(f, ", at entry {entry}, bit {place}"),
+        }
+    }
+}
+
+impl core::error::Error for Refused {}

@@ -20,7 +20,7 @@ fn profile_a() -> Record {
     }
 }
 
-fn captured(record: &Record, archive: &[u8]) -> Result<Vec<u8>, Refusal> {
+fn captured(record: &Record, archive: &[u8]) -> Result<Vec<u8>, Refused> {
     let mut pdu = [0; PDU_BYTES];
     let bits = write(record, &mut pdu)?;
     let mut out = vec![0; ARCHIVE_BYTES];
@@ -73,8 +73,9 @@ fn a_record_has_the_words_of_the_header() {
     assert_eq!(profile_a().to_words(), words);
     assert_eq!(Record::from_words(&words), Some(profile_a()));
     let mut read = [0; RECORD_WORDS];
-    assert_eq!(ffi::read(&PROFILE_A, 138, &mut read), 0);
-    assert_eq!(read, words);
+    let mut place = 7;
+    assert_eq!(ffi::read(&PROFILE_A, 138, &mut read, &mut place), 0);
+    assert_eq!((read, place), (words, 7));
 }
 
 #[test]
@@ -91,24 +92,70 @@ fn words_that_no_record_has_are_none() {
     assert_eq!(Record::from_words(&words), None);
 }
 
+/// A refused call.
+fn refused<T>(why: Refusal, entry: Option<usize>, place: Option<usize>) -> Result<T, Refused> {
+    Err(Refused { why, entry, place })
+}
+
+#[test]
+fn refusals_of_a_pdu_have_their_place() {
+    let mut reversed = PROFILE_A;
+    reversed[7] |= 0x10;
+    assert_eq!(read(&PROFILE_A, 145), refused(Refusal::Frame, None, None));
+    assert_eq!(read(&PROFILE_A, 137), refused(Refusal::Short, None, Some(137)));
+    assert_eq!(read(&[0, 0], 11), refused(Refusal::Value, None, Some(0)));
+    assert_eq!(read(&reversed, 138), refused(Refusal::Ends, None, Some(84)));
+    assert_eq!(read(&PROFILE_A, 144), refused(Refusal::Left, None, Some(138)));
+    assert_eq!(read(&[0x48, 0x40], 11), refused(Refusal::OtherType, None, Some(6)));
+    let mut out = [0; 64];
+    assert_eq!(capture(&example(), &PROFILE_A, 144, &mut out), refused(Refusal::Left, None, Some(138)));
+}
+
+#[test]
+fn refusals_of_an_archive_have_their_entry() {
+    let whole =
+        captured(&Record { affected: List::of([Identity::without_extension(6)]), ..profile_a() }, &example());
+    let whole = whole.unwrap();
+    let broken = |place: usize, entry, bit| {
+        let mut archive = whole.clone();
+        archive[place] ^= 1;
+        let expected = refused(Refusal::Archive, entry, bit);
+        assert_eq!(contents(&archive, &mut [0; 100]), expected);
+        assert_eq!(capture(&archive, &PROFILE_A, 137, &mut [0; 100]), expected);
+        assert_eq!(restore(&archive, USER, Part::Identity, &mut [0; 100]), expected);
+    };
+    // The count; the first part, which is then number 0; the last unused bit; the second body's PDU type.
+    broken(4, None, None);
+    broken(11, None, None);
+    broken(58, Some(1), None);
+    broken(41, Some(1), Some(6));
+}
+
 #[test]
 fn refusals_have_their_numbers_and_words() {
     let mut small = [0; 4];
     let reversed = List::range(Identity::without_extension(200), Identity::without_extension(199));
-    assert_eq!(read(&PROFILE_A, 145), Err(Refusal::Frame));
-    assert_eq!(read(&PROFILE_A, 137), Err(Refusal::Short));
-    assert_eq!(read(&[0, 0], 11), Err(Refusal::Value));
-    assert_eq!(read(&PROFILE_A, 144), Err(Refusal::Left));
-    assert_eq!(read(&[0x48, 0x40], 11), Err(Refusal::OtherType));
     assert_eq!(write(&Record { restricted: reversed, ..profile_a() }, &mut small), Err(Refusal::Ends));
     assert_eq!(write(&profile_a(), &mut small), Err(Refusal::Room));
     assert_eq!(empty(1 << 24, &mut small), Err(Refusal::Range));
-    assert_eq!(contents(&PROFILE_A, &mut small), Err(Refusal::Archive));
-    assert_eq!(restore(&example(), USER, Part::Number, &mut small), Err(Refusal::NotHeld));
+    assert_eq!(contents(&PROFILE_A, &mut small), refused(Refusal::Archive, None, None));
+    assert_eq!(restore(&example(), USER, Part::Number, &mut small), refused(Refusal::NotHeld, None, None));
     let failed = Record { result: Outcome::Failed, restricted: List::default(), ..profile_a() };
     let failed = Record { exceptions: List::default(), ..failed };
-    assert_eq!(captured(&failed, &example()), Err(Refusal::Unfit));
+    assert_eq!(captured(&failed, &example()), refused(Refusal::Unfit, None, None));
     assert_eq!(Refusal::NotHeld.to_string(), "refused 11: not held");
+
+    let words = |why, entry, place| Refused { why, entry, place }.to_string();
+    assert_eq!(words(Refusal::NotHeld, None, None), "refused 11: not held");
+    assert_eq!(
+        words(Refusal::Value, None, Some(14)),
+        "refused 3: an element's value is reserved or refused, at bit 14"
+    );
+    assert_eq!(words(Refusal::Archive, Some(2), None), "refused 7: the archive breaks a rule, at entry 2");
+    assert_eq!(
+        words(Refusal::Archive, Some(2), Some(30)),
+        "refused 7: the archive breaks a rule, at entry 2, bit 30"
+    );
 }
 
 #[test]
@@ -142,7 +189,8 @@ fn an_archive_lists_restores_and_decides() {
     assert_eq!(decide(&archive, &elsewhere).map(Decision::cause), Ok(Some(0)));
     let in_group = Request { group: Some(Party { network: 2, ssi: 500 }), ..elsewhere };
     assert_eq!(decide(&archive, &in_group), Ok(Decision::Allowed));
-    assert_eq!(decide(&archive, &Request { service: Service::All, ..in_group }), Err(Refusal::Range));
+    let all = Request { service: Service::All, ..in_group };
+    assert_eq!(decide(&archive, &all), refused(Refusal::Range, None, None));
 }
 
 #[test]
@@ -152,5 +200,5 @@ fn lists_take_eight_entries() {
     let mut pdu = [0; PDU_BYTES];
     let bits = write(&record, &mut pdu).unwrap();
     assert_eq!(read(&pdu[..bits.div_ceil(8)], bits), Ok(record));
-    assert_eq!(captured(&record, &example()), Err(Refusal::Unfit));
+    assert_eq!(captured(&record, &example()), refused(Refusal::Unfit, None, None));
 }
