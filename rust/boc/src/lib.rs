@@ -2,9 +2,9 @@
 //! plain structs and enums.
 //!
 //! It reads and writes INTERROGATE and INTERROGATE ACK PDUs, keeps INTERROGATE ACKs in an archive, restores
-//! them bit for bit, and decides calls from it. Every call answers with a value or a [`Refusal`], which a call
-//! that reads brings as [`Refused`], with the bit or the entry where it stopped. A refused call changes no
-//! byte of what it was lent, and an accepted one leaves the bytes after what it wrote. Nothing is allocated.
+//! them bit for bit, and decides calls from it. Every call answers with a value or a [`Refusal`]; one that
+//! reads tells in [`Refused`] where it stopped, too. A refused call changes no byte of what it was lent, and
+//! an accepted one leaves the bytes after what it wrote. Nothing is allocated.
 //!
 //! A PDU is a number of bits, most significant first, in exactly the bytes that hold them, with zero bits
 //! after them. An archive is exactly the slice that was written: the first N bytes of the buffer, where N is

@@ -3,6 +3,7 @@
 use std::collections::BTreeSet;
 
 use reference::layout::{record as at, RECORD_WORDS};
+use reference::Refused;
 
 use crate::{network, part, record, ssi, Pdu, Rng, Size};
 
@@ -11,7 +12,7 @@ pub const MAX_BYTES: usize = 65_536;
 /// Most entries of an archive.
 pub const MAX_ENTRIES: usize = 512;
 /// What [`Archive::damaged`] changes, and the two ways in which an archive has too much.
-pub const DAMAGES: [&str; 19] = [
+pub const DAMAGES: [&str; 21] = [
     "home network's bits",
     "count's bits",
     "network's bits",
@@ -24,6 +25,8 @@ pub const DAMAGES: [&str; 19] = [
     "order",
     "an entry twice",
     "a damaged PDU",
+    "two damaged PDUs",
+    "a damaged PDU and the order",
     "another PDU",
     "another part",
     "another user",
@@ -127,6 +130,22 @@ impl Archive {
         bytes
     }
 
+    /// What a byte of the archive is of, as [`DAMAGES`] names it.
+    pub fn region(&self, byte: usize) -> &'static str {
+        let count = self.entries.len();
+        match byte {
+            0..3 => "home network's bits",
+            3..HEADER => "count's bits",
+            _ if byte >= HEADER + LINE * count => "body's bits",
+            _ => match (byte - HEADER) % LINE {
+                0..3 => "network's bits",
+                3..6 => "SSI's bits",
+                6 => "part's bits",
+                _ => "length's bits",
+            },
+        }
+    }
+
     /// The bytes after a change to an entry or to the bytes, most often to no archive, and what was changed.
     pub fn damaged(&self, rng: &mut Rng) -> (&'static str, Vec<u8>) {
         let count = self.entries.len();
@@ -137,13 +156,13 @@ impl Archive {
         let mut bytes = self.bytes();
         let (line, bodies) = (HEADER + LINE * rng.below(count.max(1)), HEADER + LINE * count);
         let regions = [
-            ("home network's bits", 0..3),
-            ("count's bits", 3..HEADER),
-            ("network's bits", line..line + 3),
-            ("SSI's bits", line + 3..line + 6),
-            ("part's bits", line + 6..line + 7),
-            ("length's bits", line + 7..line + LINE),
-            ("body's bits", bodies..bytes.len()),
+            0..3,
+            3..HEADER,
+            line..line + 3,
+            line + 3..line + 6,
+            line + 6..line + 7,
+            line + 7..line + LINE,
+            bodies..bytes.len(),
         ];
         match rng.below(8) {
             0 => {
@@ -155,9 +174,10 @@ impl Archive {
                 ("bytes after the end", bytes)
             }
             _ => {
-                let (region, range) = regions[rng.below(if count > 0 { regions.len() } else { 2 })].clone();
-                bytes[rng.between(range.start, range.end - 1)] ^= 1 << rng.below(8);
-                (region, bytes)
+                let range = &regions[rng.below(if count > 0 { regions.len() } else { 2 })];
+                let byte = rng.between(range.start, range.end - 1);
+                bytes[byte] ^= 1 << rng.below(8);
+                (self.region(byte), bytes)
             }
         }
     }
@@ -167,7 +187,7 @@ impl Archive {
         let other = rng.below(self.entries.len());
         let home = self.home;
         let entry = &mut self.entries[index];
-        match rng.below(8) {
+        match rng.below(10) {
             0 => {
                 self.entries.swap(index, other);
                 "order"
@@ -176,23 +196,33 @@ impl Archive {
                 self.entries.insert(index, self.entries[other].clone());
                 "an entry twice"
             }
-            2 => {
+            2 if index != other => {
+                entry.pdu.damage(rng);
+                self.entries[other].pdu.damage(rng);
+                "two damaged PDUs"
+            }
+            2 | 3 => {
                 entry.pdu.damage(rng);
                 "a damaged PDU"
             }
-            3 => {
+            4 => {
+                entry.pdu.damage(rng);
+                self.entries.swap(index, other);
+                "a damaged PDU and the order"
+            }
+            5 => {
                 entry.pdu = Pdu::of(&record(rng));
                 "another PDU"
             }
-            4 => {
+            6 => {
                 entry.part = rng.below(4) as u32;
                 "another part"
             }
-            5 => {
+            7 => {
                 entry.user = [network(rng), ssi(rng)];
                 "another user"
             }
-            6 => {
+            8 => {
                 entry.pdu = Pdu::of(&part(rng, home, entry.user, 3 - entry.part, Size::Small));
                 "the other part's PDU"
             }
@@ -202,6 +232,56 @@ impl Archive {
                 "another home network"
             }
         }
+    }
+}
+
+/// What may be at fault in an archive: its shape, or a body in one of these ways. Numbers are the refusals of
+/// a body that bring a place.
+pub const FAULTS: [&str; 11] = [
+    "shape",
+    "over 4,096 bits",
+    "unused bits",
+    "0 bits",
+    "2",
+    "3",
+    "4",
+    "5",
+    "10",
+    "may not be held",
+    "disagrees with its entry",
+];
+
+/// What is at fault in an archive that is refused so, looked up in the body of its entry.
+///
+/// A place that is not the one at which that body is refused by itself is a failure.
+pub fn fault(archive: &[u8], refused: Refused) -> &'static str {
+    let Some(index) = refused.entry else {
+        assert_eq!(refused.place, None, "a place without an entry");
+        return "shape";
+    };
+    let count = usize::from(u16::from_be_bytes([archive[3], archive[4]]));
+    let (lines, mut bodies) = archive[HEADER..].split_at(LINE * count);
+    let bits = |line: &[u8]| usize::from(u16::from_be_bytes([line[7], line[8]]));
+    for line in lines.chunks(LINE).take(index) {
+        bodies = &bodies[bits(line).div_ceil(8)..];
+    }
+    let bits = bits(&lines[LINE * index..]);
+    let mut words = [0; RECORD_WORDS];
+    let read = reference::read(&bodies[..bits.div_ceil(8)], bits, &mut words);
+    assert_eq!(refused.place, read.err().and_then(|body| body.place), "the place in a body");
+    match read.map_err(Refused::number) {
+        Err(1) if bits > 4096 => "over 4,096 bits",
+        Err(1) => "unused bits",
+        Err(2) if bits == 0 => "0 bits",
+        Err(2) => "2",
+        Err(3) => "3",
+        Err(4) => "4",
+        Err(5) => "5",
+        Err(_) => "10",
+        Ok(()) if matches!(words[at::RESULT], 1 | 2) && words[at::AFFECTED] == 1 => {
+            "disagrees with its entry"
+        }
+        Ok(()) => "may not be held",
     }
 }
 

@@ -11,9 +11,9 @@ mod requests;
 mod rng;
 pub mod typed;
 
-pub use archives::{lacking, Archive, Entry, DAMAGES, LACKS, MAX_BYTES, MAX_ENTRIES};
+pub use archives::{fault, lacking, Archive, Entry, DAMAGES, FAULTS, LACKS, MAX_BYTES, MAX_ENTRIES};
 pub use met::Met;
-pub use pdus::{damage_record, offered, part, record, Pdu, Record, Size};
+pub use pdus::{damage_record, longest, offered, part, record, Pdu, Record, Size};
 pub use requests::{damage_request, request, Request};
 pub use rng::Rng;
 

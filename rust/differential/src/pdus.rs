@@ -44,10 +44,23 @@ impl Pdu {
         }
     }
 
+    /// The PDU without its bits from a place on.
+    pub fn cut(&self, bits: usize) -> Self {
+        let mut pdu = Pdu { bits, ..self.clone() };
+        pdu.frame();
+        pdu
+    }
+
+    /// The PDU with the other bit at a place.
+    pub fn flipped(&self, place: usize) -> Self {
+        let mut pdu = self.clone();
+        pdu.bytes[place / 8] ^= 0x80 >> (place % 8);
+        pdu
+    }
+
     fn flip(&mut self, rng: &mut Rng) {
         if self.bits > 0 {
-            let place = rng.below(self.bits);
-            self.bytes[place / 8] ^= 0x80 >> (place % 8);
+            *self = self.flipped(rng.below(self.bits));
         }
     }
 
@@ -138,6 +151,13 @@ pub fn part(rng: &mut Rng, home: u32, user: [u32; 2], part: u32, size: Size) -> 
         if network == home && size != Size::Full && rng.one_in(2) { [ssi, 0, 0] } else { [ssi, 1, network] };
     words[at::AFFECTED] = 1;
     words[at::AFFECTED + 1..][..IDENTITY_WORDS].copy_from_slice(&entry);
+    words
+}
+
+/// The record of the longest part of a kind that a PDU can be: eight affected users, every list full.
+pub fn longest(rng: &mut Rng, kind: u32) -> Record {
+    let mut words = part(rng, 1, [2, 5], kind, Size::Full);
+    identities(rng, &mut words, at::AFFECTED, 8, Size::Full);
     words
 }
 

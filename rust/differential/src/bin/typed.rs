@@ -79,18 +79,27 @@ fn expected() -> Met {
     met.expect("decide, group given", [0, 1]);
     met.expect("decide, decision", numbers(DECISIONS));
     met.expect("any call, refusal", numbers(REFUSALS));
+    met.expect("any call, stopped", STOPPED);
     met
+}
+
+/// Where a refused call stopped.
+const STOPPED: [&str; 4] = ["nowhere", "at a bit", "at an entry", "at an entry's bit"];
+
+fn stopped(entry: Option<usize>, place: Option<usize>) -> &'static str {
+    STOPPED[2 * usize::from(entry.is_some()) + usize::from(place.is_some())]
 }
 
 impl Cases {
     /// What the crate answers where the reference answers so.
-    fn expected<N>(&mut self, answer: Result<N, reference::Refusal>) -> Result<N, boc::Refusal> {
-        answer.map_err(|refusal| {
-            let number = refusal.number();
+    fn expected<N>(&mut self, answer: Result<N, reference::Refused>) -> Result<N, boc::Refused> {
+        answer.map_err(|reference::Refused { why, entry, place }| {
+            let number = why.number();
             self.met.meet("any call, refusal", number);
-            let refusal = value(REFUSALS, number).expect("it is a refusal");
-            assert_eq!(refusal.number(), number, "{:?}", self.case);
-            refusal
+            self.met.meet("any call, stopped", stopped(entry, place));
+            let why = value(REFUSALS, number).expect("it is a refusal");
+            assert_eq!(why.number(), number, "{:?}", self.case);
+            boc::Refused { why, entry, place }
         })
     }
 
@@ -99,8 +108,8 @@ impl Cases {
         &mut self,
         rng: &mut Rng,
         needed: usize,
-        library: impl FnOnce(&mut [u8]) -> Result<N, boc::Refusal>,
-        reference: impl FnOnce(&mut [u8]) -> Result<N, reference::Refusal>,
+        library: impl FnOnce(&mut [u8]) -> Result<N, boc::Refused>,
+        reference: impl FnOnce(&mut [u8]) -> Result<N, reference::Refused>,
     ) -> Option<N> {
         let mut ours = vec![0; room(rng, needed)];
         rng.fill(&mut ours);
@@ -139,8 +148,13 @@ fn writes(cases: &mut Cases, rng: &mut Rng) {
         return;
     };
     assert_eq!(record.to_words(), words, "{:?}", cases.case);
-    let write = |out: &mut [u8]| boc::write(&record, out);
-    if cases.compare(rng, needed, write, |out| reference::write(&words, out)).is_some() {
+    let written = cases.compare(
+        rng,
+        needed,
+        |out| Ok(boc::write(&record, out)?),
+        |out| Ok(reference::write(&words, out)?),
+    );
+    if written.is_some() {
         carried(&words)
             .iter()
             .for_each(|(element, number)| cases.met.meet(&format!("write, {element}"), number));
@@ -149,7 +163,7 @@ fn writes(cases: &mut Cases, rng: &mut Rng) {
 
 fn archives(cases: &mut Cases, rng: &mut Rng) {
     let home = if rng.one_in(20) { rng.bits(32) } else { network(rng) };
-    cases.compare(rng, 5, |out| boc::empty(home, out), |out| reference::empty(home, out));
+    cases.compare(rng, 5, |out| Ok(boc::empty(home, out)?), |out| Ok(reference::empty(home, out)?));
 
     let count = rng.below(6);
     let archive = Archive::random(rng, count, Size::Any);

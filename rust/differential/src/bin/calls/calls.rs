@@ -2,9 +2,10 @@
 
 use std::fmt::Debug;
 
+use boc::ffi::{Spot, NOWHERE};
 use differential::*;
 use reference::layout::{request as at, REQUEST_WORDS};
-use reference::Refusal;
+use reference::{Refusal, Refused};
 
 use crate::lent::{bytes, words, Lent, MARGIN};
 
@@ -19,13 +20,40 @@ const CALLS: [(&str, &[u32]); 7] = [
     ("contents", &[0, 7, 8]),
 ];
 
+/// The refusals of a PDU that have a place.
+const PLACED: [u32; 5] = [2, 3, 4, 5, 10];
+
 /// What a visitor's own network tells apart from the home network.
 const TELLS: [&str; 2] = ["destination", "group"];
+
+/// What is behind the pointers to single numbers: a length or a decision, and where a refused call stopped.
+#[derive(Clone, Copy, PartialEq, Debug)]
+struct Behind<N> {
+    number: N,
+    spot: Spot,
+}
+
+impl Behind<usize> {
+    fn random(rng: &mut Rng) -> Self {
+        Behind { number: rng.draw() as usize, spot: random_spot(rng) }
+    }
+
+    /// For a call that has no pointers to an entry and a place.
+    fn without_spot(rng: &mut Rng) -> Self {
+        Behind { number: rng.draw() as usize, spot: Spot::NONE }
+    }
+}
+
+fn random_spot(rng: &mut Rng) -> Spot {
+    Spot { entry: rng.draw() as usize, place: rng.draw() as usize }
+}
 
 /// The calls, which compare and count.
 pub struct Calls {
     /// Of which seed, kind and number the case is.
     pub case: (u64, &'static str, u64),
+    /// Which change of the case it is, where it tries many.
+    pub change: usize,
     /// How the archive of the case was damaged.
     pub damage: Option<&'static str>,
     /// What was met.
@@ -34,13 +62,15 @@ pub struct Calls {
 }
 
 impl Calls {
-    /// Nothing met yet of all that has to be: each answer and decision, a visitor's too, 7 for each damage, 8 for
-    /// each reason.
+    /// Nothing met yet of all that has to be: each answer and decision, a visitor's too, each refusal of a PDU
+    /// that has a place, 7 for each damage and for each fault, 8 for each reason.
     pub fn new() -> Self {
         let mut met = Met::default();
         for (call, answers) in CALLS {
             met.expect(call, answers);
         }
+        met.expect("read, with a place", PLACED);
+        met.expect("capture, with a place", PLACED);
         met.expect("decide, decision", 0..5);
         met.expect("decide, visitor's", 0..5);
         met.expect("decide, visitor's own network", TELLS);
@@ -48,74 +78,102 @@ impl Calls {
         for (call, answers) in CALLS {
             if answers.contains(&7) {
                 met.expect(&format!("{call}, 7"), DAMAGES);
+                met.expect(&format!("{call}, 7 by fault"), FAULTS);
             }
         }
-        Calls { case: (0, "", 0), damage: None, met, scratch: vec![0; AMPLE] }
+        Calls { case: (0, "", 0), change: 0, damage: None, met, scratch: vec![0; AMPLE] }
     }
 
-    /// Compares one call. A refusal leaves the number that was `before`.
+    /// Compares one call. A refusal leaves the number that was `before` and writes where it stopped; an
+    /// accepted call leaves that.
     fn compare<N, T>(
         &mut self,
         call: &str,
-        library: (u32, N),
-        before: N,
-        expected: Result<N, Refusal>,
+        library: (u32, Behind<N>),
+        before: Behind<N>,
+        expected: Result<N, Refused>,
         lent: &Lent<T>,
     ) where
         N: Copy + PartialEq + Debug,
         T: Copy + PartialEq + Debug,
     {
-        let expected = match expected {
-            Ok(number) => (0, number),
-            Err(refusal) => (refusal.number(), before),
+        let answer = match expected {
+            Ok(number) => (0, Behind { number, ..before }),
+            Err(Refused { why, entry, place }) => {
+                let spot = Spot { entry: entry.unwrap_or(NOWHERE), place: place.unwrap_or(NOWHERE) };
+                (why.number(), Behind { spot, ..before })
+            }
         };
         let (seed, kind, case) = self.case;
-        let place = format_args!("{call}, case {case} of {kind}, seed {seed}");
-        assert!(library == expected, "{place}: answers {library:?}, not {expected:?}");
+        let change = self.change;
+        let place = format_args!("{call}, change {change} of case {case} of {kind}, seed {seed}");
+        assert!(library == answer, "{place}: answers {library:?}, not {answer:?}");
         if let Some(difference) = lent.difference() {
             panic!("{place}: {difference}");
         }
-        self.met.meet(call, expected.0);
-        if expected.0 == 7 {
-            let damage = self.damage.unwrap_or_else(|| panic!("{place}: the archive was not damaged"));
+        self.met.meet(call, answer.0);
+    }
+
+    /// Counts a refusal of an archive or, with its place, one of a PDU.
+    fn count<N>(&mut self, call: &str, archive: &[u8], answer: Result<N, Refused>) {
+        let Err(refused) = answer else {
+            return;
+        };
+        if refused.why == Refusal::Archive {
+            let damage =
+                self.damage.unwrap_or_else(|| panic!("{:?}: the archive was not damaged", self.case));
             self.met.meet(&format!("{call}, 7"), damage);
+            self.met.meet(&format!("{call}, 7 by fault"), fault(archive, refused));
+        } else if refused.place.is_some() {
+            self.met.meet(&format!("{call}, with a place"), refused.number());
         }
     }
 
     pub fn read(&mut self, rng: &mut Rng, pdu: &Pdu, record_words: usize) {
         let mut lent = words(rng, record_words);
-        let library = boc::ffi::read(&pdu.bytes, pdu.bits, lent.library());
+        let before = Behind { number: (), spot: Spot { place: rng.draw() as usize, ..Spot::NONE } };
+        let mut after = before;
+        let library = boc::ffi::read(&pdu.bytes, pdu.bits, lent.library(), &mut after.spot.place);
         let expected = reference::read(&pdu.bytes, pdu.bits, lent.reference());
-        self.compare("read", (library, ()), (), expected, &lent);
+        self.compare("read", (library, after), before, expected, &lent);
+        self.count("read", &[], expected);
     }
 
     pub fn write(&mut self, rng: &mut Rng, record: &[u32], room: usize) {
         let mut lent = bytes(rng, room);
-        let before = rng.draw() as usize;
-        let mut bits = before;
-        let library = boc::ffi::write(record, lent.library(), &mut bits);
+        let before = Behind::without_spot(rng);
+        let mut after = before;
+        let library = boc::ffi::write(record, lent.library(), &mut after.number);
         let expected = reference::write(record, lent.reference());
-        self.compare("write", (library, bits), before, expected, &lent);
+        self.compare("write", (library, after), before, expected.map_err(Refused::from), &lent);
     }
 
     pub fn empty(&mut self, rng: &mut Rng, home: u32, room: usize) {
         let mut lent = bytes(rng, room);
-        let before = rng.draw() as usize;
-        let mut length = before;
-        let library = boc::ffi::empty(home, lent.library(), &mut length);
+        let before = Behind::without_spot(rng);
+        let mut after = before;
+        let library = boc::ffi::empty(home, lent.library(), &mut after.number);
         let expected = reference::empty(home, lent.reference());
-        self.compare("empty", (library, length), before, expected, &lent);
+        self.compare("empty", (library, after), before, expected.map_err(Refused::from), &lent);
     }
 
     /// The new archive, if the PDU was captured.
     pub fn capture(&mut self, rng: &mut Rng, archive: &[u8], pdu: &Pdu, room: usize) -> Option<Vec<u8>> {
         let mut lent = bytes(rng, room);
-        let before = rng.draw() as usize;
-        let mut length = before;
-        let library = boc::ffi::capture(archive, &pdu.bytes, pdu.bits, lent.library(), &mut length);
+        let before = Behind::random(rng);
+        let mut after = before;
+        let library = boc::ffi::capture(
+            archive,
+            &pdu.bytes,
+            pdu.bits,
+            lent.library(),
+            &mut after.number,
+            &mut after.spot,
+        );
         let expected = reference::capture(archive, &pdu.bytes, pdu.bits, lent.reference());
-        self.compare("capture", (library, length), before, expected, &lent);
-        if expected == Err(Refusal::Room) {
+        self.compare("capture", (library, after), before, expected, &lent);
+        self.count("capture", archive, expected);
+        if expected == Err(Refusal::Room.into()) {
             // It is counted where it has one reason alone.
             match lacking(archive, pdu, room)[..] {
                 [] => panic!("8 without a reason: {:?}", self.case),
@@ -132,24 +190,45 @@ impl Calls {
         self.capture(rng, archive, pdu, room);
     }
 
-    pub fn restore(&mut self, rng: &mut Rng, archive: &[u8], [network, ssi]: [u32; 2], part: u32) {
-        let needed = reference::restore(archive, network, ssi, part, &mut self.scratch);
+    pub fn restore_any_room(&mut self, rng: &mut Rng, archive: &[u8], user: [u32; 2], part: u32) {
+        let needed = reference::restore(archive, user[0], user[1], part, &mut self.scratch);
         let room = room(rng, needed.map_or(20, |bits| bits.div_ceil(8)));
+        self.restore(rng, archive, user, part, room);
+    }
+
+    pub fn restore(
+        &mut self,
+        rng: &mut Rng,
+        archive: &[u8],
+        [network, ssi]: [u32; 2],
+        part: u32,
+        room: usize,
+    ) {
         let mut lent = bytes(rng, room);
-        let before = rng.draw() as usize;
-        let mut bits = before;
-        let library = boc::ffi::restore(archive, network, ssi, part, lent.library(), &mut bits);
+        let before = Behind::random(rng);
+        let mut after = before;
+        let library = boc::ffi::restore(
+            archive,
+            network,
+            ssi,
+            part,
+            lent.library(),
+            &mut after.number,
+            &mut after.spot,
+        );
         let expected = reference::restore(archive, network, ssi, part, lent.reference());
-        self.compare("restore", (library, bits), before, expected, &lent);
+        self.compare("restore", (library, after), before, expected, &lent);
+        self.count("restore", archive, expected);
     }
 
     pub fn decide(&mut self, rng: &mut Rng, archive: &[u8], request: &[u32]) {
-        let before = rng.bits(32);
-        let mut decision = before;
-        let library = boc::ffi::decide(archive, request, &mut decision);
+        let before = Behind { number: rng.bits(32), spot: random_spot(rng) };
+        let mut after = before;
+        let library = boc::ffi::decide(archive, request, &mut after.number, &mut after.spot);
         let expected = reference::decide(archive, request).map(|decision| decision.number());
         let nothing = Lent::<u8>::new(vec![0; 2 * MARGIN]);
-        self.compare("decide", (library, decision), before, expected, &nothing);
+        self.compare("decide", (library, after), before, expected, &nothing);
+        self.count("decide", archive, expected);
         if let Ok(decision) = expected {
             self.met.meet("decide, decision", decision);
             self.visitor(archive, request, decision);
@@ -179,15 +258,20 @@ impl Calls {
         }
     }
 
-    pub fn contents(&mut self, rng: &mut Rng, archive: &[u8]) {
+    pub fn contents_any_room(&mut self, rng: &mut Rng, archive: &[u8]) {
         let needed = reference::contents(archive, &mut self.scratch);
         let room = room(rng, needed.unwrap_or(64));
+        self.contents(rng, archive, room);
+    }
+
+    pub fn contents(&mut self, rng: &mut Rng, archive: &[u8], room: usize) {
         let mut lent = bytes(rng, room);
-        let before = rng.draw() as usize;
-        let mut length = before;
-        let library = boc::ffi::contents(archive, lent.library(), &mut length);
+        let before = Behind::random(rng);
+        let mut after = before;
+        let library = boc::ffi::contents(archive, lent.library(), &mut after.number, &mut after.spot);
         let expected = reference::contents(archive, lent.reference());
-        self.compare("contents", (library, length), before, expected, &lent);
+        self.compare("contents", (library, after), before, expected, &lent);
+        self.count("contents", archive, expected);
     }
 
     /// Every call that takes an archive, on this one; a legal one is damaged once in `times`.
@@ -199,7 +283,7 @@ impl Calls {
             held = bytes;
         }
         let bytes = held.as_slice();
-        self.contents(rng, bytes);
+        self.contents_any_room(rng, bytes);
         let user = archive.user(rng);
         let pdu = offered(rng, archive.home, user);
         self.capture_any_room(rng, bytes, &pdu);
@@ -210,7 +294,7 @@ impl Calls {
             1 => part = rng.pick(&[0, 3, 4, 257, u32::MAX]),
             _ => {}
         }
-        self.restore(rng, bytes, user, part);
+        self.restore_any_room(rng, bytes, user, part);
         for _ in 0..2 {
             let user = archive.user(rng);
             let mut words = request(rng, user);

@@ -1,10 +1,11 @@
 //! Compares the seven calls of the library with the reference: `calls [SEED]`.
 //!
 //! Each case lends both sides equal buffers of random content and compares the answers, every byte or word of
-//! every buffer, margins before and after what was lent, and the number behind the last pointer. It ends with
-//! how often each answer of each call was met, 7 for each damage to an archive, 8 for each reason that capture
-//! can have, each decision for a visitor from another network, and a visitor's call that is decided otherwise
-//! with the home network for the visitor's own; one that was never met is a failure too.
+//! every buffer, margins before and after what was lent, and the numbers behind the last pointers: a length or
+//! a decision, and where a refused call stopped. It ends with how often each answer of each call was met, each
+//! refusal of a PDU that has a place, 7 for each damage to an archive and for each fault in one, 8 for each
+//! reason that capture can have, each decision for a visitor from another network, and a visitor's call that
+//! is decided otherwise with the home network for the visitor's own; one that was never met is a failure too.
 
 #![forbid(unsafe_code)]
 
@@ -21,13 +22,15 @@ use calls::Calls;
 /// A kind of cases, how many there are, and what one does.
 type Kind = (&'static str, u64, fn(&mut Calls, &mut Rng));
 
-const KINDS: [Kind; 6] = [
+const KINDS: [Kind; 8] = [
     ("PDUs", 400_000, pdus),
     ("records", 300_000, records),
     ("empty archives", 5_000, empties),
     ("small archives", 100_000, small_archives),
     ("large archives", 2_000, large_archives),
     ("histories", 600, histories),
+    ("changed PDUs", 60, changed_pdus),
+    ("changed archives", 2, changed_archives),
 ];
 
 fn pdus(calls: &mut Calls, rng: &mut Rng) {
@@ -106,12 +109,69 @@ fn histories(calls: &mut Calls, rng: &mut Rng) {
         }
     }
     for user in users {
-        calls.restore(rng, &held, user, 1);
-        calls.restore(rng, &held, user, 2);
+        calls.restore_any_room(rng, &held, user, 1);
+        calls.restore_any_room(rng, &held, user, 2);
         let words = request(rng, user);
         calls.decide(rng, &held, &words);
     }
-    calls.contents(rng, &held);
+    calls.contents_any_room(rng, &held);
+}
+
+/// A PDU cut at each of its bits, and with each of its bits flipped, read and captured: the longest parts, for
+/// eight users and for one, and any PDUs.
+fn changed_pdus(calls: &mut Calls, rng: &mut Rng) {
+    let (home, user) = (1, [1, 5]);
+    let (_, _, case) = calls.case;
+    let words = match case {
+        0 | 1 => longest(rng, 1 + case as u32),
+        2 | 3 => part(rng, home, user, case as u32 - 1, Size::Full),
+        _ => record(rng),
+    };
+    let pdu = Pdu::of(&words);
+    let held = Archive::random(rng, 3, Size::Small).bytes();
+    let cut = (0..=pdu.bits).map(|bits| pdu.cut(bits));
+    let flipped = (0..pdu.bits).map(|place| pdu.flipped(place));
+    for (change, pdu) in cut.chain(flipped).enumerate() {
+        calls.change = change;
+        calls.read(rng, &pdu, RECORD_WORDS);
+        calls.capture(rng, &held, &pdu, AMPLE);
+    }
+}
+
+/// An archive of 512 entries cut at each of its bytes, and with bits flipped: with the smallest bodies each
+/// bit, in every call; with 65,536 bytes each bit before the bodies and some of theirs, in its listing.
+fn changed_archives(calls: &mut Calls, rng: &mut Rng) {
+    let (_, _, case) = calls.case;
+    let archive = match case {
+        0 => Archive::random(rng, MAX_ENTRIES, Size::Small),
+        _ => Archive::of_length(rng, MAX_BYTES),
+    };
+    assert_eq!(archive.entries.len(), MAX_ENTRIES);
+    let whole = archive.bytes();
+    let last = archive.entries.last().expect("it has entries");
+    let words = request(rng, last.user);
+    let mut try_each = |calls: &mut Calls, bytes: &[u8], damage: &'static str| {
+        calls.change += 1;
+        calls.damage = Some(damage);
+        calls.contents(rng, bytes, 100);
+        if case == 0 {
+            calls.capture(rng, bytes, &last.pdu, whole.len());
+            calls.restore(rng, bytes, last.user, last.part, 100);
+            calls.decide(rng, bytes, &words);
+        }
+    };
+    for length in 0..whole.len() {
+        try_each(calls, &whole[..length], "end cut");
+    }
+    let mut flipped = whole.clone();
+    for bit in 0..8 * whole.len() {
+        let damage = archive.region(bit / 8);
+        if case == 0 || damage != "body's bits" || bit % 61 == 0 {
+            flipped[bit / 8] ^= 0x80 >> (bit % 8);
+            try_each(calls, &flipped, damage);
+            flipped[bit / 8] = whole[bit / 8];
+        }
+    }
 }
 
 fn main() -> ExitCode {
@@ -124,6 +184,7 @@ fn main() -> ExitCode {
     for (number, (kind, cases, run)) in (0..).zip(KINDS) {
         for case in 0..cases {
             calls.case = (seed, kind, case);
+            calls.change = 0;
             calls.damage = None;
             run(&mut calls, &mut Rng::new(seed, case << 3 | number));
         }

@@ -1,7 +1,7 @@
 //! The answers to lines about the archive.
 
 use reference::layout::REQUEST_WORDS;
-use reference::{Decision, Refusal};
+use reference::{Decision, Refused};
 
 use crate::line::{hex, put, rest, Words, FULL};
 
@@ -32,7 +32,7 @@ impl Held {
         match line.chars().next() {
             Some('e') => {
                 let (home, room) = (words.number(), words.length());
-                self.replace(room, |_, out| reference::empty(home, out))
+                self.replace(room, |_, out| Ok(reference::empty(home, out)?))
             }
             Some('c') => {
                 let (room, bits, pdu) = (words.length(), words.length(), words.bytes());
@@ -62,7 +62,7 @@ impl Held {
     }
 
     /// Another archive in place of the one that is held, unless it is refused.
-    fn replace(&mut self, room: usize, call: impl Fn(&[u8], &mut [u8]) -> Result<usize, Refusal>) -> String {
+    fn replace(&mut self, room: usize, call: impl Fn(&[u8], &mut [u8]) -> Result<usize, Refused>) -> String {
         let mut out = vec![FULL; ROOM];
         let answer = call(self.archive(), &mut out[..room.min(ROOM)]);
         let told = written(answer, &out);
@@ -96,7 +96,7 @@ impl Held {
                 let (pdu, after) = out.split_at(bits.div_ceil(8));
                 format!("bits {bits} {}{}", hex(pdu), rest(after))
             }
-            Err(refusal) => format!("refused {}{}", refusal.number(), rest(&out)),
+            Err(refused) => format!("refused {}{}", refused.number(), rest(&out)),
         }
     }
 
@@ -106,16 +106,16 @@ impl Held {
             Ok(Decision::Allowed) => "allowed".into(),
             Ok(Decision::NotHeld) => "not held".into(),
             Ok(barred) => format!("barred {}", barred.number()),
-            Err(refusal) => format!("refused {}", refusal.number()),
+            Err(refused) => format!("refused {}", refused.number()),
         }
     }
 }
 
 /// The length and the sum of what was written.
-fn written(answer: Result<usize, Refusal>, out: &[u8]) -> String {
+fn written(answer: Result<usize, Refused>, out: &[u8]) -> String {
     match answer {
         Ok(length) => format!("bytes {length} sum {}{}", sum(&out[..length]), rest(&out[length..])),
-        Err(refusal) => format!("refused {}{}", refusal.number(), rest(out)),
+        Err(refused) => format!("refused {}{}", refused.number(), rest(out)),
     }
 }
 

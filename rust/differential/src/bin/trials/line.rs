@@ -1,6 +1,6 @@
 //! Numbers and bytes of a line, the bits of a PDU, and what is printed of them.
 
-use reference::Refusal;
+use reference::Refused;
 
 /// The byte that a lent buffer is full of.
 pub const FULL: u8 = 0xa5;
@@ -70,8 +70,8 @@ pub fn hex(bytes: &[u8]) -> String {
 }
 
 /// The refusal number of an answer, 0 for none.
-pub fn number<T>(answer: Result<T, Refusal>) -> u32 {
-    answer.map_or_else(|refusal| refusal.number(), |_| 0)
+pub fn number<T>(answer: Result<T, impl Into<Refused>>) -> u32 {
+    answer.map_or_else(|refused| refused.into().number(), |_| 0)
 }
 
 /// Says so where a byte of a lent buffer is not as it was.

@@ -31,7 +31,7 @@ impl Last {
         self.bytes[..count].copy_from_slice(&bytes[..count]);
         match reference::read(&self.bytes[..count], self.bits, &mut self.words) {
             Ok(()) => format!("read{}{}", nonzero(&self.words), written(&self.words, ROOM)),
-            Err(refusal) => format!("refused {}", refusal.number()),
+            Err(refused) => format!("refused {}", refused.number()),
         }
     }
 
