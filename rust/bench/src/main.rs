@@ -6,8 +6,9 @@
 use std::hint::black_box;
 use std::time::{Duration, Instant};
 
-use differential::{part, Archive, Entry, Pdu, Record, Rng, Size};
-use reference::layout::{record as at, request, IDENTITY_WORDS, RECORD_WORDS, REQUEST_WORDS};
+use boc::ffi::Spot;
+use differential::{longest, Archive, Entry, Pdu, Record, Rng, Size};
+use reference::layout::{record as at, request, RECORD_WORDS, REQUEST_WORDS};
 
 const ROUNDS: usize = 200;
 const ROUND: Duration = Duration::from_micros(400);
@@ -18,14 +19,14 @@ const CALLS: [&str; 4] = ["capture", "restore", "contents", "decide"];
 type Answer = (u32, usize);
 
 /// The reference's answer.
-fn answer(result: Result<usize, reference::Refusal>) -> Answer {
-    result.map_or_else(|refusal| (refusal.number(), 0), |value| (0, value))
+fn answer(result: Result<usize, impl Into<reference::Refused>>) -> Answer {
+    result.map_or_else(|refused| (refused.into().number(), 0), |value| (0, value))
 }
 
-/// The library's answer: what a call with a pointer to a number returns, and that number.
-fn through<N: Default + Copy>(call: impl FnOnce(&mut N) -> u32) -> (u32, N) {
-    let mut number = N::default();
-    (call(&mut number), number)
+/// The library's answer: what a call with pointers to a number and to where it stops returns, and that number.
+fn through<N: Default + Copy>(call: impl FnOnce(&mut N, &mut Spot) -> u32) -> (u32, N) {
+    let (mut number, mut spot) = (N::default(), Spot::NONE);
+    (call(&mut number, &mut spot), number)
 }
 
 /// Nanoseconds per call.
@@ -93,17 +94,6 @@ fn calls_per_round<T>(call: &mut impl FnMut() -> T) -> u32 {
     }
 }
 
-/// The longest part of a kind that a PDU can be: eight affected users, every list full.
-fn longest(rng: &mut Rng, kind: u32) -> Record {
-    let mut words = part(rng, 1, [2, 5], kind, Size::Full);
-    words[at::AFFECTED] = 8;
-    for place in 0..8 {
-        let entry = at::AFFECTED + 1 + IDENTITY_WORDS * place;
-        words[entry..][..IDENTITY_WORDS].copy_from_slice(&[rng.bits(24), 1, rng.bits(24)]);
-    }
-    words
-}
-
 /// Profile A: services [1], no groups, restricted range 100 to 199, exception 150; user 5, no extensions.
 fn profile_a() -> Record {
     let mut words = [0; RECORD_WORDS];
@@ -126,13 +116,13 @@ fn read_and_write(rng: &mut Rng) {
         let Pdu { bytes, bits } = Pdu::of(&record);
         Times::of(
             RECORD_WORDS,
-            |words| (boc::ffi::read(black_box(&bytes), bits, words), 0),
+            |words| through(|_, spot| boc::ffi::read(black_box(&bytes), bits, words, &mut spot.place)),
             |words| answer(reference::read(black_box(&bytes), bits, words).map(|()| 0)),
         )
         .row(&format!("read | {name} | {bits}"));
         Times::of(
             512,
-            |out| through(|bits| boc::ffi::write(black_box(&record), out, bits)),
+            |out| through(|bits, _| boc::ffi::write(black_box(&record), out, bits)),
             |out| answer(reference::write(black_box(&record), out)),
         )
         .row(&format!("write | {name} | {bits}"));
@@ -147,17 +137,19 @@ fn on_archive(archive: &Archive) -> [Times; 4] {
     let (bytes, bits) = (pdu.bytes.as_slice(), pdu.bits);
     let capture = Times::of(
         ROOM,
-        |out| through(|length| boc::ffi::capture(black_box(held), bytes, bits, out, length)),
+        |out| through(|length, spot| boc::ffi::capture(black_box(held), bytes, bits, out, length, spot)),
         |out| answer(reference::capture(black_box(held), bytes, bits, out)),
     );
     let restore = Times::of(
         ROOM,
-        |out| through(|bits| boc::ffi::restore(black_box(held), *network, *ssi, *part, out, bits)),
+        |out| {
+            through(|bits, spot| boc::ffi::restore(black_box(held), *network, *ssi, *part, out, bits, spot))
+        },
         |out| answer(reference::restore(black_box(held), *network, *ssi, *part, out)),
     );
     let contents = Times::of(
         ROOM,
-        |out| through(|length| boc::ffi::contents(black_box(held), out, length)),
+        |out| through(|length, spot| boc::ffi::contents(black_box(held), out, length, spot)),
         |out| answer(reference::contents(black_box(held), out)),
     );
     // Speech to a destination that no list has, so that every entry is looked at.
@@ -173,7 +165,7 @@ fn on_archive(archive: &Archive) -> [Times; 4] {
         0,
         |_| {
             let (number, decision) =
-                through(|decision| boc::ffi::decide(black_box(held), black_box(&call), decision));
+                through(|decision, spot| boc::ffi::decide(black_box(held), black_box(&call), decision, spot));
             (number, decision as usize)
         },
         |_| {
