@@ -1,6 +1,7 @@
 //! Tries the program `contents` from outside: `program COMMAND [WORDS...]`, where the command runs it.
 //!
-//! Each case gives it an input and compares what it prints with the reference's listing, or with `refused 7`.
+//! Each case gives it an input and compares what it prints with the reference's listing, or with `refused 7`
+//! and, on standard error, with the entry and the bit that are at fault: every byte of both.
 
 #![forbid(unsafe_code)]
 
@@ -9,7 +10,7 @@ use std::process::{Command, ExitCode, Stdio};
 use std::thread::sleep;
 use std::time::Duration;
 
-use differential::{Archive, Rng, Size, MAX_BYTES, MAX_ENTRIES, SEED};
+use differential::{Archive, Met, Rng, Size, MAX_BYTES, MAX_ENTRIES, SEED};
 
 /// The archive that holds profile A for user 1/5 of home network 1.
 const EXAMPLE: [u8; 32] = [
@@ -26,10 +27,20 @@ enum Arrival {
 }
 use Arrival::{AtOnce, InPieces};
 
+/// What is printed of an input, on standard output and on standard error.
+struct Printed {
+    output: String,
+    error: String,
+}
+
 /// What the program prints of an input.
-fn printed(command: &[String], input: &[u8], arrival: Arrival) -> Result<Vec<u8>> {
-    let mut child =
-        Command::new(&command[0]).args(&command[1..]).stdin(Stdio::piped()).stdout(Stdio::piped()).spawn()?;
+fn printed(command: &[String], input: &[u8], arrival: Arrival) -> Result<Printed> {
+    let mut child = Command::new(&command[0])
+        .args(&command[1..])
+        .stdin(Stdio::piped())
+        .stdout(Stdio::piped())
+        .stderr(Stdio::piped())
+        .spawn()?;
     let mut stdin = child.stdin.take().expect("its input is piped");
     let written = match arrival {
         AtOnce => stdin.write_all(input),
@@ -41,17 +52,33 @@ fn printed(command: &[String], input: &[u8], arrival: Arrival) -> Result<Vec<u8>
     // The program takes no more than it needs, so that the end of a longer input may not be wanted.
     written.or_else(|error| if error.kind() == ErrorKind::BrokenPipe { Ok(()) } else { Err(error) })?;
     drop(stdin);
-    let output = child.wait_with_output()?;
-    assert!(output.status.success(), "the program ended with {}", output.status);
-    Ok(output.stdout)
+    let ended = child.wait_with_output()?;
+    let [output, error] =
+        [ended.stdout, ended.stderr].map(|text| String::from_utf8_lossy(&text).into_owned());
+    assert!(ended.status.success(), "the program ended with {}: {error}", ended.status);
+    Ok(Printed { output, error })
 }
 
-fn expected(input: &[u8]) -> Vec<u8> {
+/// The forms of what is printed.
+const FORMS: [&str; 4] = ["listed", "refused", "refused at an entry", "refused at an entry's bit"];
+
+/// What has to be printed of an input, and its form.
+fn expected(input: &[u8]) -> (Printed, &'static str) {
     let mut text = vec![0; 1 << 16];
-    match reference::contents(input, &mut text) {
-        Ok(length) => text[..length].to_vec(),
-        Err(refusal) => format!("refused {}\n", refusal.number()).into_bytes(),
-    }
+    let refused = match reference::contents(input, &mut text) {
+        Ok(length) => {
+            text.truncate(length);
+            let output = String::from_utf8(text).expect("a listing is text");
+            return (Printed { output, error: String::new() }, FORMS[0]);
+        }
+        Err(refused) => refused,
+    };
+    let (error, form) = match (refused.entry, refused.place) {
+        (None, _) => (String::new(), FORMS[1]),
+        (Some(entry), None) => (format!("entry {entry}\n"), FORMS[2]),
+        (Some(entry), Some(place)) => (format!("entry {entry} bit {place}\n"), FORMS[3]),
+    };
+    (Printed { output: format!("refused {}\n", refused.number()), error }, form)
 }
 
 /// The inputs, each with its name, whether it is an archive, and how it arrives.
@@ -73,16 +100,18 @@ fn cases(rng: &mut Rng) -> Vec<(String, Vec<u8>, bool, Arrival)> {
         ("twice 65,536 bytes".into(), longest.repeat(2), false, AtOnce),
         ("no input".into(), Vec::new(), false, AtOnce),
     ];
-    // One damaged byte in each region: home network, count, contents, body, end.
+    // One damaged byte in each region: count, contents, body, end.
     for (archive, name) in [(&EXAMPLE[..], "the example"), (&full, "512 entries"), (&longest, "65,536 bytes")]
     {
         let entries = usize::from(u16::from_be_bytes([archive[3], archive[4]]));
         let bodies = 5 + 9 * entries;
+        let last_bits = usize::from(u16::from_be_bytes([archive[bodies - 2], archive[bodies - 1]]));
         for (region, place, bits) in [
             ("count", 4, 1),
             ("contents", 5 + 6, 3),
             ("length", bodies - 1, 0x80),
-            ("body", bodies, 0x80),
+            ("first body", bodies, 0x80),
+            ("last body", archive.len() - last_bits.div_ceil(8), 0x80),
             ("end", archive.len() - 1, 1),
         ] {
             let mut damaged = archive.to_vec();
@@ -91,9 +120,11 @@ fn cases(rng: &mut Rng) -> Vec<(String, Vec<u8>, bool, Arrival)> {
         }
         cases.push((format!("{name}, cut"), archive[..archive.len() - 1].to_vec(), false, AtOnce));
     }
-    let mut other_home = EXAMPLE.to_vec();
-    other_home[0] ^= 1;
-    cases.push(("the example, home network damaged".into(), other_home, false, AtOnce));
+    for (region, place, bits) in [("home network", 0, 1), ("number of services", 14 + 5, 1)] {
+        let mut damaged = EXAMPLE.to_vec();
+        damaged[place] ^= bits;
+        cases.push((format!("the example, {region} damaged"), damaged, false, AtOnce));
+    }
     cases
 }
 
@@ -104,15 +135,23 @@ fn main() -> Result<ExitCode> {
         return Ok(ExitCode::from(2));
     }
     let cases = cases(&mut Rng::new(SEED, 0));
+    let mut met = Met::default();
+    met.expect("contents", FORMS);
     let mut failed = 0;
     for (name, input, legal, arrival) in &cases {
-        let expected = expected(input);
-        assert_eq!(*legal, expected != b"refused 7\n", "{name} is not the case that it should be");
-        if printed(&command, input, *arrival)? != expected {
-            println!("contents prints something else for: {name}");
+        let (expected, form) = expected(input);
+        assert_eq!(*legal, form == "listed", "{name} is not the case that it should be");
+        met.meet("contents", form);
+        let printed = printed(&command, input, *arrival)?;
+        if printed.output != expected.output {
+            println!("{name}: prints something else");
+            failed += 1;
+        } else if printed.error != expected.error {
+            println!("{name}: standard error has {:?}, not {:?}", printed.error, expected.error);
             failed += 1;
         }
     }
+    let complete = met.report();
     println!("contents: {} inputs, {failed} failed", cases.len());
-    Ok(if failed == 0 { ExitCode::SUCCESS } else { ExitCode::FAILURE })
+    Ok(if failed == 0 && complete { ExitCode::SUCCESS } else { ExitCode::FAILURE })
 }
