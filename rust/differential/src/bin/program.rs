@@ -106,18 +106,23 @@ fn cases(rng: &mut Rng) -> Vec<(String, Vec<u8>, bool, Arrival)> {
         let entries = usize::from(u16::from_be_bytes([archive[3], archive[4]]));
         let bodies = 5 + 9 * entries;
         let last_bits = usize::from(u16::from_be_bytes([archive[bodies - 2], archive[bodies - 1]]));
+        let last_body = archive.len() - last_bits.div_ceil(8);
         for (region, place, bits) in [
             ("count", 4, 1),
             ("contents", 5 + 6, 3),
             ("length", bodies - 1, 0x80),
             ("first body", bodies, 0x80),
-            ("last body", archive.len() - last_bits.div_ceil(8), 0x80),
+            ("last body", last_body, 0x80),
             ("end", archive.len() - 1, 1),
         ] {
             let mut damaged = archive.to_vec();
             damaged[place] ^= bits;
             cases.push((format!("{name}, {region} damaged"), damaged, false, AtOnce));
         }
+        let mut damaged = archive.to_vec();
+        damaged[bodies] |= 0x80;
+        damaged[last_body] |= 0x80;
+        cases.push((format!("{name}, first and last body damaged"), damaged, false, AtOnce));
         cases.push((format!("{name}, cut"), archive[..archive.len() - 1].to_vec(), false, AtOnce));
     }
     for (region, place, bits) in [("home network", 0, 1), ("number of services", 14 + 5, 1)] {
