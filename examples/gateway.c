@@ -1,6 +1,7 @@
 /*
  * A gateway in small: captures what the switch answered for user 1/5, an identity part and a number part, restores
- * both, compares them bit for bit, and decides calls. Ends with status 0 exactly if all is as it must be.
+ * both, compares them bit for bit, decides calls, and tells where a damaged PDU and a damaged archive are at fault.
+ * Ends with status 0 exactly if all is as it must be.
  */
 #include <stdio.h>
 #include <string.h>
@@ -29,11 +30,23 @@ static size_t bytes_for(size_t bits)
     return (bits + 7) / 8;
 }
 
-static int refused(const char *what, uint32_t number)
+/* Where a refused call stopped. */
+struct spot {
+    size_t entry, place;
+};
+
+/* Tells of a refused call its number, and the entry and the bit where it stopped if it has them. */
+static int refused(const char *what, uint32_t number, const struct spot *spot)
 {
-    if (number != BOC_OK)
-        printf("%s: refused %u\n", what, (unsigned)number);
-    return number != BOC_OK;
+    if (number == BOC_OK)
+        return 0;
+    printf("%s: refused %u", what, (unsigned)number);
+    if (spot != NULL && spot->entry != BOC_NOWHERE)
+        printf(", entry %zu", spot->entry);
+    if (spot != NULL && spot->place != BOC_NOWHERE)
+        printf(", bit %zu", spot->place);
+    printf("\n");
+    return 1;
 }
 
 /* The answer of the switch for identities: speech to 100 to 199 barred, except to 150. */
@@ -58,17 +71,28 @@ static int make_number_part(struct pdu *pdu)
     record[BOC_RESTRICTED_NUMBERS] = 1;
     number[BOC_ENTRY_LENGTH] = 3;
     memcpy(number + BOC_ENTRY_DIGITS, digits, sizeof digits);
-    return refused("write", boc_write(record, BOC_RECORD_WORDS, pdu->bytes, sizeof pdu->bytes, &pdu->bits));
+    return refused("write", boc_write(record, BOC_RECORD_WORDS, pdu->bytes, sizeof pdu->bytes, &pdu->bits), NULL);
+}
+
+/* The archive with a PDU too becomes the current one, unless the PDU is refused. */
+static uint32_t offer(const struct pdu *pdu, struct spot *spot)
+{
+    int next = 1 - store.current;
+    uint32_t number = boc_capture(store.buffers[store.current], store.length, pdu->bytes, bytes_for(pdu->bits),
+                                  pdu->bits, store.buffers[next], BOC_ARCHIVE_BYTES, &store.length, &spot->entry,
+                                  &spot->place);
+
+    if (number == BOC_OK)
+        store.current = next;
+    return number;
 }
 
 static int capture(const struct pdu *pdu)
 {
-    int next = 1 - store.current;
+    struct spot spot;
 
-    if (refused("capture", boc_capture(store.buffers[store.current], store.length, pdu->bytes, bytes_for(pdu->bits),
-                                       pdu->bits, store.buffers[next], BOC_ARCHIVE_BYTES, &store.length)))
+    if (refused("capture", offer(pdu, &spot), &spot))
         return 1;
-    store.current = next;
     printf("captured %zu bits, archive %zu bytes\n", pdu->bits, store.length);
     return 0;
 }
@@ -76,9 +100,12 @@ static int capture(const struct pdu *pdu)
 static int restore_and_compare(uint32_t part, const struct pdu *captured)
 {
     struct pdu back = {0};
+    struct spot spot;
 
-    if (refused("restore", boc_restore(store.buffers[store.current], store.length, HOME, USER, part, back.bytes,
-                                       sizeof back.bytes, &back.bits)))
+    if (refused("restore",
+                boc_restore(store.buffers[store.current], store.length, HOME, USER, part, back.bytes,
+                            sizeof back.bytes, &back.bits, &spot.entry, &spot.place),
+                &spot))
         return 1;
     if (back.bits != captured->bits || memcmp(back.bytes, captured->bytes, bytes_for(back.bits)) != 0) {
         printf("restored part %u: differs\n", (unsigned)part);
@@ -94,11 +121,15 @@ static int decide(const char *call, uint32_t request[BOC_REQUEST_WORDS], uint32_
     static const char *const words[] = {"barred, outside the group", "barred, service", "barred, destination",
                                         "allowed", "not held"};
     uint32_t decision;
+    struct spot spot;
 
     request[BOC_USER_NETWORK] = HOME;
     request[BOC_USER_SSI] = USER;
     request[BOC_SERVICE] = BOC_SERVICE_SPEECH;
-    if (refused(call, boc_decide(store.buffers[store.current], store.length, request, BOC_REQUEST_WORDS, &decision)))
+    if (refused(call,
+                boc_decide(store.buffers[store.current], store.length, request, BOC_REQUEST_WORDS, &decision,
+                           &spot.entry, &spot.place),
+                &spot))
         return 1;
     printf("speech to %s: %s\n", call, words[decision]);
     return decision != expected;
@@ -126,21 +157,57 @@ static int decide_number(const char *digits, uint32_t expected)
     return decide(digits, request, expected);
 }
 
+static uint8_t text[BOC_CONTENTS_BYTES];
+
+static uint32_t list_to_text(size_t *length, struct spot *spot)
+{
+    return boc_contents(store.buffers[store.current], store.length, text, sizeof text, length, &spot->entry,
+                        &spot->place);
+}
+
 static int list(void)
 {
-    static uint8_t text[BOC_CONTENTS_BYTES];
+    struct spot spot;
     size_t length;
 
-    if (refused("contents", boc_contents(store.buffers[store.current], store.length, text, sizeof text, &length)))
+    if (refused("contents", list_to_text(&length, &spot), &spot))
         return 1;
     return fwrite(text, 1, length, stdout) != length;
+}
+
+/* Offers an identity part whose number of services, three bits from place 45 on, has become 0. */
+static int offer_damaged(void)
+{
+    struct pdu damaged = identity_part;
+    struct spot spot;
+    uint32_t number;
+
+    damaged.bytes[5] ^= 0x01;
+    number = offer(&damaged, &spot);
+    refused("capture, damaged", number, &spot);
+    return number != BOC_VALUE || spot.entry != BOC_NOWHERE || spot.place != 45;
+}
+
+/* Lists the archive while the body of its last entry, the number part, is damaged in its PDU type, at place 6. */
+static int list_damaged(const struct pdu *number_part)
+{
+    uint8_t *body = store.buffers[store.current] + store.length - bytes_for(number_part->bits);
+    struct spot spot;
+    uint32_t number;
+    size_t length;
+
+    body[1] ^= 0x80;
+    number = list_to_text(&length, &spot);
+    body[1] ^= 0x80;
+    refused("contents, damaged", number, &spot);
+    return number != BOC_ARCHIVE || spot.entry != 1 || spot.place != 6;
 }
 
 int main(void)
 {
     struct pdu number_part = {0};
 
-    if (refused("empty", boc_empty(HOME, store.buffers[0], BOC_ARCHIVE_BYTES, &store.length)))
+    if (refused("empty", boc_empty(HOME, store.buffers[0], BOC_ARCHIVE_BYTES, &store.length), NULL))
         return 1;
     if (capture(&identity_part) || decide_number("112", BOC_PART_NOT_HELD))
         return 1;
@@ -148,6 +215,9 @@ int main(void)
         return 1;
     if (restore_and_compare(BOC_IDENTITY_PART, &identity_part) || restore_and_compare(BOC_NUMBER_PART, &number_part))
         return 1;
-    return decide_identity("1/100", 100, BOC_BARRED_DESTINATION) || decide_identity("1/150", 150, BOC_ALLOWED) ||
-           decide_number("112", BOC_BARRED_DESTINATION) || decide_number("113", BOC_ALLOWED);
+    if (decide_identity("1/100", 100, BOC_BARRED_DESTINATION) || decide_identity("1/150", 150, BOC_ALLOWED))
+        return 1;
+    if (decide_number("112", BOC_BARRED_DESTINATION) || decide_number("113", BOC_ALLOWED))
+        return 1;
+    return offer_damaged() || list_damaged(&number_part);
 }
