@@ -21,7 +21,7 @@ enum { TOP = BOC_NETWORK_LIMIT - 1, DIGIT = 2 };
 /* What the calls are lent. */
 static uint32_t record[BOC_RECORD_WORDS], request[BOC_REQUEST_WORDS], user, part, home, decision;
 static uint8_t pdu[BOC_PDU_BYTES + 1], archive[BOC_ARCHIVE_BYTES + 1], out[BOC_ARCHIVE_BYTES];
-static size_t bits, archive_len, room = sizeof out, number;
+static size_t bits, archive_len, room = sizeof out, number, at_entry, at_place;
 
 static size_t bytes_for(size_t count) { return (count + 7) / 8; }
 
@@ -30,17 +30,23 @@ static uint32_t reads(void)
 {
     static uint32_t found[BOC_RECORD_WORDS];
 
-    return boc_read(pdu, bytes_for(bits), bits, found, BOC_RECORD_WORDS);
+    return boc_read(pdu, bytes_for(bits), bits, found, BOC_RECORD_WORDS, &at_place);
 }
 static uint32_t writes(void) { return boc_write(record, BOC_RECORD_WORDS, out, room, &number); }
 static uint32_t empties(void) { return boc_empty(home, out, room, &number); }
 static uint32_t captures(void)
 {
-    return boc_capture(archive, archive_len, pdu, bytes_for(bits), bits, out, room, &number);
+    return boc_capture(archive, archive_len, pdu, bytes_for(bits), bits, out, room, &number, &at_entry, &at_place);
 }
-static uint32_t restores(void) { return boc_restore(archive, archive_len, TOP, user, part, out, room, &number); }
-static uint32_t decides(void) { return boc_decide(archive, archive_len, request, BOC_REQUEST_WORDS, &decision); }
-static uint32_t lists(void) { return boc_contents(archive, archive_len, out, room, &number); }
+static uint32_t restores(void)
+{
+    return boc_restore(archive, archive_len, TOP, user, part, out, room, &number, &at_entry, &at_place);
+}
+static uint32_t decides(void)
+{
+    return boc_decide(archive, archive_len, request, BOC_REQUEST_WORDS, &decision, &at_entry, &at_place);
+}
+static uint32_t lists(void) { return boc_contents(archive, archive_len, out, room, &number, &at_entry, &at_place); }
 
 enum call { READ, WRITE, EMPTY, CAPTURE, RESTORE, DECIDE, CONTENTS, CALLS };
 static struct {

@@ -31,12 +31,12 @@ static void lend(void *none)
     uint32_t record[BOC_RECORD_WORDS], request[BOC_REQUEST_WORDS] = {HOME, USER, BOC_SERVICE_SPEECH, BOC_TO_IDENTITY};
     uint8_t empty[ROOM], archive[ROOM], out[ROOM];
     uint32_t decision;
-    size_t empty_len, archive_len, n;
+    size_t empty_len, archive_len, n, entry, place;
 
-    expect("boc_read", boc_read(pdu, sizeof pdu, bits, record, BOC_RECORD_WORDS), BOC_OK);
-    expect("boc_read, no bytes", boc_read(none, 0, 0, record, BOC_RECORD_WORDS), BOC_SHORT);
-    expect("boc_read, no bytes for 8 bits", boc_read(none, 0, 8, record, BOC_RECORD_WORDS), BOC_FRAME);
-    expect("boc_read, no words", boc_read(pdu, sizeof pdu, bits, none, 0), BOC_RANGE);
+    expect("boc_read", boc_read(pdu, sizeof pdu, bits, record, BOC_RECORD_WORDS, &place), BOC_OK);
+    expect("boc_read, no bytes", boc_read(none, 0, 0, record, BOC_RECORD_WORDS, &place), BOC_SHORT);
+    expect("boc_read, no bytes for 8 bits", boc_read(none, 0, 8, record, BOC_RECORD_WORDS, &place), BOC_FRAME);
+    expect("boc_read, no words", boc_read(pdu, sizeof pdu, bits, none, 0, &place), BOC_RANGE);
 
     expect("boc_write, no words", boc_write(none, 0, out, sizeof out, &n), BOC_RANGE);
     expect("boc_write, no buffer", boc_write(record, BOC_RECORD_WORDS, none, 0, &n), BOC_ROOM);
@@ -45,21 +45,27 @@ static void lend(void *none)
     expect("boc_empty, no buffer", boc_empty(HOME, none, 0, &n), BOC_ROOM);
 
     expect("boc_capture",
-           boc_capture(empty, empty_len, pdu, sizeof pdu, bits, archive, sizeof archive, &archive_len), BOC_OK);
-    expect("boc_capture, no archive", boc_capture(none, 0, pdu, sizeof pdu, bits, out, sizeof out, &n), BOC_ARCHIVE);
-    expect("boc_capture, no bytes", boc_capture(empty, empty_len, none, 0, 0, out, sizeof out, &n), BOC_SHORT);
-    expect("boc_capture, no buffer", boc_capture(empty, empty_len, pdu, sizeof pdu, bits, none, 0, &n), BOC_ROOM);
+           boc_capture(empty, empty_len, pdu, sizeof pdu, bits, archive, sizeof archive, &archive_len, &entry, &place),
+           BOC_OK);
+    expect("boc_capture, no archive",
+           boc_capture(none, 0, pdu, sizeof pdu, bits, out, sizeof out, &n, &entry, &place), BOC_ARCHIVE);
+    expect("boc_capture, no bytes",
+           boc_capture(empty, empty_len, none, 0, 0, out, sizeof out, &n, &entry, &place), BOC_SHORT);
+    expect("boc_capture, no buffer",
+           boc_capture(empty, empty_len, pdu, sizeof pdu, bits, none, 0, &n, &entry, &place), BOC_ROOM);
 
-    expect("boc_restore, no archive", boc_restore(none, 0, HOME, USER, BOC_IDENTITY_PART, out, sizeof out, &n),
-           BOC_ARCHIVE);
-    expect("boc_restore, no buffer", boc_restore(archive, archive_len, HOME, USER, BOC_IDENTITY_PART, none, 0, &n),
-           BOC_ROOM);
+    expect("boc_restore, no archive",
+           boc_restore(none, 0, HOME, USER, BOC_IDENTITY_PART, out, sizeof out, &n, &entry, &place), BOC_ARCHIVE);
+    expect("boc_restore, no buffer",
+           boc_restore(archive, archive_len, HOME, USER, BOC_IDENTITY_PART, none, 0, &n, &entry, &place), BOC_ROOM);
 
-    expect("boc_decide, no archive", boc_decide(none, 0, request, BOC_REQUEST_WORDS, &decision), BOC_ARCHIVE);
-    expect("boc_decide, no words", boc_decide(archive, archive_len, none, 0, &decision), BOC_RANGE);
+    expect("boc_decide, no archive",
+           boc_decide(none, 0, request, BOC_REQUEST_WORDS, &decision, &entry, &place), BOC_ARCHIVE);
+    expect("boc_decide, no words",
+           boc_decide(archive, archive_len, none, 0, &decision, &entry, &place), BOC_RANGE);
 
-    expect("boc_contents, no archive", boc_contents(none, 0, out, sizeof out, &n), BOC_ARCHIVE);
-    expect("boc_contents, no buffer", boc_contents(archive, archive_len, none, 0, &n), BOC_ROOM);
+    expect("boc_contents, no archive", boc_contents(none, 0, out, sizeof out, &n, &entry, &place), BOC_ARCHIVE);
+    expect("boc_contents, no buffer", boc_contents(archive, archive_len, none, 0, &n, &entry, &place), BOC_ROOM);
 }
 
 int main(void)
