@@ -211,9 +211,11 @@ fn identities<V: Visitor>(
     visitor: &mut V,
     list: List,
 ) -> Result<(u32, Identity), Stop> {
-    let code = cursor.take(4, |code| unless(code <= RANGE && (code > 0 || list != List::Affected)))?;
+    let range_type = *cursor;
+    let code = cursor.take(4, |_| None)?;
     let mut first = Identity { ssi: 0, present: false, extension: 0 };
     match code {
+        0 if list != List::Affected => {}
         1..=8 => {
             for place in 0..code as usize {
                 let entry = identity(cursor)?;
@@ -232,7 +234,7 @@ fn identities<V: Visitor>(
             }
             visitor.range(list, first, last);
         }
-        _ => {}
+        _ => return Err(range_type.stop(0, Refusal::Value)),
     }
     visitor.range_type(list, code);
     Ok((code, first))
