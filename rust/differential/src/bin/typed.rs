@@ -2,7 +2,7 @@
 //!
 //! Each case is seeded as words, on which the reference answers, and is said in that crate's types by the
 //! tables of `differential::typed`. It ends with how often each value crossed in an accepted call, and how
-//! often each refusal was met; one that was never met is a failure too.
+//! often each refusal was met, and each way to stop; one that was never met is a failure too.
 
 #![forbid(unsafe_code)]
 

@@ -1,11 +1,12 @@
 //! Compares the seven calls of the library with the reference: `calls [SEED]`.
 //!
 //! Each case lends both sides equal buffers of random content and compares the answers, every byte or word of
-//! every buffer, margins before and after what was lent, and the numbers behind the last pointers: a length or
-//! a decision, and where a refused call stopped. It ends with how often each answer of each call was met, each
-//! refusal of a PDU that has a place, 7 for each damage to an archive and for each fault in one, 8 for each
-//! reason that capture can have, each decision for a visitor from another network, and a visitor's call that
-//! is decided otherwise with the home network for the visitor's own; one that was never met is a failure too.
+//! every buffer, margins before and after what was lent, and the numbers behind the last pointers: a length
+//! or a decision, and where a refused call stopped. It ends with how often each answer of each call was met,
+//! each refusal of a PDU that has a place, 7 for each damage to an archive and for each fault in one, 8 for
+//! each reason that capture can have, each decision for a visitor from another network, and a visitor's call
+//! that is decided otherwise with the home network for the visitor's own; one that was never met is a failure
+//! too.
 
 #![forbid(unsafe_code)]
 
@@ -117,8 +118,8 @@ fn histories(calls: &mut Calls, rng: &mut Rng) {
     calls.contents_any_room(rng, &held);
 }
 
-/// A PDU cut at each of its bits, and with each of its bits flipped, read and captured: the longest parts, for
-/// eight users and for one, and any PDUs.
+/// A PDU cut at each of its bits, and with each of its bits flipped, read and captured: the longest parts,
+/// for eight users and for one, and any PDUs.
 fn changed_pdus(calls: &mut Calls, rng: &mut Rng) {
     let (home, user) = (1, [1, 5]);
     let (_, _, case) = calls.case;
@@ -129,17 +130,19 @@ fn changed_pdus(calls: &mut Calls, rng: &mut Rng) {
     };
     let pdu = Pdu::of(&words);
     let held = Archive::random(rng, 3, Size::Small).bytes();
+    let room = held.len() + pdu.bytes.len() + 9;
     let cut = (0..=pdu.bits).map(|bits| pdu.cut(bits));
     let flipped = (0..pdu.bits).map(|place| pdu.flipped(place));
     for (change, pdu) in cut.chain(flipped).enumerate() {
         calls.change = change;
         calls.read(rng, &pdu, RECORD_WORDS);
-        calls.capture(rng, &held, &pdu, AMPLE);
+        calls.capture(rng, &held, &pdu, room);
     }
 }
 
 /// An archive of 512 entries cut at each of its bytes, and with bits flipped: with the smallest bodies each
-/// bit, in every call; with 65,536 bytes each bit before the bodies and some of theirs, in its listing.
+/// bit, in every call; with 65,536 bytes each bit before the bodies and each seventh of theirs, in its
+/// listing.
 fn changed_archives(calls: &mut Calls, rng: &mut Rng) {
     let (_, _, case) = calls.case;
     let archive = match case {
@@ -150,7 +153,7 @@ fn changed_archives(calls: &mut Calls, rng: &mut Rng) {
     let whole = archive.bytes();
     let last = archive.entries.last().expect("it has entries");
     let words = request(rng, last.user);
-    let mut try_each = |calls: &mut Calls, bytes: &[u8], damage: &'static str| {
+    let mut try_calls = |calls: &mut Calls, bytes: &[u8], damage: &'static str| {
         calls.change += 1;
         calls.damage = Some(damage);
         calls.contents(rng, bytes, 100);
@@ -161,14 +164,14 @@ fn changed_archives(calls: &mut Calls, rng: &mut Rng) {
         }
     };
     for length in 0..whole.len() {
-        try_each(calls, &whole[..length], "end cut");
+        try_calls(calls, &whole[..length], "end cut");
     }
     let mut flipped = whole.clone();
     for bit in 0..8 * whole.len() {
         let damage = archive.region(bit / 8);
-        if case == 0 || damage != "body's bits" || bit % 61 == 0 {
+        if case == 0 || damage != "body's bits" || bit % 7 == 0 {
             flipped[bit / 8] ^= 0x80 >> (bit % 8);
-            try_each(calls, &flipped, damage);
+            try_calls(calls, &flipped, damage);
             flipped[bit / 8] = whole[bit / 8];
         }
     }
