@@ -11,11 +11,12 @@ use borrow.Author.Tests.{le-leb}
 use Rattle.bits.specs.Bits.{pick}
 use Rattle.bits.specs.Frame.{bytesFor}
 use Rattle.bits.specs.declared.BitCount.{BitCount}
-use Rattle.archive.specs.Model.{Held, Archive}
+use Rattle.archive.specs.Model.{Held, Archive, inRange}
 use Rattle.archive.specs.Filing.{names}
 use Rattle.archive.specs.Reading.{reading, isArchive}
+use Rattle.archive.specs.Refusals.{plain}
 use Rattle.archive.specs.Keeping.{over, emptyIs, emptyOut, heldFor, captured, captureOut}
-use Rattle.archive.specs.Restoring.{inRange, lookup, delivered, bodyOf, restoreIs, restores, restoreOut}
+use Rattle.archive.specs.Restoring.{lookup, delivered, bodyOf, restoreIs, restores, restoreOut}
 use Rattle.archive.specs.History.{Offer, keptOf, answerTo, after, afterAll, entryOf, latest, lastAccepted}
 use Rattle.archive.specs.declared.contents.Key.{Key}
 use Rattle.archive.specs.declared.Stored.{Stored}
@@ -70,8 +71,8 @@ module _ (k : Key) (r : inRange k ≡ true) where
 
 -- of the last PDU accepted: its bits, or 11 if there was none
 abbrev pub givenOf : Option Offer → ℕ → Restored
-givenOf none room = restored.Refused 11
-givenOf (some o) room = pick (leb (bytesFor (o .bits)) room) (restored.Bits (record { 0 = o .bits })) (restored.Refused 8)
+givenOf none room = restored.Refused (plain 11)
+givenOf (some o) room = pick (leb (bytesFor (o .bits)) room) (restored.Bits (record { 0 = o .bits })) (restored.Refused (plain 8))
 
 abbrev pub pduOf : Option Offer → List ℕ
 pduOf none = []
@@ -79,7 +80,7 @@ pduOf (some o) = o .pdu
 
 gives : (l : Option Held) (last : Option Offer) (room : ℕ) → Matches l last → (delivered l room ≡ givenOf last room) × (bodyOf l ≡ pduOf last)
 gives none none room m = (refl, refl)
-gives (some h) (some o) room m = (ap (λ (n : BitCount). pick (leb (bytesFor (n .0)) room) (restored.Bits n) (restored.Refused 8)) (m .1), m .0)
+gives (some h) (some o) room m = (ap (λ (n : BitCount). pick (leb (bytesFor (n .0)) room) (restored.Bits n) (restored.Refused (plain 8))) (m .1), m .0)
 gives none (some o) room m = absurd m
 gives (some h) none room m = absurd m
 
@@ -132,7 +133,7 @@ module _ (home : ℕ) (lent : List ℕ) (m : ℕ) (e : emptyIs home (length lent
       (x, restore-leaves (afterAll start os) k out x ∙ ap (λ (w : List ℕ). restores (givenOf last (length out)) w out) (g .1))
 
   -- none was accepted for them: 11, and no byte changed
-  pub never : last ≡ none → (restoreIs (afterAll start os) k (length out) ≡ restored.Refused 11) × (restoreOut (afterAll start os) k out ≡ out)
+  pub never : last ≡ none → (restoreIs (afterAll start os) k (length out) ≡ restored.Refused (plain 11)) × (restoreOut (afterAll start os) k out ≡ out)
   never n = rw n at history
 
   -- otherwise, with room for it, exactly the bits of the last

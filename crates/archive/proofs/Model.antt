@@ -2,4 +2,5 @@
 pub mod Keys
 pub mod Bodies
 pub mod Rules
+pub mod Checked
 pub mod Put

@@ -6,18 +6,20 @@ use mathlib.Core.List.{List, [], _∷_, _++_}
 use mathlib.Core.Option.{none, some}
 use Prim.Native.Nat.{ℕ}
 use lib.ListN.{take, replicate}
-use Rattle.archive.specs.Model.{Held, headerBytes, entryBytes, lengthOf, withinLimits}
+use Rattle.archive.specs.Model.{Held, headerBytes, entryBytes, lengthOf, withinLimits, inRange}
 use Rattle.archive.specs.Filing.{filingOf, bodyAgrees}
 use Rattle.archive.specs.Reading.{homeOf, countOf, entryAt, isArchive}
+use Rattle.archive.specs.Refusals.{plain}
 use Rattle.archive.specs.Keeping.{emptyIs, put}
-use Rattle.archive.specs.Restoring.{inRange, fetchIs, restoreIs, restoreOut}
+use Rattle.archive.specs.Restoring.{fetchIs, restoreIs, restoreOut}
 use Rattle.archive.specs.History.{Offer, after, afterAll, lastAccepted}
-use Rattle.archive.specs.Listing.{digits, decimal, item, firstLine, line, lines, listing}
+use Rattle.archive.specs.Listing.{digits, decimal, item, twoItems, firstLine, line, lines, listing}
 use Rattle.archive.specs.Examples.{calls}
 use Rattle.archive.specs.declared.contents.Key.{Key}
 use Rattle.archive.specs.declared.contents.Entry.{Entry}
 use Rattle.archive.specs.declared.Stored.the-variants as stored
-use Rattle.archive.specs.declared.Fetched.the-variants.{Body, NotHeld, NoArchive}
+use Rattle.archive.specs.declared.Fetched.the-variants.{Body, NotHeld}
+use Rattle.archive.specs.declared.Fetched.the-variants as fetch
 use Rattle.archive.specs.declared.Restored.the-variants as restored
 
 -- a user and part, and an entry
@@ -44,7 +46,7 @@ limits : (withinLimits 512 65536 ≡ true) × (withinLimits 513 65536 ≡ false)
 limits = (refl, refl, refl)
 
 -- home networks and lent buffers from both sides
-empties : (emptyIs 16777215 5 ≡ stored.Bytes 5) × (emptyIs 16777216 5 ≡ stored.Refused 9) × (emptyIs 0 4 ≡ stored.Refused 8)
+empties : (emptyIs 16777215 5 ≡ stored.Bytes 5) × (emptyIs 16777216 5 ≡ stored.Refused (plain 9)) × (emptyIs 0 4 ≡ stored.Refused (plain 8))
 unfolding emptyIs
 empties = (refl, refl, refl)
 
@@ -133,9 +135,9 @@ fetched : (fetchIs kept (key 1 5 1) ≡ Body 23 (record { 0 = 66 }))
     × (fetchIs kept (key 7 4 2) ≡ Body 32 (record { 0 = 87 }))
     × (fetchIs kept (key 7 4 1) ≡ NotHeld)
     × (fetchIs nothing (key 1 5 1) ≡ NotHeld)
-    × (fetchIs (kept ++ (0x00 ∷ [])) (key 1 5 1) ≡ NoArchive)
-    × (fetchIs (take 42 kept) (key 1 5 1) ≡ NoArchive)
-    × (fetchIs [] (key 1 5 1) ≡ NoArchive)
+    × (fetchIs (kept ++ (0x00 ∷ [])) (key 1 5 1) ≡ fetch.Refused (plain 7))
+    × (fetchIs (take 42 kept) (key 1 5 1) ≡ fetch.Refused (plain 7))
+    × (fetchIs [] (key 1 5 1) ≡ fetch.Refused (plain 7))
 unfolding calls bodyAgrees filingOf fetchIs inRange
 fetched = (refl, refl, refl, refl, refl, refl, refl)
 
@@ -177,5 +179,5 @@ listing-2 : listing (record { home = 0; held = holding 0 0 1 63 ∷ holding 1677
     48 ∷ 32 ∷ 48 ∷ 32 ∷ 112 ∷ 97 ∷ 114 ∷ 116 ∷ 32 ∷ 49 ∷ 32 ∷ 98 ∷ 105 ∷ 116 ∷ 115 ∷ 32 ∷ 54 ∷ 51 ∷ 10 ∷
     49 ∷ 54 ∷ 55 ∷ 55 ∷ 55 ∷ 50 ∷ 49 ∷ 53 ∷ 32 ∷ 49 ∷ 54 ∷ 55 ∷ 55 ∷ 55 ∷ 50 ∷ 49 ∷ 53 ∷
     32 ∷ 112 ∷ 97 ∷ 114 ∷ 116 ∷ 32 ∷ 50 ∷ 32 ∷ 98 ∷ 105 ∷ 116 ∷ 115 ∷ 32 ∷ 50 ∷ 52 ∷ 53 ∷ 54 ∷ 10 ∷ []
-unfolding listing firstLine lines line item decimal digits
+unfolding listing twoItems firstLine lines line item decimal digits
 listing-2 = refl

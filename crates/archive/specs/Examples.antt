@@ -8,12 +8,13 @@ use Rattle.bits.specs.Bits.{bits}
 use Rattle.bits.specs.Frame.{framed}
 use Rattle.grammar.specs.Grammar.{grammar, networkOf}
 use Rattle.reader.specs.Read.{readIs}
-use Rattle.archive.specs.Model.{Held, Archive, headerBytes, entryBytes, bytesOf, lengthOf}
+use Rattle.archive.specs.Model.{Held, Archive, inRange, headerBytes, entryBytes, bytesOf, lengthOf}
 use Rattle.archive.specs.Reading.{heldFrom, bodiesAt, reading, isArchive}
+use Rattle.archive.specs.Checking.{inOrder, hasShape, bodiesFrom, checkIs}
 use Rattle.archive.specs.Keeping.{emptyOf, emptyIs, emptyOut, with, captured, placed, captureIs, captureOut}
 use Rattle.archive.specs.Filing.{filingOf, bodyAgrees, wellFormed, keepsRules}
 use Rattle.archive.specs.Restoring.{bodyFrom, lookup}
-use Rattle.archive.specs.Listing.{digits, decimal, item, firstLine, line, lines, listing, reportOf, reportIs, reportOut}
+use Rattle.archive.specs.Listing.{digits, decimal, item, twoItems, firstLine, line, lines, listing, reportOf, faultText, toldOf, reportIs, reportOut}
 use Rattle.archive.specs.declared.contents.Key.{Key}
 use Rattle.archive.specs.declared.Stored.the-variants.{Bytes}
 use Rattle.archive.specs.declared.Fetched.the-variants.{Body}
@@ -74,7 +75,7 @@ place-a = refl
 -- `unfolding calls` opens all of them, down to the PDU's bits
 unfoldable pub calls : Unit {0}
 unfolding grammar readIs framed bits emptyIs emptyOut captureIs captureOut captured placed isArchive reading heldFrom
-    wellFormed keepsRules headerBytes entryBytes networkOf
+    wellFormed keepsRules headerBytes entryBytes networkOf inRange inOrder hasShape bodiesFrom checkIs
 calls = tt
 
 -- an empty archive of home network 1; the bytes after it stay
@@ -116,22 +117,22 @@ textA =
     49 ∷ 32 ∷ 53 ∷ 32 ∷ 112 ∷ 97 ∷ 114 ∷ 116 ∷ 32 ∷ 49 ∷ 32 ∷ 98 ∷ 105 ∷ 116 ∷ 115 ∷ 32 ∷ 49 ∷ 51 ∷ 56 ∷ 10 ∷ []
 
 listing-a : listing holdingA ≡ textA
-unfolding listing firstLine lines line item decimal digits
+unfolding listing twoItems firstLine lines line item decimal digits
 listing-a = refl
 
 -- ---- the report
 
 report-a : reportOf bytesA ≡ textA
-unfolding calls filingOf bodyAgrees reportOf listing firstLine lines line item decimal digits
+unfolding calls filingOf bodyAgrees reportOf listing twoItems firstLine lines line item decimal digits
 report-a = refl
 
 -- `refused 7` on its line; the bytes after it stay
-report-none : (reportIs [] 12 ≡ 10)
+report-none : (reportIs [] 12 0 ≡ record { printed = 10; told = 0 })
     × (reportOut [] (replicate 12 0xff) ≡ 114 ∷ 101 ∷ 102 ∷ 117 ∷ 115 ∷ 101 ∷ 100 ∷ 32 ∷ 55 ∷ 10 ∷ 0xff ∷ 0xff ∷ [])
-unfolding calls reportOf reportIs reportOut
+unfolding calls reportOf toldOf faultText reportIs reportOut
 report-none = (refl, refl)
 
 -- a buffer of 9 bytes is too short for it
-report-short : (reportIs [] 9 ≡ 0) × (reportOut [] (replicate 9 0xff) ≡ replicate 9 0xff)
-unfolding calls reportOf reportIs reportOut
+report-short : (reportIs [] 9 0 ≡ record { printed = 0; told = 0 }) × (reportOut [] (replicate 9 0xff) ≡ replicate 9 0xff)
+unfolding calls reportOf toldOf faultText reportIs reportOut
 report-short = (refl, refl)

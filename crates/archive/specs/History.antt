@@ -22,7 +22,7 @@ pub record Offer : Type 0 where
 -- the archive to go on with: what was written, or the old one
 abbrev pub keptOf : Stored → List ℕ → List ℕ → List ℕ
 keptOf (Bytes n) old out = take n out
-keptOf (Refused k) old out = old
+keptOf (Refused f) old out = old
 
 abbrev pub answerTo : List ℕ → Offer → Stored
 answerTo b o = captureIs b (o .pdu) (o .bits) (length (o .lent))
@@ -44,7 +44,7 @@ entryOf b o = entryFor (reading b .home) (readIs (o .pdu) (o .bits) .found) (o .
 abbrev pub latest : Stored → Bool → Offer → Option Offer → Option Offer
 latest (Bytes n) true o last = some o
 latest (Bytes n) false o last = last
-latest (Refused k) same o last = last
+latest (Refused f) same o last = last
 
 unfoldable pub lastAccepted : Key → List ℕ → Option Offer → List Offer → Option Offer
 lastAccepted k b last [] = last

@@ -1,9 +1,10 @@
--- What private functions give: a PDU's filing; where a key stands in an archive's bytes; the bytes of a capture as parts of the old archive
+-- What private functions give: a PDU's filing; the shape of what is left; where a key stands in an archive's bytes; the bytes of a capture as parts of the old archive
 -- around the new entry and body; the lines of a listing.
+use mathlib.Core.Bool.{Bool, _&&_}
 use mathlib.Core.List.{List, [], _∷_, _++_}
 use Prim.Native.Nat.{ℕ, zero, suc, _+_, _-_, _*_, _≤_, _<_}
 use lib.ListN.{length, take, drop}
-use lib.Dec.{ltb, eqb}
+use lib.Dec.{ltb, leb, eqb}
 use Rattle.bits.specs.Bits.{pick}
 use Rattle.bits.specs.Frame.{bytesFor}
 use Rattle.grammar.specs.Grammar.{networkOf}
@@ -11,13 +12,19 @@ use Rattle.walk.specs.declared.Head.{Head}
 use Rattle.walk.specs.declared.Walked.{Walked}
 use Rattle.walk.specs.declared.Walked.the-variants as walked
 use Rattle.judging.specs.Judge.{holdable}
-use Rattle.archive.specs.Model.{Held, Archive, rank, headerWidth, entryWidth, headerBytes, entryBytes, bodySize}
-use Rattle.archive.specs.Reading.{homeOf, countOf, entryAt, reading}
+use Rattle.archive.specs.Model.{Held, Archive, rankOf, rank, inRange, headerWidth, entryWidth, headerBytes, entryBytes, bodySize, sizes}
+use Rattle.archive.specs.Reading.{homeOf, countOf, entryAt, heldFrom, reading}
+use Rattle.archive.specs.Refusals.{plain, ofPdu}
+use Rattle.archive.specs.Filing.{bodyAgrees}
+use Rattle.archive.specs.Checking.{bodyPlace, inOrder}
 use Rattle.archive.specs.Keeping.{with}
 use Rattle.archive.specs.Listing.{line}
 use Rattle.archive.specs.declared.contents.Key.{Key}
 use Rattle.archive.specs.declared.contents.Entry.{Entry}
 use Rattle.archive.specs.declared.checking.Place.{Place}
+use Rattle.archive.specs.declared.refusal.Refusal.{Refusal}
+use Rattle.archive.specs.declared.filing.Agreement.{Agreement}
+use Rattle.archive.specs.declared.filing.Agreement.the-variants.{Agrees, Fault}
 use Rattle.archive.specs.declared.filing.Filing.{Filing}
 use Rattle.archive.specs.declared.filing.Filing.the-variants.{Under, Nowhere}
 
@@ -30,14 +37,28 @@ filingUnder home h n =
     (Under (record { key = record { network = networkOf home (h .user); ssi = h .user .ssi; part = h .result }; bits = record { 0 = n } }))
     Nowhere
 
--- the number of the walk's refusal, 0 for none
-abbrev pub walkedNumber : Walked → ℕ
-walkedNumber (walked.Accepted h) = 0
-walkedNumber (walked.Refused f) = f .number
+-- the walk's refusal, with the number 0 for none
+abbrev pub walkedRefusal : Walked → Refusal
+walkedRefusal (walked.Accepted h) = plain 0
+walkedRefusal (walked.Refused f) = ofPdu f
+
+-- whether a body agrees with its entry, and the place of its refusal if not
+unfoldable pub agreementIs : ℕ → Held → Agreement
+agreementIs home h = pick (bodyAgrees home h) Agrees (Fault (bodyPlace h))
 
 -- the archive of some bytes with a body under an entry
 abbrev pub filedIn : List ℕ → Entry → List ℕ → Archive
 filedIn b e body = with (reading b) (record { entry = e; body = body })
+
+-- ---- the shape
+
+-- an entry may stand behind one of a rank, with so many bytes left for its body
+unfoldable pub mayFollow : Entry → ℕ → ℕ → Bool
+mayFollow e last room = ltb last (rankOf (e .key)) && (inRange (e .key) && leb (bytesFor (e .bits .0)) room)
+
+-- the n entries from a place on are in order, and their bodies, from another place on, end with the bytes
+unfoldable pub restShape : List ℕ → ℕ → ℕ → ℕ → ℕ → Bool
+restShape b last n at off = inOrder last (heldFrom b n at off) && eqb (off + sizes (heldFrom b n at off)) (length b)
 
 -- ---- the place of a key, by its rank
 

@@ -11,14 +11,17 @@ use Rattle.reader.specs.declared.Answer.the-variants as reader
 use Rattle.judging.specs.Judge.{mayHold}
 use Rattle.archive.specs.Model.{Held, Archive, rank, headerWidth, bytesOf, lengthOf, withinLimits}
 use Rattle.archive.specs.Filing.{entryFor}
-use Rattle.archive.specs.Reading.{reading, isArchive}
+use Rattle.archive.specs.Reading.{reading}
+use Rattle.archive.specs.Refusals.{plain, ofPdu}
+use Rattle.archive.specs.Checking.{checkIs, ifArchive}
+use Rattle.archive.specs.declared.refusal.Refusal.{Refusal}
 use Rattle.archive.specs.declared.Stored.{Stored}
 use Rattle.archive.specs.declared.Stored.the-variants.{Bytes, Refused}
 
--- document 01's number of an answer, 0 for success
-abbrev pub storedNumber : Stored → ℕ
-storedNumber (Bytes n) = 0
-storedNumber (Refused k) = k
+-- document 01's number of an answer, 0 for success, with its entry and its place
+abbrev pub storedRefusal : Stored → Refusal
+storedRefusal (Bytes n) = plain 0
+storedRefusal (Refused f) = f
 
 -- these bytes first, and the buffer's own after them
 abbrev pub over : List ℕ → List ℕ → List ℕ
@@ -27,7 +30,7 @@ over w out = w ++ drop (length w) out
 -- a refusal changes no byte
 abbrev pub leaves : Stored → List ℕ → List ℕ → List ℕ
 leaves (Bytes n) w out = over w out
-leaves (Refused k) w out = out
+leaves (Refused f) w out = out
 
 -- ---- empty: 9 for a home network out of range, then 8
 
@@ -35,7 +38,7 @@ abbrev pub emptyOf : ℕ → Archive
 emptyOf home = record { home = home; held = [] }
 
 unfoldable pub emptyIs : ℕ → ℕ → Stored
-emptyIs home room = guard (ltb home 16777216) (Refused 9) (guard (leb headerWidth room) (Refused 8) (Bytes headerWidth))
+emptyIs home room = guard (ltb home 16777216) (Refused (plain 9)) (guard (leb headerWidth room) (Refused (plain 8)) (Bytes headerWidth))
 
 unfoldable pub emptyOut : ℕ → List ℕ → List ℕ
 emptyOut home out = leaves (emptyIs home (length out)) (bytesOf (emptyOf home)) out
@@ -61,18 +64,18 @@ captured b s n = with (reading b) (heldFor (reading b .home) s n)
 -- the reader's refusal is passed on
 abbrev pub ifAccepted : Answer → Stored → Stored
 ifAccepted reader.Accepted r = r
-ifAccepted (reader.Refused k) r = Refused k
+ifAccepted (reader.Refused f) r = Refused (ofPdu f)
 
 -- 8 for one entry too many, or a result over the limit or the lent buffer
 unfoldable pub placed : Archive → ℕ → Stored
-placed a room = guard (withinLimits (length (a .held)) (lengthOf a) && leb (lengthOf a) room) (Refused 8) (Bytes (lengthOf a))
+placed a room = guard (withinLimits (length (a .held)) (lengthOf a) && leb (lengthOf a) room) (Refused (plain 8)) (Bytes (lengthOf a))
 
 -- 7, the PDU's own, 6, 8
 unfoldable pub captureIs : List ℕ → List ℕ → ℕ → ℕ → Stored
 captureIs b s n room =
-    guard (isArchive b) (Refused 7)
+    ifArchive (checkIs b) Refused
     (ifAccepted (readIs s n .answer)
-    (guard (mayHold (readIs s n .found)) (Refused 6)
+    (guard (mayHold (readIs s n .found)) (Refused (plain 6))
     (placed (captured b s n) room)))
 
 unfoldable pub captureOut : List ℕ → List ℕ → ℕ → List ℕ → List ℕ

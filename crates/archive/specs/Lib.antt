@@ -1,6 +1,8 @@
 pub mod Model
 pub mod Filing
 pub mod Reading
+pub mod Refusals
+pub mod Checking
 pub mod Keeping
 pub mod Restoring
 pub mod History

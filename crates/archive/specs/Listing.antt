@@ -5,9 +5,16 @@ use lib.ListN.{length}
 use lib.Dec.{ltb, leb}
 use Rattle.bits.specs.Bits.{pick, guard}
 use Rattle.archive.specs.Model.{Held, Archive}
-use Rattle.archive.specs.Reading.{reading, isArchive}
+use Rattle.archive.specs.Reading.{reading}
+use Rattle.archive.specs.Refusals.{plain}
+use Rattle.archive.specs.Checking.{checkIs, ifArchive}
 use Rattle.archive.specs.Keeping.{over, leaves}
+use Rattle.walk.specs.declared.BitPlace.{BitPlace}
+use Rattle.walk.specs.declared.BitPlace.the-variants as bit
 use Rattle.archive.specs.declared.contents.Entry.{Entry}
+use Rattle.archive.specs.declared.refusal.EntryPlace.{EntryPlace}
+use Rattle.archive.specs.declared.refusal.EntryPlace.the-variants as entry
+use Rattle.archive.specs.declared.listing.Reported.{Reported}
 use Rattle.archive.specs.declared.Stored.{Stored}
 use Rattle.archive.specs.declared.Stored.the-variants.{Bytes, Refused}
 
@@ -48,6 +55,14 @@ partWord = 32 ∷ 112 ∷ 97 ∷ 114 ∷ 116 ∷ 32 ∷ []
 abbrev pub bitsWord : List ℕ
 bitsWord = 32 ∷ 98 ∷ 105 ∷ 116 ∷ 115 ∷ 32 ∷ []
 
+-- `entry `
+abbrev pub entryWord : List ℕ
+entryWord = 101 ∷ 110 ∷ 116 ∷ 114 ∷ 121 ∷ 32 ∷ []
+
+-- ` bit `
+abbrev pub bitWord : List ℕ
+bitWord = 32 ∷ 98 ∷ 105 ∷ 116 ∷ 32 ∷ []
+
 -- LF
 abbrev pub lineEnd : List ℕ
 lineEnd = 10 ∷ []
@@ -58,9 +73,13 @@ lineEnd = 10 ∷ []
 unfoldable pub item : ℕ → List ℕ → List ℕ
 item n word = decimal n ++ word
 
+-- a line of two numbers, each after its word
+unfoldable pub twoItems : List ℕ → ℕ → List ℕ → ℕ → List ℕ
+twoItems word n other m = word ++ (item n other ++ item m lineEnd)
+
 -- `home H entries N`
 unfoldable pub firstLine : ℕ → ℕ → List ℕ
-firstLine home count = homeWord ++ (item home entriesWord ++ item count lineEnd)
+firstLine home count = twoItems homeWord home entriesWord count
 
 -- `NETWORK SSI part P bits B`
 unfoldable pub line : Entry → List ℕ
@@ -78,22 +97,31 @@ listing a = firstLine (a .home) (length (a .held)) ++ lines (a .held)
 
 unfoldable pub listIs : List ℕ → ℕ → Stored
 listIs b room =
-    guard (isArchive b) (Refused 7)
-    (guard (leb (length (listing (reading b))) room) (Refused 8)
+    ifArchive (checkIs b) Refused
+    (guard (leb (length (listing (reading b))) room) (Refused (plain 8))
     (Bytes (length (listing (reading b)))))
 
 unfoldable pub listOut : List ℕ → List ℕ → List ℕ
 listOut b out = leaves (listIs b (length out)) (listing (reading b)) out
 
--- ---- report: what the program `contents` prints
+-- ---- report: what the program `contents` prints, and what it tells on standard error
 
 -- `refused 7` and a line end
 abbrev pub refusedLine : List ℕ
 refusedLine = 114 ∷ 101 ∷ 102 ∷ 117 ∷ 115 ∷ 101 ∷ 100 ∷ 32 ∷ 55 ∷ lineEnd
 
--- the listing of an archive; `refused 7` for what is none
+-- printed: the listing of an archive; `refused 7` for what is none
 unfoldable pub reportOf : List ℕ → List ℕ
-reportOf b = pick (isArchive b) (listing (reading b)) refusedLine
+reportOf b = ifArchive (checkIs b) (λ f. refusedLine) (listing (reading b))
+
+-- told: where a body is at fault, `entry I` or `entry I bit P`; otherwise nothing
+unfoldable pub faultText : EntryPlace → BitPlace → List ℕ
+faultText entry.Nowhere p = []
+faultText (entry.At i) bit.Nowhere = entryWord ++ item i lineEnd
+faultText (entry.At i) (bit.At p) = twoItems entryWord i bitWord p
+
+unfoldable pub toldOf : List ℕ → List ℕ
+toldOf b = ifArchive (checkIs b) (λ f. faultText (f .entry) (f .place)) []
 
 -- a text's length if the lent buffer has room for it, otherwise 0
 abbrev pub lengthWithin : List ℕ → ℕ → ℕ
@@ -103,8 +131,11 @@ lengthWithin w room = guard (leb (length w) room) 0 (length w)
 abbrev pub textWithin : List ℕ → List ℕ → List ℕ
 textWithin w out = guard (leb (length w) (length out)) out (over w out)
 
-unfoldable pub reportIs : List ℕ → ℕ → ℕ
-reportIs b room = lengthWithin (reportOf b) room
+unfoldable pub reportIs : List ℕ → ℕ → ℕ → Reported
+reportIs b room more = record { printed = lengthWithin (reportOf b) room; told = lengthWithin (toldOf b) more }
 
 unfoldable pub reportOut : List ℕ → List ℕ → List ℕ
 reportOut b out = textWithin (reportOf b) out
+
+unfoldable pub toldOut : List ℕ → List ℕ → List ℕ
+toldOut b out = textWithin (toldOf b) out

@@ -3,7 +3,7 @@ use mathlib.Core.Bool.{Bool, _&&_}
 use mathlib.Core.List.{List, [], _∷_, _++_}
 use Prim.Native.Nat.{ℕ, _+_, _*_, _/_, _%_, _<_}
 use lib.ListN.{length}
-use lib.Dec.{leb}
+use lib.Dec.{ltb, leb}
 use Rattle.bits.specs.Frame.{bytesFor}
 use Rattle.archive.specs.declared.contents.Key.{Key}
 use Rattle.archive.specs.declared.contents.Entry.{Entry}
@@ -23,6 +23,10 @@ rankOf k = k .network * 4294967296 + k .ssi * 256 + k .part
 
 abbrev pub rank : Held → ℕ
 rank h = rankOf (h .entry .key)
+
+-- network and SSI below 16,777,216, part 1 or 2
+unfoldable pub inRange : Key → Bool
+inRange k = ltb (k .network) 16777216 && (ltb (k .ssi) 16777216 && (leb 1 (k .part) && leb (k .part) 2))
 
 -- entries that rise strictly, from above a rank on: no user and part stands twice
 pub data Rising : ℕ → List Held → Type 0 where

@@ -1,58 +1,118 @@
 // Whether bytes are an archive, and where a key stands in one: each one pass over the contents.
 use crate::contents;
 use crate::contents::ENTRY;
+use crate::contents::Entry;
 use crate::contents::HEADER;
 use crate::contents::Key;
 use crate::filing;
+use crate::filing::Agreement;
+use crate::refusal;
+use crate::refusal::EntryPlace;
+use crate::refusal::Refusal;
 use bits::BitCount;
 ghost use mathlib.Core.Path.{_≡_};
 ghost use mathlib.Core.Bool.{true};
-ghost use Prim.Native.Nat.{_≤_};
-ghost use Rattle.archive.specs.Model.{rankOf, headerWidth};
+ghost use Prim.Native.Nat.{_+_, _*_, _≤_};
+ghost use lib.ListN.{length};
+ghost use Rattle.archive.specs.Model.{rankOf, headerWidth, entryWidth};
 ghost use Rattle.archive.specs.Reading.{isArchive, bodiesAt, heldIn};
-ghost use Rattle.archive.specs.Inner.{KeyFits, seek, nextAt, restAt};
+ghost use Rattle.archive.specs.Checking.{checkIs};
+ghost use Rattle.archive.specs.Inner.{KeyFits, EntryFits, mayFollow, restShape, seek, nextAt, restAt};
 
-// Exactly the bytes of a well-formed archive pass.
-pub fn check(archive: &[u8]) -> bool
-    ensures { λ r. ⌜ r ≡ isArchive (now (archive .entry)) ⌝ }
+// What a check says of bytes: an archive; or refusal 7, with the first entry whose body is at fault where all else is right.
+pub enum Checked {
+    Archive,
+    Refused(Refusal),
+}
+
+// Exactly the bytes of a well-formed archive pass. A fault of header, contents or length comes before any body's.
+pub fn check(archive: &[u8]) -> Checked
+    ensures { λ r. ⌜ r ≡ checkIs (now (archive .entry)) ⌝ }
 {
     let size = archive.len();
     if size < HEADER {
-        return false;
+        return Checked::Refused(refusal::plain(7));
     }
     let home = contents::home(archive);
-    let mut left = contents::count(archive);
-    if !contents::within_limits(left, size) {
-        return false;
+    let count = contents::count(archive);
+    if !contents::within_limits(count, size) {
+        return Checked::Refused(refusal::plain(7));
     }
-    let mut off = HEADER + ENTRY * left;
+    let mut off = HEADER + ENTRY * count;
     if size < off {
-        return false;
+        return Checked::Refused(refusal::plain(7));
     }
+    let mut left = count;
     let mut at = HEADER;
     let mut last: u64 = 0;
     while 0 < left {
         let entry = contents::entry_at(archive, at);
+        if !may_follow(entry, last, size - off) {
+            return Checked::Refused(refusal::plain(7));
+        }
         let key = entry.key;
-        let rank = key.rank();
-        if rank <= last {
-            return false;
-        }
         let bits = entry.bits;
-        let length = bits.bytes();
-        if size - off < length {
-            return false;
+        let end = off + bits.bytes();
+        last = key.rank();
+        at += ENTRY;
+        let agreement = filing::body_agreement(home, entry, &archive[off..end]);
+        if let Agreement::Fault(place) = agreement {
+            if !rest_has_shape(archive, left - 1, at, end, last) {
+                return Checked::Refused(refusal::plain(7));
+            }
+            return Checked::Refused(Refusal {
+                number: 7,
+                entry: EntryPlace::At(count - left),
+                place,
+            });
         }
-        let end = off + length;
-        if !filing::body_agrees(home, entry, &archive[off..end]) {
-            return false;
-        }
-        last = rank;
         off = end;
+        left -= 1;
+    }
+    if off != size {
+        return Checked::Refused(refusal::plain(7));
+    }
+    Checked::Archive
+}
+
+// Whether an entry may stand here: its key is above a rank and in range, and there is room for its body.
+fn may_follow(entry: Entry, last: u64, room: usize) -> bool
+    requires { ⌜ EntryFits entry ⌝ }
+    ensures { λ r. ⌜ r ≡ mayFollow entry last room ⌝ }
+{
+    let key = entry.key;
+    if key.rank() <= last {
+        return false;
+    }
+    if !contents::in_range(key) {
+        return false;
+    }
+    let bits = entry.bits;
+    bits.bytes() <= room
+}
+
+// Whether the entries that are left, whatever their bodies, have the shape of an archive's.
+fn rest_has_shape(archive: &[u8], entries: usize, from: usize, bodies: usize, rank: u64) -> bool
+    requires { ⌜ (from + entryWidth * entries ≤ length (now archive)) × (bodies ≤ length (now archive)) × (length (now archive) ≤ 65536) ⌝ }
+    ensures { λ r. ⌜ r ≡ restShape (now (archive .entry)) rank entries from bodies ⌝ }
+{
+    let mut left = entries;
+    let mut at = from;
+    let mut off = bodies;
+    let mut last = rank;
+    while 0 < left {
+        let entry = contents::entry_at(archive, at);
+        if !may_follow(entry, last, archive.len() - off) {
+            return false;
+        }
+        let key = entry.key;
+        let bits = entry.bits;
+        last = key.rank();
+        off += bits.bytes();
         at += ENTRY;
         left -= 1;
     }
-    off == size
+    off == archive.len()
 }
 
 // A contents place and a body place: those of a key's entry, or where they would go, with no entry and no bits.

@@ -3,7 +3,7 @@ use bits::BitCount;
 ghost use mathlib.Core.Path.{_≡_};
 ghost use Prim.Native.Nat.{_+_, _≤_, _<_};
 ghost use lib.ListN.{length, getD};
-ghost use Rattle.archive.specs.Model.{rankOf, headerWidth, entryWidth, headerBytes, entryBytes, withinLimits};
+ghost use Rattle.archive.specs.Model.{rankOf, inRange, headerWidth, entryWidth, headerBytes, entryBytes, withinLimits};
 ghost use Rattle.archive.specs.Reading.{number2, number3, homeOf, entryAt};
 ghost use Rattle.archive.specs.Inner.{KeyFits, EntryFits};
 
@@ -33,6 +33,22 @@ impl Key {
 pub struct Entry {
     pub key: Key,
     pub bits: BitCount,
+}
+
+// Whether a user and part are in range.
+pub(crate) fn in_range(key: Key) -> bool
+    ensures { λ r. ⌜ r ≡ inRange key ⌝ }
+{
+    if 16777216 <= key.network {
+        return false;
+    }
+    if 16777216 <= key.ssi {
+        return false;
+    }
+    if key.part < 1 {
+        return false;
+    }
+    key.part <= 2
 }
 
 // The limits of an archive: entries and bytes.

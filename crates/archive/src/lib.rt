@@ -4,13 +4,17 @@ mod contents;
 mod copying;
 mod filing;
 pub mod listing;
+mod refusal;
 
 use bits::BitCount;
+pub use checking::Checked;
 pub use checking::check;
 use contents::Entry;
 pub use contents::Key;
 pub use contents::home;
 use filing::Filing;
+pub use refusal::EntryPlace;
+pub use refusal::Refusal;
 use walk::Walked;
 ghost use mathlib.Core.Path.{_≡_};
 ghost use mathlib.Core.Bool.{true};
@@ -21,27 +25,28 @@ ghost use Rattle.bits.specs.Bits.{pick};
 ghost use Rattle.bits.specs.Frame.{bytesFor};
 ghost use Rattle.archive.specs.Model.{bytesOf};
 ghost use Rattle.archive.specs.Reading.{isArchive};
-ghost use Rattle.archive.specs.Inner.{EntryFits, filedIn, walkedNumber};
+ghost use Rattle.archive.specs.Refusals.{plain};
+ghost use Rattle.archive.specs.Inner.{EntryFits, filedIn};
 ghost use Rattle.archive.specs.Keeping.{leaves, emptyIs, emptyOut, placed, captureIs, captureOut};
-ghost use Rattle.archive.specs.Restoring.{inRange, fetchIs, restores, restoreIs, restoreOut};
+ghost use Rattle.archive.specs.Restoring.{fetchIs, restores, restoreIs, restoreOut};
 
-// The length in bytes of an archive, or of a listing, that was written; or a refusal number.
+// The length in bytes of an archive, or of a listing, that was written; or a refusal.
 pub enum Stored {
     Bytes(usize),
-    Refused(u32),
+    Refused(Refusal),
 }
 
-// The length in bits of a PDU that was restored, or a refusal number.
+// The length in bits of a PDU that was restored, or a refusal.
 pub enum Restored {
     Bits(BitCount),
-    Refused(u32),
+    Refused(Refusal),
 }
 
-// Where the body of a held PDU begins, and its length in bits.
+// Where the body of a held PDU begins, and its length in bits; or the refusal of what is no archive.
 pub enum Fetched {
     Body(usize, BitCount),
     NotHeld,
-    NoArchive,
+    Refused(Refusal),
 }
 
 // Writes the empty archive of a home network.
@@ -50,10 +55,10 @@ pub fn empty(home: u32, out: &mut [u8]) -> Stored
     ensures { λ _. ⌜ now (out .exit) ≡ emptyOut home (now (out .entry)) ⌝ }
 {
     if 16777216 <= home {
-        return Stored::Refused(9);
+        return Stored::Refused(refusal::plain(9));
     }
     if out.len() < contents::HEADER {
-        return Stored::Refused(8);
+        return Stored::Refused(refusal::plain(8));
     }
     let header = contents::header_bytes(home, 0);
     Stored::Bytes(copying::append(out, 0, &header))
@@ -64,28 +69,19 @@ pub fn capture(archive: &[u8], body: &[u8], n: BitCount, out: &mut [u8]) -> Stor
     ensures { λ r. ⌜ r ≡ captureIs (now (archive .entry)) (now (body .entry)) (n .0) (length (now (out .entry))) ⌝ }
     ensures { λ _. ⌜ now (out .exit) ≡ captureOut (now (archive .entry)) (now (body .entry)) (n .0) (now (out .entry)) ⌝ }
 {
-    if !checking::check(archive) {
-        return Stored::Refused(7);
+    let checked = checking::check(archive);
+    if let Checked::Refused(refusal) = checked {
+        return Stored::Refused(refusal);
     }
     let walked = walk::walk(body, n);
     let Walked::Accepted(head) = walked else {
-        return Stored::Refused(refusal_number(walked));
+        return Stored::Refused(refusal::of_walk(walked));
     };
     let filing = filing::filing_of(contents::home(archive), head, n);
     let Filing::Under(entry) = filing else {
-        return Stored::Refused(6);
+        return Stored::Refused(refusal::plain(6));
     };
     file(archive, entry, body, out)
-}
-
-// The number of the walk's refusal, 0 for none.
-fn refusal_number(walked: Walked) -> u32
-    ensures { λ r. ⌜ r ≡ walkedNumber walked ⌝ }
-{
-    match walked {
-        Walked::Accepted(_) => 0,
-        Walked::Refused(refusal) => refusal.number,
-    }
 }
 
 // Files a body under its entry, in place of what is held for its user and part.
@@ -99,38 +95,23 @@ fn file(archive: &[u8], entry: Entry, body: &[u8], out: &mut [u8]) -> Stored
     let count = contents::count(archive) + 1 - place.entries;
     let size = copying::spliced_length(archive, place, body.len());
     if !contents::within_limits(count, size) {
-        return Stored::Refused(8);
+        return Stored::Refused(refusal::plain(8));
     }
     if out.len() < size {
-        return Stored::Refused(8);
+        return Stored::Refused(refusal::plain(8));
     }
     Stored::Bytes(copying::splice(archive, place, count, entry, body, out))
-}
-
-// Whether a user and part are in range.
-fn in_range(key: Key) -> bool
-    ensures { λ r. ⌜ r ≡ inRange key ⌝ }
-{
-    if 16777216 <= key.network {
-        return false;
-    }
-    if 16777216 <= key.ssi {
-        return false;
-    }
-    if key.part < 1 {
-        return false;
-    }
-    key.part <= 2
 }
 
 // Finds the body held for a user and part.
 pub fn fetch(archive: &[u8], key: Key) -> Fetched
     ensures { λ r. ⌜ r ≡ fetchIs (now (archive .entry)) key ⌝ }
 {
-    if !checking::check(archive) {
-        return Fetched::NoArchive;
+    let checked = checking::check(archive);
+    if let Checked::Refused(refusal) = checked {
+        return Fetched::Refused(refusal);
     }
-    if !in_range(key) {
+    if !contents::in_range(key) {
         return Fetched::NotHeld;
     }
     let place = checking::find(archive, key);
@@ -144,12 +125,12 @@ pub fn fetch(archive: &[u8], key: Key) -> Fetched
 // Writes a body to the front of the lent buffer.
 fn deliver(archive: &[u8], off: usize, n: BitCount, out: &mut [u8]) -> Restored
     requires { ⌜ off + bytesFor (n .0) ≤ length (now archive) ⌝ }
-    ensures { λ r. ⌜ r ≡ pick (leb (bytesFor (n .0)) (length (now (out .entry)))) (Restored.Bits n) (Restored.Refused 8) ⌝ }
+    ensures { λ r. ⌜ r ≡ pick (leb (bytesFor (n .0)) (length (now (out .entry)))) (Restored.Bits n) (Restored.Refused (plain 8)) ⌝ }
     ensures { λ r. ⌜ now (out .exit) ≡ restores r (take (bytesFor (n .0)) (drop off (now (archive .entry)))) (now (out .entry)) ⌝ }
 {
     let size = n.bytes();
     if out.len() < size {
-        return Restored::Refused(8);
+        return Restored::Refused(refusal::plain(8));
     }
     let end = off + size;
     copying::append(out, 0, &archive[off..end]);
@@ -161,13 +142,13 @@ pub fn restore(archive: &[u8], key: Key, out: &mut [u8]) -> Restored
     ensures { λ r. ⌜ r ≡ restoreIs (now (archive .entry)) key (length (now (out .entry))) ⌝ }
     ensures { λ _. ⌜ now (out .exit) ≡ restoreOut (now (archive .entry)) key (now (out .entry)) ⌝ }
 {
-    if !in_range(key) {
-        return Restored::Refused(9);
+    if !contents::in_range(key) {
+        return Restored::Refused(refusal::plain(9));
     }
     let found = fetch(archive, key);
     match found {
-        Fetched::NoArchive => Restored::Refused(7),
-        Fetched::NotHeld => Restored::Refused(11),
+        Fetched::Refused(refusal) => Restored::Refused(refusal),
+        Fetched::NotHeld => Restored::Refused(refusal::plain(11)),
         Fetched::Body(off, n) => deliver(archive, off, n, out),
     }
 }

@@ -1,11 +1,16 @@
 // The listing of an archive as text: a line for the header, then a line for each PDU held.
 use crate::Stored;
 use crate::checking;
+use crate::checking::Checked;
 use crate::contents;
 use crate::contents::ENTRY;
 use crate::contents::Entry;
 use crate::contents::HEADER;
 use crate::copying;
+use crate::refusal;
+use crate::refusal::EntryPlace;
+use crate::refusal::Refusal;
+use walk::BitPlace;
 ghost use mathlib.Core.Path.{_≡_};
 ghost use mathlib.Core.Bool.{true};
 ghost use mathlib.Core.List.{_∷_, []};
@@ -15,8 +20,8 @@ ghost use Rattle.bits.specs.Inner.{Laid};
 ghost use Rattle.archive.specs.Model.{headerWidth, entryWidth};
 ghost use Rattle.archive.specs.Reading.{countOf, isArchive, reading};
 ghost use Rattle.archive.specs.Inner.{linesIn};
-ghost use Rattle.archive.specs.Listing.{decimal, item, line, firstLine, listing, listIs, listOut};
-ghost use Rattle.archive.specs.Listing.{refusedLine, lengthWithin, textWithin, reportIs, reportOut};
+ghost use Rattle.archive.specs.Listing.{decimal, item, line, twoItems, firstLine, listing, listIs, listOut};
+ghost use Rattle.archive.specs.Listing.{refusedLine, faultText, lengthWithin, textWithin, reportIs, reportOut, toldOut};
 
 // How many digits a number has.
 fn digits_of(n: usize) -> usize
@@ -66,14 +71,22 @@ fn write_item(out: &mut [u8], at: usize, n: usize, word: &[u8]) -> usize
     copying::append(out, word_at, word)
 }
 
+// Writes a line of two numbers, each after its word.
+fn write_two_items(out: &mut [u8], word: &[u8], n: usize, other: &[u8], m: usize) -> usize
+    requires { ⌜ length (twoItems (now word) n (now other) m) ≤ length (now out) ⌝ }
+    ensures { λ r. ⌜ Laid (now (out .entry)) 0 (twoItems (now (word .entry)) n (now (other .entry)) m) (now (out .exit)) r ⌝ }
+{
+    let first_at = copying::append(out, 0, word);
+    let second_at = write_item(out, first_at, n, other);
+    write_item(out, second_at, m, b"\n")
+}
+
 // Writes the line of the header.
 fn write_first(out: &mut [u8], home: u32, count: usize) -> usize
     requires { ⌜ length (firstLine home count) ≤ length (now out) ⌝ }
     ensures { λ r. ⌜ Laid (now (out .entry)) 0 (firstLine home count) (now (out .exit)) r ⌝ }
 {
-    let home_at = copying::append(out, 0, b"home ");
-    let count_at = write_item(out, home_at, home as usize, b" entries ");
-    write_item(out, count_at, count, b"\n")
+    write_two_items(out, b"home ", home as usize, b" entries ", count)
 }
 
 // Writes the line of an entry.
@@ -151,11 +164,12 @@ pub fn list(archive: &[u8], out: &mut [u8]) -> Stored
     ensures { λ r. ⌜ r ≡ listIs (now (archive .entry)) (length (now (out .entry))) ⌝ }
     ensures { λ _. ⌜ now (out .exit) ≡ listOut (now (archive .entry)) (now (out .entry)) ⌝ }
 {
-    if !checking::check(archive) {
-        return Stored::Refused(7);
+    let checked = checking::check(archive);
+    if let Checked::Refused(refusal) = checked {
+        return Stored::Refused(refusal);
     }
     if out.len() < text_length(archive) {
-        return Stored::Refused(8);
+        return Stored::Refused(refusal::plain(8));
     }
     Stored::Bytes(write_text(archive, out))
 }
@@ -171,18 +185,78 @@ fn write_refused(out: &mut [u8]) -> usize
     copying::append(out, 0, b"refused 7\n")
 }
 
-// What the program `contents` prints of its input: writes the listing, or `refused 7` for what is no archive, to the lent buffer. Returns
-// its length; 0 where the buffer is too short for it, and then no byte is changed.
-pub fn report(archive: &[u8], out: &mut [u8]) -> usize
-    ensures { λ r. ⌜ r ≡ reportIs (now (archive .entry)) (length (now (out .entry))) ⌝ }
-    ensures { λ _. ⌜ now (out .exit) ≡ reportOut (now (archive .entry)) (now (out .entry)) ⌝ }
+// Writes the listing, where there is room for it.
+fn write_listing(archive: &[u8], out: &mut [u8]) -> usize
+    requires { ⌜ isArchive (now archive) ≡ true ⌝ }
+    ensures { λ r. ⌜ r ≡ lengthWithin (listing (reading (now (archive .entry)))) (length (now (out .entry))) ⌝ }
+    ensures { λ _. ⌜ now (out .exit) ≡ textWithin (listing (reading (now (archive .entry)))) (now (out .entry)) ⌝ }
 {
-    if !checking::check(archive) {
-        return write_refused(out);
-    }
-    let size = text_length(archive);
-    if out.len() < size {
+    if out.len() < text_length(archive) {
         return 0;
     }
     write_text(archive, out)
+}
+
+// Writes `entry I` on a line, where there is room for it.
+fn write_entry(out: &mut [u8], index: usize) -> usize
+    ensures { λ r. ⌜ r ≡ lengthWithin (faultText (EntryPlace.At index) BitPlace.Nowhere) (length (now (out .entry))) ⌝ }
+    ensures { λ _. ⌜ now (out .exit) ≡ textWithin (faultText (EntryPlace.At index) BitPlace.Nowhere) (now (out .entry)) ⌝ }
+{
+    if out.len() < 7 + digits_of(index) {
+        return 0;
+    }
+    let index_at = copying::append(out, 0, b"entry ");
+    write_item(out, index_at, index, b"\n")
+}
+
+// Writes `entry I bit P` on a line, where there is room for it.
+fn write_entry_bit(out: &mut [u8], index: usize, bit: usize) -> usize
+    ensures { λ r. ⌜ r ≡ lengthWithin (faultText (EntryPlace.At index) (BitPlace.At bit)) (length (now (out .entry))) ⌝ }
+    ensures { λ _. ⌜ now (out .exit) ≡ textWithin (faultText (EntryPlace.At index) (BitPlace.At bit)) (now (out .entry)) ⌝ }
+{
+    if out.len() < 12 + digits_of(index) + digits_of(bit) {
+        return 0;
+    }
+    write_two_items(out, b"entry ", index, b" bit ", bit)
+}
+
+// Writes where a body is at fault, if the refusal says so and there is room for it.
+fn write_fault(refusal: Refusal, out: &mut [u8]) -> usize
+    ensures { λ r. ⌜ r ≡ lengthWithin (faultText (refusal .entry) (refusal .place)) (length (now (out .entry))) ⌝ }
+    ensures { λ _. ⌜ now (out .exit) ≡ textWithin (faultText (refusal .entry) (refusal .place)) (now (out .entry)) ⌝ }
+{
+    let entry = refusal.entry;
+    let place = refusal.place;
+    let EntryPlace::At(index) = entry else {
+        return 0;
+    };
+    match place {
+        BitPlace::At(bit) => write_entry_bit(out, index, bit),
+        BitPlace::Nowhere => write_entry(out, index),
+    }
+}
+
+// How many bytes the program `contents` prints, and how many it tells on standard error.
+pub struct Reported {
+    pub printed: usize,
+    pub told: usize,
+}
+
+// What the program `contents` prints of its input: writes the listing, or `refused 7` for what is no archive, to one lent buffer, and where a
+// body is at fault to the other. A text is left out, and its buffer as it was, if it is longer than the buffer.
+pub fn report(archive: &[u8], out: &mut [u8], told: &mut [u8]) -> Reported
+    ensures { λ r. ⌜ r ≡ reportIs (now (archive .entry)) (length (now (out .entry))) (length (now (told .entry))) ⌝ }
+    ensures { λ _. ⌜ now (out .exit) ≡ reportOut (now (archive .entry)) (now (out .entry)) ⌝ }
+    ensures { λ _. ⌜ now (told .exit) ≡ toldOut (now (archive .entry)) (now (told .entry)) ⌝ }
+{
+    match checking::check(archive) {
+        Checked::Refused(refusal) => Reported {
+            printed: write_refused(out),
+            told: write_fault(refusal, told),
+        },
+        Checked::Archive => Reported {
+            printed: write_listing(archive, out),
+            told: 0,
+        },
+    }
 }

@@ -16,8 +16,9 @@ use Rattle.rules.specs.Rule.{ruling}
 use Rattle.rules.specs.declared.request.Destination.{Destination}
 use Rattle.rules.specs.declared.request.Destination.the-variants.{Identity, Number}
 use Rattle.rules.specs.declared.request.Request.{Request}
+use Rattle.archive.specs.Model.{inRange}
 use Rattle.archive.specs.Reading.{reading, isArchive}
-use Rattle.archive.specs.Restoring.{inRange, fetchIs}
+use Rattle.archive.specs.Restoring.{fetchIs}
 use Rattle.archive.specs.declared.Fetched.{Fetched}
 use Rattle.archive.specs.declared.Fetched.the-variants.{Body, NoArchive}
 use Rattle.archive.specs.declared.Fetched.the-variants as fetched

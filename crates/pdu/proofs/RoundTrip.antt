@@ -24,6 +24,8 @@ use Rattle.grammar.specs.Grammar.{pdu, identities, restOf, fromRecord}
 use Rattle.grammar.specs.declared.site.ListKind.the-variants.{Users}
 use Rattle.grammar.specs.declared.record.Record.{Record}
 use Rattle.grammar.proofs.Sizes.{pdu-size}
+use Rattle.walk.specs.declared.BitPlace.{BitPlace}
+use Rattle.walk.specs.declared.BitPlace.the-variants.{At, Nowhere}
 use Rattle.reader.specs.Read.{refusing, answered, readIs}
 use Rattle.writer.specs.Write.{recordRefusal, lengthOf, writeRefusal, written, writeIs, outIs}
 use Rattle.reader.specs.declared.Answer.the-variants.{Accepted, Refused}
@@ -33,18 +35,18 @@ use Rattle.pdu.specs.Accepted.{acceptedAs, WritingOf}
 
 -- ---- what is accepted
 
-refusing-not : {A : Type 0} (k : ℕ) (r : Record) → refusing k ≡ acceptedAs r → A
-refusing-not k r e = let f : Refused k ≡ Accepted = ap (λ (x : Reading). x .answer) e in never cc
+refusing-not : {A : Type 0} (k : ℕ) (p : BitPlace) (r : Record) → refusing k p ≡ acceptedAs r → A
+refusing-not k p r e = let f : Refused (record { number = k; place = p }) ≡ Accepted = ap (λ (x : Reading). x .answer) e in never cc
 
 read-as : (l : List Bool) (r : Record) (o : Outcome Record) → wholeParse pdu l ≡ o → answered o ≡ acceptedAs r → Legal pdu r × (l ≡ pdu .print r)
 read-as l r (ok a at left) e f =
     let q : a ≡ r = ap (λ (x : Reading). x .found) f in
     rw q at (whole-sound pdu l a at left e)
-read-as l r (no k p) e f = refusing-not k r f
+read-as l r (no k p) e f = refusing-not k (At p) r f
 
 framed-first : (s : List ℕ) (n : ℕ) (r : Record) → readIs s n ≡ acceptedAs r → framed s n ≡ true
 unfolding readIs
-framed-first s n r e = picked (framed s n) e (refusing-not 1 r) .0
+framed-first s n r e = picked (framed s n) e (refusing-not 1 Nowhere r) .0
 
 pub accepted-framed : (s : List ℕ) (n : ℕ) (r : Record) → readIs s n ≡ acceptedAs r → Framed s n
 accepted-framed s n r e = framed-says s n (framed-first s n r e)

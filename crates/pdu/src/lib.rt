@@ -5,6 +5,8 @@ pub use reader::Answer;
 pub use reader::Reading;
 pub use reader::read;
 pub use reader::read_words;
+pub use walk::BitPlace;
+pub use walk::Refusal;
 pub use writer::Written;
 pub use writer::write;
 pub use writer::write_words;

@@ -17,10 +17,11 @@ use Rattle.rules.specs.Rule.{ruling}
 use Rattle.barring.specs.declared.Decision.{Decision}
 use Rattle.barring.specs.declared.Decision.the-variants as decided
 use Rattle.rules.specs.declared.request.Request.{Request}
+use Rattle.archive.specs.Model.{inRange}
 use Rattle.archive.specs.Reading.{reading, isArchive}
 use Rattle.archive.specs.Filing.{names}
 use Rattle.archive.specs.Keeping.{storedNumber, over, emptyIs, emptyOut, captureOut}
-use Rattle.archive.specs.Restoring.{inRange, restoredNumber, restoreOut}
+use Rattle.archive.specs.Restoring.{restoredNumber, restoreOut}
 use Rattle.archive.specs.History.{Offer, keptOf, answerTo, after, afterAll, entryOf, latest, lastAccepted}
 use Rattle.archive.specs.declared.contents.Key.{Key}
 use Rattle.archive.specs.declared.Stored.{Stored}

@@ -18,10 +18,10 @@ use Rattle.reader.specs.Read.{readIs}
 use Rattle.pdu.specs.Accepted.{acceptedAs}
 use Rattle.reader.specs.declared.Answer.the-variants.{Accepted}
 use Rattle.judging.specs.Judge.{mayHold}
-use Rattle.archive.specs.Model.{Held, Archive, bytesOf}
+use Rattle.archive.specs.Model.{Held, Archive, bytesOf, inRange}
 use Rattle.archive.specs.Filing.{bodyAgrees, wellFormed}
 use Rattle.archive.specs.Reading.{reading, isArchive, Counted}
-use Rattle.archive.specs.Restoring.{inRange, lookup}
+use Rattle.archive.specs.Restoring.{lookup}
 use Rattle.archive.specs.declared.contents.Key.{Key}
 use Rattle.archive.specs.declared.contents.Entry.{Entry}
 use Rattle.promises.specs.Held.{Holdable}

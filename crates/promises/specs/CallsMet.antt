@@ -11,8 +11,9 @@ use Rattle.reader.specs.Read.{readIs}
 use Rattle.writer.specs.Write.{recordRefusal, writeRefusal, writeIs}
 use Rattle.rules.specs.Request.{requests}
 use Rattle.rules.specs.Rule.{rules}
+use Rattle.archive.specs.Model.{inRange}
 use Rattle.archive.specs.Filing.{filingOf, bodyAgrees}
-use Rattle.archive.specs.Restoring.{inRange, restoreIs}
+use Rattle.archive.specs.Restoring.{restoreIs}
 use Rattle.archive.specs.Listing.{digits, decimal, item, firstLine, lines, listing, listIs}
 use Rattle.archive.specs.Examples.{calls, profileA, bytesA}
 use Rattle.words.specs.RecordWords.{recordWords, records}

@@ -11,8 +11,9 @@ use Rattle.reader.specs.Read.{readIs}
 use Rattle.rules.specs.Request.{requestRefusal}
 use Rattle.rules.specs.Rule.{ruling}
 use Rattle.rules.specs.declared.request.Request.{Request}
+use Rattle.archive.specs.Model.{inRange}
 use Rattle.archive.specs.Keeping.{over, emptyIs, emptyOut}
-use Rattle.archive.specs.Restoring.{inRange, restoreIs, restoreOut}
+use Rattle.archive.specs.Restoring.{restoreIs, restoreOut}
 use Rattle.archive.specs.History.{Offer, afterAll, lastAccepted}
 use Rattle.archive.specs.declared.contents.Key.{Key}
 use Rattle.archive.specs.declared.Stored.the-variants.{Bytes}

@@ -32,10 +32,10 @@ use Rattle.reader.specs.Words.{ifAccepted, readWords}
 use Rattle.reader.specs.declared.Answer.{Answer}
 use Rattle.reader.specs.declared.Answer.the-variants.{Accepted, Refused}
 
--- the walk's answer without its head and its place
+-- the walk's answer without its head
 abbrev pub answerOf : Walked → Answer
 answerOf (walked.Accepted h) = Accepted
-answerOf (walked.Refused f) = Refused (f .number)
+answerOf (walked.Refused f) = Refused f
 
 -- an accepted PDU of n bits in s: its record, which is what the bits of s begin with
 pub record Accepts (s : List ℕ) (n : ℕ) : Type 0 where
@@ -51,7 +51,7 @@ module _ (s : List ℕ) (n : ℕ) where
   same-answer = go (framed s n) (wholeParse pdu (bitsIn n s))
     where
       go : (t : Bool) (o : Outcome Record)
-          → pick t (answered o) (refusing 1) .answer ≡ answerOf (pick t (walk.walkedOf o) (walk.refusing 1 Nowhere))
+          → pick t (answered o) (refusing 1 Nowhere) .answer ≡ answerOf (pick t (walk.walkedOf o) (walk.refusing 1 Nowhere))
       go true (ok r at left) = refl
       go true (no k p) = refl
       go false o = refl
@@ -61,7 +61,7 @@ module _ (s : List ℕ) (n : ℕ) where
   same-head {h} = go (framed s n) (wholeParse pdu (bitsIn n s))
     where
       go : (t : Bool) (o : Outcome Record) → pick t (walk.walkedOf o) (walk.refusing 1 Nowhere) ≡ walked.Accepted h
-          → h ≡ walk.headOf (pick t (answered o) (refusing 1) .found)
+          → h ≡ walk.headOf (pick t (answered o) (refusing 1 Nowhere) .found)
       go true (ok r at left) e = cc
       go true (no k p) e = never cc
       go false o e = never cc
@@ -82,7 +82,7 @@ module _ (s : List ℕ) (n : ℕ) where
   read-is : (r : Record) (at : ℕ) (left : List Bool) → framed s n ≡ true → wholeParse pdu (bitsIn n s) ≡ ok r at left
       → readIs s n ≡ record { answer = Accepted; found = r }
   unfolding readIs
-  read-is r at left f w = ap (λ (t : Bool). pick t (answered (wholeParse pdu (bitsIn n s))) (refusing 1)) f ∙ ap answered w
+  read-is r at left f w = ap (λ (t : Bool). pick t (answered (wholeParse pdu (bitsIn n s))) (refusing 1 Nowhere)) f ∙ ap answered w
 
   pub accepts : {h : Head} → walk.walkIs s n ≡ walked.Accepted h → Accepts s n
   unfolding walk.walkIs
@@ -116,7 +116,7 @@ pub found-back : (s : List ℕ) (n : ℕ) → givenRecord (readWords s n (replic
 unfolding readIs readWords
 found-back s n = go (framed s n) (wholeParse pdu (bitsIn n s)) refl
   where
-    go : (t : Bool) (o : Outcome Record) → wholeParse pdu (bitsIn n s) ≡ o → let q = pick t (answered o) (refusing 1) in
+    go : (t : Bool) (o : Outcome Record) → wholeParse pdu (bitsIn n s) ≡ o → let q = pick t (answered o) (refusing 1 Nowhere) in
         givenRecord (ifAccepted (q .answer) (recordWords (q .found)) (replicate 514 0)) .found ≡ q .found
     go true (ok r at left) e = given-back r (whole-sound pdu (bitsIn n s) r at left e .0)
     go true (no k p) e = given-zeros

@@ -9,6 +9,8 @@ mod stores;
 use bits::BitCount;
 use grammar::record::Record;
 use record::fill_record;
+use walk::BitPlace;
+use walk::Refusal;
 use walk::Walked;
 use words::record::RECORD_WORDS;
 use words::record::record_from;
@@ -17,10 +19,10 @@ ghost use lib.ListN.{length};
 ghost use Rattle.reader.specs.Read.{readIs};
 ghost use Rattle.reader.specs.Words.{readWordsIs, readWords};
 
-// Whether a PDU is accepted, or the number with which it is refused.
+// Whether a PDU is accepted, or the number with which it is refused and the bit place of the element at fault.
 pub enum Answer {
     Accepted,
-    Refused(u32),
+    Refused(Refusal),
 }
 
 // The answer, and the record of an accepted PDU. Beside a refusal all of it is zero.
@@ -35,14 +37,17 @@ pub fn read_words(s: &[u8], n: BitCount, words: &mut [u32]) -> Answer
     ensures { λ _. ⌜ now (words .exit) ≡ readWords (now (s .entry)) (n .0) (now (words .entry)) ⌝ }
 {
     if words.len() != RECORD_WORDS {
-        return Answer::Refused(9);
+        return Answer::Refused(Refusal {
+            number: 9,
+            place: BitPlace::Nowhere,
+        });
     }
     match walk::walk(s, n) {
         Walked::Accepted(_) => {
             fill_record(s, words);
             Answer::Accepted
         },
-        Walked::Refused(refusal) => Answer::Refused(refusal.number),
+        Walked::Refused(refusal) => Answer::Refused(refusal),
     }
 }
 

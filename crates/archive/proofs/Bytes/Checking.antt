@@ -1,62 +1,102 @@
 -- The check: what is left of it from an entry on, and what an archive's bytes keep. Assumes nothing.
 use mathlib.Core.Path.{_≡_, refl, sym, ap, _∙_}
 use mathlib.Core.Bool.{Bool, true, false, _&&_}
-use mathlib.Core.List.{List}
+use mathlib.Core.List.{List, _∷_}
 use Prim.Native.Nat.{ℕ, zero, suc, _+_, _-_, _≤_, _<_}
 use native.Mathlib.Omega.{arith}
 use native.Mathlib.Nat.{not-suc-le-zero}
 use lib.ListN.{length}
-use lib.Dec.{ltb, eqb}
-use borrow.Author.Tests.{eqb-true, lt-ltb, le-ltb, ne-eqb}
-use Rattle.bits.specs.Bits.{Bytes}
-use Rattle.bits.proofs.Tests.{and-false, both}
-use Rattle.archive.specs.Model.{Held, rank, headerWidth, entryWidth, sizes, withinLimits}
+use lib.Dec.{ltb, leb, eqb}
+use borrow.Author.Tests.{eqb-true, leb-true, lt-ltb, le-leb, ne-eqb}
+use Rattle.bits.specs.Bits.{guard, Bytes}
+use Rattle.bits.specs.Frame.{bytesFor}
+use Rattle.bits.proofs.Tests.{differ, false-unless, and-false, both, both⁻¹}
+use Rattle.archive.specs.Model.{Held, rankOf, rank, inRange, headerWidth, entryWidth, sizes, lengthOf, withinLimits}
 use Rattle.archive.specs.Filing.{bodyAgrees, keepsRules, wellFormed}
-use Rattle.archive.specs.Reading.{number3, countOf, sizeAt, heldAt, heldFrom, bodiesAt, heldIn, reading, isArchive}
+use Rattle.archive.specs.Reading.{number3, countOf, entryAt, sizeAt, heldAt, heldFrom, bodiesAt, heldIn, reading, isArchive}
+use Rattle.archive.specs.Refusals.{plain, ofBody}
+use Rattle.archive.specs.Checking.{inOrder, hasShape, bodyPlace, bodiesFrom, checkIs}
+use Rattle.archive.specs.Inner.{mayFollow, restShape}
+use Rattle.archive.specs.declared.contents.Entry.{Entry}
+use Rattle.archive.specs.declared.checking.Checked.{Checked}
+use Rattle.archive.specs.declared.checking.Checked.the-variants.{Archive, Refused}
 use Rattle.archive.proofs.Model.Rules.{archive-formed}
-use Rattle.archive.proofs.Bytes.Walking.{number3-small, heldFrom-next, length-heldFrom, sizes-next}
+use Rattle.archive.proofs.Bytes.Walking.{number3-small, heldFrom-next, length-heldFrom}
 
 -- ---- entry by entry
 
--- what is left to check of n entries: the rules, and that the bodies end with the bytes
-pub restOk : List ℕ → ℕ → ℕ → ℕ → ℕ → ℕ → Bool
-restOk b home last n at off = keepsRules home last (heldFrom b n at off) && eqb (off + sizes (heldFrom b n at off)) (length b)
-
-module _ (b : List ℕ) (home last n at off : ℕ) (h : 0 < n) where
+module _ (b : List ℕ) (last n at off : ℕ) (h : 0 < n) where
   abbrev here : Held
   here = heldAt b at off
 
   abbrev rest : List Held
   rest = heldFrom b (n - 1) (at + entryWidth) (off + sizeAt b at)
 
-  pub rest-low : rank here ≤ last → restOk b home last n at off ≡ false
-  unfolding restOk keepsRules
-  rest-low p = rw (heldFrom-next b n at off h, le-ltb last (rank here) p)
+  -- an entry that may not follow breaks the shape
+  pub follows-not : mayFollow (entryAt b at) last (length b - off) ≡ false → restShape b last n at off ≡ false
+  unfolding mayFollow restShape inOrder
+  follows-not e = false-unless (restShape b last n at off) (λ t. differ (sym (may t) ∙ e))
+    where
+      may : restShape b last n at off ≡ true → mayFollow (entryAt b at) last (length b - off) ≡ true
+      may t =
+          let k = both (inOrder last (here ∷ rest)) (eqb (off + (sizeAt b at + sizes rest)) (length b)) (rw (heldFrom-next b n at off h) at t) in
+          let p = both (ltb last (rank here)) (inRange (here .entry .key) && inOrder (rank here) rest) (k .0) in
+          let q = both (inRange (here .entry .key)) (inOrder (rank here) rest) (p .1) in
+          let whole = eqb-true (off + (sizeAt b at + sizes rest)) (length b) (k .1) in
+          both⁻¹ (p .0) (both⁻¹ (q .0) (le-leb (sizeAt b at) (length b - off) (omega (arith, whole))))
 
-  pub rest-bad : bodyAgrees home here ≡ false → restOk b home last n at off ≡ false
-  unfolding restOk keepsRules
-  rest-bad p =
-      rw (heldFrom-next b n at off h, p)
-      (ap (λ (x : Bool). x && eqb (off + (sizeAt b at + sizes rest)) (length b)) (and-false (ltb last (rank here)) refl))
-
-  pub rest-short : length b < off + sizeAt b at → restOk b home last n at off ≡ false
-  unfolding restOk
-  rest-short p =
-      and-false (keepsRules home last (heldFrom b n at off))
-      (ne-eqb (off + sizes (heldFrom b n at off)) (length b)
-      (λ (q : off + sizes (heldFrom b n at off) ≡ length b). omega (arith, sizes-next b n at off h)))
-
-  pub rest-next : last < rank here → bodyAgrees home here ≡ true
-      → restOk b home last n at off ≡ restOk b home (rank here) (n - 1) (at + entryWidth) (off + sizeAt b at)
-  unfolding restOk keepsRules
-  rest-next p q =
+  -- behind one that may, what is left decides
+  pub follows : mayFollow (entryAt b at) last (length b - off) ≡ true
+      → restShape b last n at off ≡ restShape b (rank here) (n - 1) (at + entryWidth) (off + sizeAt b at)
+  unfolding mayFollow restShape inOrder
+  follows t =
+      let p = both (ltb last (rank here)) (inRange (here .entry .key) && leb (sizeAt b at) (length b - off)) t in
+      let q = both (inRange (here .entry .key)) (leb (sizeAt b at) (length b - off)) (p .1) in
       let e : off + (sizeAt b at + sizes rest) ≡ off + sizeAt b at + sizes rest = omega arith in
-      rw (heldFrom-next b n at off h, lt-ltb last (rank here) p, q) (ap (λ (k : ℕ). keepsRules home (rank here) rest && eqb k (length b)) e)
+      rw (heldFrom-next b n at off h, p .0, q .0) (ap (λ (k : ℕ). inOrder (rank here) rest && eqb k (length b)) e)
 
-pub rest-none : (b : List ℕ) (home last n at off : ℕ) → n ≤ 0 → restOk b home last n at off ≡ eqb off (length b)
-unfolding restOk keepsRules heldFrom
-rest-none b home last zero at off h = ap (λ (k : ℕ). eqb k (length b)) (omega arith)
-rest-none b home last (suc n) at off h = absurd (not-suc-le-zero h)
+-- an entry that may follow has room for its body
+pub room-for : (e : Entry) (last room : ℕ) → mayFollow e last room ≡ true → bytesFor (e .bits .0) ≤ room
+unfolding mayFollow
+room-for e last room t =
+    let p = both (ltb last (rankOf (e .key))) (inRange (e .key) && leb (bytesFor (e .bits .0)) room) t in
+    leb-true (bytesFor (e .bits .0)) room (both (inRange (e .key)) (leb (bytesFor (e .bits .0)) room) (p .1) .1)
+
+pub shape-none : (b : List ℕ) (last n at off : ℕ) → n ≤ 0 → restShape b last n at off ≡ eqb off (length b)
+unfolding restShape inOrder heldFrom
+shape-none b last zero at off h = ap (λ (k : ℕ). eqb k (length b)) (omega arith)
+shape-none b last (suc n) at off h = absurd (not-suc-le-zero h)
+
+-- what is left of the check, from the entry at an index on
+pub restIs : List ℕ → ℕ → ℕ → ℕ → ℕ → ℕ → ℕ → Checked
+restIs b home i last n at off = guard (restShape b last n at off) (Refused (plain 7)) (bodiesFrom home i (heldFrom b n at off))
+
+module _ (b : List ℕ) (home i last n at off : ℕ) where
+  pub rest-shapeless : restShape b last n at off ≡ false → restIs b home i last n at off ≡ Refused (plain 7)
+  unfolding restIs
+  rest-shapeless e = rw e
+
+  pub rest-none : n ≤ 0 → restIs b home i last n at off ≡ guard (eqb off (length b)) (Refused (plain 7)) Archive
+  unfolding restIs heldFrom bodiesFrom
+  rest-none h = rw (shape-none b last n at off h) (ap (λ (c : Checked). guard (eqb off (length b)) (Refused (plain 7)) c) (go n h))
+    where
+      go : (m : ℕ) → m ≤ 0 → bodiesFrom home i (heldFrom b m at off) ≡ Archive
+      go zero k = refl
+      go (suc m) k = absurd (not-suc-le-zero k)
+
+  module _ (h : 0 < n) (m : mayFollow (entryAt b at) last (length b - off) ≡ true) where
+    abbrev shapeBehind : Bool
+    shapeBehind = restShape b (rank (heldAt b at off)) (n - 1) (at + entryWidth) (off + sizeAt b at)
+
+    pub rest-bad : bodyAgrees home (heldAt b at off) ≡ false
+        → restIs b home i last n at off ≡ guard shapeBehind (Refused (plain 7)) (Refused (ofBody i (bodyPlace (heldAt b at off))))
+    unfolding restIs bodiesFrom
+    rest-bad e = rw (follows b last n at off h m, heldFrom-next b n at off h, e)
+
+    pub rest-next : bodyAgrees home (heldAt b at off) ≡ true
+        → restIs b home i last n at off ≡ restIs b home (suc i) (rank (heldAt b at off)) (n - 1) (at + entryWidth) (off + sizeAt b at)
+    unfolding restIs bodiesFrom
+    rest-next e = rw (follows b last n at off h m, heldFrom-next b n at off h, e)
 
 -- ---- the whole
 
@@ -64,37 +104,44 @@ module _ (b : List ℕ) where
   abbrev total : ℕ
   total = bodiesAt b + sizes (heldIn b)
 
-  -- the check in the numbers that the code has
-  shape : isArchive b ≡ (ltb (number3 b 0) 16777216 && (withinLimits (countOf b) total && keepsRules (number3 b 0) 0 (heldIn b))) && eqb total
-      (length b)
-  unfolding isArchive wellFormed reading
+  -- the shape in the numbers that the code has
+  shape : hasShape b ≡ ltb (number3 b 0) 16777216 && (withinLimits (countOf b) total && (inOrder 0 (heldIn b) && eqb total (length b)))
+  unfolding hasShape reading
   shape = rw (length-heldFrom b (countOf b) headerWidth (bodiesAt b))
 
-  abbrev kept : ℕ → Bool
-  kept size = ltb (number3 b 0) 16777216 && (withinLimits (countOf b) size && keepsRules (number3 b 0) 0 (heldIn b))
+  abbrev within : ℕ → Bool
+  within size = withinLimits (countOf b) size && (inOrder 0 (heldIn b) && eqb total (length b))
 
   -- only a total that is the length counts
-  as-long : kept total && eqb total (length b) ≡ kept (length b) && eqb total (length b)
+  as-long : within total ≡ within (length b)
   as-long = go (eqb total (length b)) refl
     where
-      go : (e : Bool) → eqb total (length b) ≡ e → kept total && e ≡ kept (length b) && e
-      go true h = ap (λ (k : ℕ). kept k && true) (eqb-true total (length b) h)
-      go false h = and-false (kept total) refl ∙ sym (and-false (kept (length b)) refl)
+      go : (e : Bool) → eqb total (length b) ≡ e
+          → withinLimits (countOf b) total && (inOrder 0 (heldIn b) && e) ≡ withinLimits (countOf b) (length b) && (inOrder 0 (heldIn b) && e)
+      go true h = ap (λ (k : ℕ). withinLimits (countOf b) k && (inOrder 0 (heldIn b) && true)) (eqb-true total (length b) h)
+      go false h =
+          let none : inOrder 0 (heldIn b) && false ≡ false = and-false (inOrder 0 (heldIn b)) refl in
+          and-false (withinLimits (countOf b) total) none ∙ sym (and-false (withinLimits (countOf b) (length b)) none)
 
-  pub too-short : length b < bodiesAt b → isArchive b ≡ false
-  too-short h = shape ∙ and-false (kept total) (ne-eqb total (length b) (λ (p : total ≡ length b). omega arith))
+  shapeless : hasShape b ≡ false → checkIs b ≡ Refused (plain 7)
+  unfolding checkIs
+  shapeless e = rw e
 
-  pub over-limits : withinLimits (countOf b) (length b) ≡ false → isArchive b ≡ false
-  over-limits h =
-      shape ∙ as-long
-      ∙ ap (λ (x : Bool). x && eqb total (length b))
-      (and-false (ltb (number3 b 0) 16777216) (ap (λ (x : Bool). x && keepsRules (number3 b 0) 0 (heldIn b)) h))
+  pub too-short : length b < bodiesAt b → checkIs b ≡ Refused (plain 7)
+  too-short h =
+      let not-all : eqb total (length b) ≡ false = ne-eqb total (length b) (λ (p : total ≡ length b). omega arith) in
+      shapeless (shape ∙ and-false _ (and-false _ (and-false _ not-all)))
 
-  pub begins : Bytes b → withinLimits (countOf b) (length b) ≡ true → isArchive b ≡ restOk b (number3 b 0) 0 (countOf b) headerWidth (bodiesAt b)
-  unfolding restOk
+  pub over-limits : withinLimits (countOf b) (length b) ≡ false → checkIs b ≡ Refused (plain 7)
+  over-limits h = shapeless (shape ∙ and-false _ (as-long ∙ ap (λ (x : Bool). x && (inOrder 0 (heldIn b) && eqb total (length b))) h))
+
+  pub begins : Bytes b → withinLimits (countOf b) (length b) ≡ true → checkIs b ≡ restIs b (number3 b 0) 0 0 (countOf b) headerWidth (bodiesAt b)
+  unfolding checkIs restIs restShape reading
   begins y h =
-      let k : kept (length b) ≡ keepsRules (number3 b 0) 0 (heldIn b) = rw (lt-ltb (number3 b 0) 16777216 (number3-small b 0 y), h) in
-      shape ∙ as-long ∙ ap (λ (x : Bool). x && eqb total (length b)) k
+      let k : within (length b) ≡ restShape b 0 (countOf b) headerWidth (bodiesAt b) =
+      ap (λ (x : Bool). x && (inOrder 0 (heldIn b) && eqb total (length b))) h in
+      let s = shape ∙ ap (λ (x : Bool). x && within total) (lt-ltb (number3 b 0) 16777216 (number3-small b 0 y)) ∙ as-long ∙ k in
+      rw s
 
   -- what an archive's bytes keep
   pub record Sound : Type 0 where
@@ -105,9 +152,9 @@ module _ (b : List ℕ) where
     pub whole : total ≡ length b
 
   pub sound : isArchive b ≡ true → Sound
-  unfolding reading
+  unfolding isArchive reading
   sound p =
       let f = archive-formed b p in
       let n = length-heldFrom b (countOf b) headerWidth (bodiesAt b) in
-      let w : total ≡ length b = eqb-true total (length b) (both (kept total) (eqb total (length b)) (sym shape ∙ p) .1) in
-      record { home = f .home; few = omega (arith, f .few, n); small = omega (arith, f .small, n); rules = f .rules; whole = w }
+      let w = eqb-true (lengthOf (reading b)) (length b) (both (wellFormed (reading b)) (eqb (lengthOf (reading b)) (length b)) p .1) in
+      record { home = f .home; few = omega (arith, f .few, n); small = omega (arith, f .small, w); rules = f .rules; whole = omega (arith, w, n) }

@@ -9,11 +9,12 @@ use borrow.Author.Tests.{le-leb}
 use Rattle.bits.specs.Bits.{pick}
 use Rattle.bits.specs.Frame.{bytesFor}
 use Rattle.reader.specs.Read.{readIs}
-use Rattle.archive.specs.Model.{Held, Archive, lengthOf}
+use Rattle.archive.specs.Model.{Held, Archive, lengthOf, inRange}
 use Rattle.archive.specs.Filing.{entryFor, names}
 use Rattle.archive.specs.Reading.{reading, isArchive}
+use Rattle.archive.specs.Refusals.{plain}
 use Rattle.archive.specs.Keeping.{over, heldFor, captured, captureIs, captureOut}
-use Rattle.archive.specs.Restoring.{inRange, lookup, delivered, bodyOf, restoreIs, restoreOut}
+use Rattle.archive.specs.Restoring.{lookup, delivered, bodyOf, restoreIs, restoreOut}
 use Rattle.archive.specs.declared.Stored.the-variants.{Bytes}
 use Rattle.archive.specs.declared.Restored.the-variants as restored
 use Rattle.archive.specs.declared.contents.Key.{Key}
@@ -85,6 +86,6 @@ module _ (b s : List ℕ) (n m : ℕ) (lent : List ℕ) (e : captureIs b s n (le
       let x : restoreIs new k (length out) ≡ restored.Bits (record { 0 = n }) =
       as-delivered new k (length out) r new-archive
       ∙ ap (λ (z : Option Held). delivered z (length out)) l
-      ∙ ap (λ (p : Bool). pick p (restored.Bits (record { 0 = n })) (restored.Refused 8)) (le-leb (bytesFor n) (length out) h)
+      ∙ ap (λ (p : Bool). pick p (restored.Bits (record { 0 = n })) (restored.Refused (plain 8))) (le-leb (bytesFor n) (length out) h)
       in
       (x, restore-leaves new k out x ∙ ap (λ (z : Option Held). over (bodyOf z) out) l)

@@ -9,16 +9,19 @@ use Rattle.bits.specs.Bits.{pick}
 use Rattle.bits.proofs.Tests.{never, and-false, both⁻¹, picked}
 use Rattle.walk.specs.Walk.{walkIs}
 use Rattle.walk.specs.declared.Head.{Head}
-use Rattle.walk.specs.declared.Refusal.{Refusal}
+use Rattle.walk.specs.declared.Refusal as pdu
 use Rattle.walk.specs.declared.Walked.the-variants as walked
 use Rattle.reader.specs.Read.{readIs}
-use Rattle.reader.specs.declared.Answer.{Answer}
 use Rattle.reader.specs.declared.Answer.the-variants as reader
 use Rattle.judging.specs.Judge.{mayHold}
 use Rattle.archive.specs.Model.{bytesOf, Archive, lengthOf, withinLimits}
 use Rattle.archive.specs.Filing.{entryFor, filingOf}
 use Rattle.archive.specs.Reading.{homeOf, reading, isArchive}
-use Rattle.archive.specs.Keeping.{leaves, heldFor, captured, ifAccepted, placed, captureIs, captureOut}
+use Rattle.archive.specs.Refusals.{plain, ofPdu}
+use Rattle.archive.specs.Checking.{checkIs}
+use Rattle.archive.specs.declared.refusal.Refusal.{Refusal}
+use Rattle.archive.specs.declared.checking.Checked.the-variants as checked
+use Rattle.archive.specs.Keeping.{leaves, heldFor, captured, placed, captureIs, captureOut}
 use Rattle.archive.specs.Inner.{filingUnder}
 use Rattle.archive.specs.declared.Stored.{Stored}
 use Rattle.archive.specs.declared.Stored.the-variants.{Bytes, Refused}
@@ -26,6 +29,7 @@ use Rattle.archive.specs.declared.contents.Entry.{Entry}
 use Rattle.archive.specs.declared.filing.Filing.the-variants.{Under, Nowhere}
 use Rattle.reader.proofs.Walked.{answerOf, same-answer}
 use Rattle.archive.proofs.Model.Bodies.{Agrees, walk-accepted, filed-by-head}
+use Rattle.archive.proofs.Model.Checked.{archive-checked}
 use Rattle.archive.proofs.Bytes.Walking.{home-is}
 use Rattle.archive.proofs.Bytes.Checking.{sound}
 use lib.Dec.{leb}
@@ -57,45 +61,45 @@ offered-agrees home s n a m = record { accepted = a; may = m; entry = refl }
 -- ---- the answer
 
 module _ (b s : List ℕ) (n room : ℕ) where
-  pub no-archive : isArchive b ≡ false → captureIs b s n room ≡ Refused 7
+  pub no-archive : {f : Refusal} → checkIs b ≡ checked.Refused f → captureIs b s n room ≡ Refused f
   unfolding captureIs
   no-archive e = rw e
 
-  pub pdu-refused : {f : Refusal} → isArchive b ≡ true → walkIs s n ≡ walked.Refused f → captureIs b s n room ≡ Refused (f .number)
+  pub pdu-refused : {f : pdu.Refusal} → isArchive b ≡ true → walkIs s n ≡ walked.Refused f → captureIs b s n room ≡ Refused (ofPdu f)
   unfolding captureIs
-  pdu-refused e w = rw (e, same-answer s n ∙ ap answerOf w)
+  pdu-refused e w = rw (archive-checked b e, same-answer s n ∙ ap answerOf w)
 
   pub not-held : (home : ℕ) {x : Head} → isArchive b ≡ true → walkIs s n ≡ walked.Accepted x → filingUnder home x n ≡ Nowhere
-      → captureIs b s n room ≡ Refused 6
+      → captureIs b s n room ≡ Refused (plain 6)
   unfolding captureIs filingOf
-  not-held home e w f = rw (e, walk-accepted s n w) (go (mayHold (readIs s n .found)) (sym (filed-by-head s n w home) ∙ f))
+  not-held home e w f = rw (archive-checked b e, walk-accepted s n w) (go (mayHold (readIs s n .found)) (sym (filed-by-head s n w home) ∙ f))
     where
       go : (m : Bool) → pick m (Under (entryFor home (readIs s n .found) n)) Nowhere ≡ Nowhere
-          → pick m (placed (captured b s n) room) (Refused 6) ≡ Refused 6
+          → pick m (placed (captured b s n) room) (Refused (plain 6)) ≡ Refused (plain 6)
       go true g = never cc
       go false g = refl
 
   pub as-placed : isArchive b ≡ true → readIs s n .answer ≡ reader.Accepted → mayHold (readIs s n .found) ≡ true
       → captureIs b s n room ≡ placed (captured b s n) room
   unfolding captureIs
-  as-placed e f g = rw (e, f, g)
+  as-placed e f g = rw (archive-checked b e, f, g)
 
 -- ---- what placing answers
 
 module _ (a : Archive) (room : ℕ) where
-  pub placed-over : withinLimits (length (a .held)) (lengthOf a) ≡ false → Refused 8 ≡ placed a room
+  pub placed-over : withinLimits (length (a .held)) (lengthOf a) ≡ false → Refused (plain 8) ≡ placed a room
   unfolding placed
-  placed-over e = sym (ap (λ (p : Bool). pick (p && leb (lengthOf a) room) (Bytes (lengthOf a)) (Refused 8)) e)
+  placed-over e = sym (ap (λ (p : Bool). pick (p && leb (lengthOf a) room) (Bytes (lengthOf a)) (Refused (plain 8))) e)
 
-  pub placed-short : room < lengthOf a → Refused 8 ≡ placed a room
+  pub placed-short : room < lengthOf a → Refused (plain 8) ≡ placed a room
   unfolding placed
   placed-short h =
-      sym (ap (λ (p : Bool). pick p (Bytes (lengthOf a)) (Refused 8))
+      sym (ap (λ (p : Bool). pick p (Bytes (lengthOf a)) (Refused (plain 8)))
       (and-false (withinLimits (length (a .held)) (lengthOf a)) (lt-leb (lengthOf a) room h)))
 
   pub placed-whole : withinLimits (length (a .held)) (lengthOf a) ≡ true → lengthOf a ≤ room → Bytes (lengthOf a) ≡ placed a room
   unfolding placed
-  placed-whole e h = sym (ap (λ (p : Bool). pick p (Bytes (lengthOf a)) (Refused 8)) (both⁻¹ e (le-leb (lengthOf a) room h)))
+  placed-whole e h = sym (ap (λ (p : Bool). pick p (Bytes (lengthOf a)) (Refused (plain 8))) (both⁻¹ e (le-leb (lengthOf a) room h)))
 
 -- what is left in the lent buffer goes by the answer
 pub capture-leaves : (b s : List ℕ) (n : ℕ) (out : List ℕ) {r : Stored} → captureIs b s n (length out) ≡ r

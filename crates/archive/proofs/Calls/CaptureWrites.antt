@@ -16,11 +16,15 @@ use Rattle.judging.specs.Judge.{mayHold}
 use Rattle.archive.specs.Model.{Archive, bytesOf, lengthOf, withinLimits}
 use Rattle.archive.specs.Filing.{wellFormed}
 use Rattle.archive.specs.Reading.{reading, isArchive}
+use Rattle.archive.specs.Checking.{checkIs, ifArchive}
+use Rattle.archive.specs.declared.checking.Checked.{Checked}
+use Rattle.archive.specs.declared.checking.Checked.the-variants as checked
 use Rattle.archive.specs.Keeping.{heldFor, captured, ifAccepted, placed, captureIs, captureOut}
 use Rattle.archive.specs.declared.Stored.{Stored}
 use Rattle.archive.specs.declared.Stored.the-variants.{Bytes, Refused}
 use Rattle.archive.proofs.Model.Bodies.{agrees-is, part-is}
 use Rattle.archive.proofs.Model.Rules.{archive-formed, is-formed}
+use Rattle.archive.proofs.Model.Checked.{checked-archive}
 use Rattle.archive.proofs.Bytes.AsWritten.{length-written, read-as-written, passes}
 use Rattle.archive.proofs.Model.Put.{rules-put}
 use Rattle.archive.proofs.Calls.Capture.{offered-agrees, capture-leaves}
@@ -45,16 +49,20 @@ was-placed a room m e =
 
 if-accepted : (a : Answer) {r : Stored} {m : ℕ} → ifAccepted a r ≡ Bytes m → (a ≡ reader.Accepted) × (r ≡ Bytes m)
 if-accepted reader.Accepted e = (refl, e)
-if-accepted (reader.Refused k) e = never cc
+if-accepted (reader.Refused f) e = never cc
+
+if-archive : (c : Checked) {r : Stored} {m : ℕ} → ifArchive c Refused r ≡ Bytes m → (c ≡ checked.Archive) × (r ≡ Bytes m)
+if-archive checked.Archive e = (refl, e)
+if-archive (checked.Refused f) e = never cc
 
 pub taken : (b s : List ℕ) (n room m : ℕ) → captureIs b s n room ≡ Bytes m → Taken b s n room m
 unfolding captureIs
 taken b s n room m e =
-    let p = picked (isArchive b) e (λ x. never cc) in
+    let p = if-archive (checkIs b) e in
     let a = if-accepted (readIs s n .answer) (p .1) in
     let q = picked (mayHold (readIs s n .found)) (a .1) (λ x. never cc) in
     let r = was-placed (captured b s n) room m (q .1) in
-    record { archive = p .0; accepted = a .0; may = q .0; limits = r .0; fits = r .1; size = r .2 }
+    record { archive = checked-archive b (p .0); accepted = a .0; may = q .0; limits = r .0; fits = r .1; size = r .2 }
 
 module _ (b s : List ℕ) (n room m : ℕ) (t : Taken b s n room m) where
   pub captured-formed : wellFormed (captured b s n) ≡ true

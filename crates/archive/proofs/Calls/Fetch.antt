@@ -11,16 +11,20 @@ use borrow.Author.Tests.{ltb-true, ltb-false, ne-eqb}
 use Rattle.bits.specs.Bits.{pick}
 use Rattle.bits.specs.Frame.{bytesFor}
 use Rattle.bits.specs.declared.BitCount.{BitCount}
-use Rattle.archive.specs.Model.{Held, rankOf, rank, entryWidth, bodySize, sizes}
+use Rattle.archive.specs.Model.{Held, rankOf, rank, entryWidth, bodySize, sizes, inRange}
 use Rattle.archive.specs.Filing.{keepsRules}
 use Rattle.archive.specs.Reading.{heldAt, sizeAt, heldFrom, bodiesAt, heldIn, reading, isArchive}
-use Rattle.archive.specs.Restoring.{inRange, bodyFrom, fetchIs, lookup}
+use Rattle.archive.specs.Restoring.{bodyFrom, fetchIs, lookup}
 use Rattle.archive.specs.Inner.{seek}
 use Rattle.archive.specs.declared.contents.Key.{Key}
 use Rattle.archive.specs.declared.Fetched.{Fetched}
-use Rattle.archive.specs.declared.Fetched.the-variants.{Body, NotHeld, NoArchive}
+use Rattle.archive.specs.declared.Fetched.the-variants.{Body, NotHeld, Refused}
 use Rattle.archive.specs.declared.checking.Place.{Place}
+use Rattle.archive.specs.Checking.{checkIs}
+use Rattle.archive.specs.declared.refusal.Refusal.{Refusal}
+use Rattle.archive.specs.declared.checking.Checked.the-variants as checked
 use Rattle.archive.proofs.Model.Rules.{Kept, kept}
+use Rattle.archive.proofs.Model.Checked.{archive-checked}
 use Rattle.archive.proofs.Bytes.Checking.{sound}
 use Rattle.archive.proofs.Bytes.Spliced.{placeIn}
 
@@ -71,7 +75,7 @@ pub record BodyIs (b : List ℕ) (off : ℕ) (n : BitCount) (o : Option Held) : 
 abbrev pub Right : List ℕ → Fetched → Option Held → Type 0
 Right b (Body off n) o = BodyIs b off n o
 Right b NotHeld o = o ≡ none
-Right b NoArchive o = ⊥
+Right b (Refused f) o = ⊥
 
 right-from : (b : List ℕ) (key : Key) (n at off : ℕ) → off + sizes (heldFrom b n at off) ≤ length b
     → Right b (bodyFrom key off (heldFrom b n at off)) (lookup key (heldFrom b n at off))
@@ -90,19 +94,19 @@ right-from b key (suc n) at off h =
 -- ---- fetch
 
 module _ (b : List ℕ) (k : Key) where
-  pub fetch-none : isArchive b ≡ false → fetchIs b k ≡ NoArchive
+  pub fetch-none : {f : Refusal} → checkIs b ≡ checked.Refused f → fetchIs b k ≡ Refused f
   unfolding fetchIs
   fetch-none e = rw e
 
   pub fetch-out : isArchive b ≡ true → inRange k ≡ false → fetchIs b k ≡ NotHeld
   unfolding fetchIs
-  fetch-out e f = rw (e, f)
+  fetch-out e f = rw (archive-checked b e, f)
 
   pub fetch-place : isArchive b ≡ true → inRange k ≡ true → fetchIs b k ≡ fetchedOf (placeIn b (rankOf k))
   unfolding fetchIs placeIn reading
-  fetch-place e f = rw (e, f) (seek-body _ 0 k _ (bodiesAt b) (heldIn b) (sound b e .rules))
+  fetch-place e f = rw (archive-checked b e, f) (seek-body _ 0 k _ (bodiesAt b) (heldIn b) (sound b e .rules))
 
   -- in an archive it finds what is held for a user and part in range
   pub fetch-right : isArchive b ≡ true → inRange k ≡ true → Right b (fetchIs b k) (lookup k (reading b .held))
   unfolding fetchIs reading
-  fetch-right e f = rw (e, f) (right-from b k _ _ (bodiesAt b) (omega (arith, sound b e .whole)))
+  fetch-right e f = rw (archive-checked b e, f) (right-from b k _ _ (bodiesAt b) (omega (arith, sound b e .whole)))

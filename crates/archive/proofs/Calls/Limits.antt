@@ -14,6 +14,7 @@ use Rattle.judging.specs.Judge.{mayHold}
 use Rattle.archive.specs.Model.{Held, rank, Rising, no-key, next-key, headerWidth, lengthOf}
 use Rattle.archive.specs.Filing.{keepsRules}
 use Rattle.archive.specs.Reading.{countOf, bodiesAt, heldIn, reading, isArchive, Counted}
+use Rattle.archive.specs.Refusals.{plain}
 use Rattle.archive.specs.Keeping.{put, heldFor, captured, placed, captureIs}
 use Rattle.archive.specs.Restoring.{lookup}
 use Rattle.archive.specs.declared.Stored.{Stored}
@@ -68,7 +69,7 @@ either false false false x y = refl
 
 pub eight : (b s : List ℕ) (n room : ℕ) → isArchive b ≡ true → readIs s n .answer ≡ reader.Accepted → mayHold (readIs s n .found) ≡ true
     → captureIs b s n room
-    ≡ pick (fullFor b (heldFor (reading b .home) s n) || (ltb 65536 (lengthOf (captured b s n)) || ltb room (lengthOf (captured b s n)))) (Refused 8)
+    ≡ pick (fullFor b (heldFor (reading b .home) s n) || (ltb 65536 (lengthOf (captured b s n)) || ltb room (lengthOf (captured b s n)))) (Refused (plain 8))
     (Bytes (lengthOf (captured b s n)))
 unfolding placed captured
 eight b s n room ok a m =
@@ -80,5 +81,5 @@ eight b s n room ok a m =
     ∙ one-too-many (length (reading b .held)) (isNone (lookup (h .entry .key) (reading b .held))) (f .few)
     in
     as-placed b s n room ok a m
-    ∙ (λ i. pick ((c i && over-not size 65536 i) && over-not size room i) (Bytes size) (Refused 8))
-    ∙ either (fullFor b h) (ltb 65536 size) (ltb room size) (Bytes size) (Refused 8)
+    ∙ (λ i. pick ((c i && over-not size 65536 i) && over-not size room i) (Bytes size) (Refused (plain 8)))
+    ∙ either (fullFor b h) (ltb 65536 size) (ltb room size) (Bytes size) (Refused (plain 8))

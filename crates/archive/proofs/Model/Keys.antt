@@ -7,8 +7,7 @@ use native.Mathlib.Omega.{arith}
 use lib.Dec.{ltb, leb, eqb}
 use borrow.Author.Tests.{ltb-true, leb-true, eqb-true, eq-eqb, ne-eqb, lt-ltb, le-leb}
 use Rattle.bits.proofs.Tests.{differ, both, both⁻¹}
-use Rattle.archive.specs.Model.{rankOf}
-use Rattle.archive.specs.Restoring.{inRange}
+use Rattle.archive.specs.Model.{rankOf, inRange}
 use Rattle.archive.specs.Inner.{KeyFits}
 use Rattle.archive.specs.Filing.{names}
 use Rattle.archive.specs.declared.contents.Key.{Key}

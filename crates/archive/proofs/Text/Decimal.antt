@@ -45,3 +45,14 @@ few (suc j) (suc k) n h =
 pub within : (j n : ℕ) → n < 10 ^ suc j → length (decimal n) ≤ suc j
 unfolding decimal
 within j n h = few j 20 n h
+
+at-most : (k n : ℕ) → length (digits k n) ≤ k
+unfolding digits
+at-most zero n = omega arith
+at-most (suc k) n =
+    let l = at-most k (n / 10) in
+    by-test (λ (s : List ℕ). length s ≤ suc k) (ltb n 10) (omega arith) (simp length-append (omega arith))
+
+pub decimal-size : (n : ℕ) → length (decimal n) ≤ 20
+unfolding decimal
+decimal-size n = at-most 20 n

@@ -8,7 +8,7 @@ use lib.ListN.{length, length-append}
 use Rattle.archive.specs.Model.{headerWidth, entryWidth}
 use Rattle.archive.specs.Reading.{homeOf, countOf, entryAt, sizeAt, heldFrom, bodiesAt, reading}
 use Rattle.archive.specs.Inner.{linesFrom}
-use Rattle.archive.specs.Listing.{decimal, item, firstLine, line, lines, listing}
+use Rattle.archive.specs.Listing.{homeWord, entriesWord, decimal, item, twoItems, firstLine, line, lines, listing}
 use Rattle.archive.specs.declared.contents.Entry.{Entry}
 use Rattle.archive.proofs.Bytes.Walking.{home-is, length-heldFrom}
 
@@ -19,9 +19,14 @@ pub length-line : (e : Entry) → length (line e)
 unfolding line item
 length-line e = simp length-append (omega arith)
 
+pub length-two : (word : List ℕ) (n : ℕ) (other : List ℕ) (m : ℕ)
+    → length (twoItems word n other m) ≡ length word + length (decimal n) + length other + length (decimal m) + 1
+unfolding twoItems item
+length-two word n other m = simp length-append (omega arith)
+
 pub length-first : (home count : ℕ) → length (firstLine home count) ≡ length (decimal home) + length (decimal count) + 15
-unfolding firstLine item
-length-first home count = simp length-append (omega arith)
+unfolding firstLine
+length-first home count = omega (arith, length-two homeWord home entriesWord count)
 
 -- ---- one entry more
 

@@ -14,12 +14,21 @@ use Rattle.archive.specs.Model.{Held, rank}
 use Rattle.archive.specs.Filing.{keepsRules}
 use Rattle.archive.specs.Reading.{reading, isArchive}
 use Rattle.archive.specs.Keeping.{over}
-use Rattle.archive.specs.Listing.{firstLine, line, lines, listing, refusedLine, reportOf, reportIs, reportOut}
+use Rattle.archive.specs.Checking.{checkIs, ifArchive}
+use Rattle.archive.specs.Listing.{decimal, entryWord, bitWord, lineEnd, item, firstLine, line, lines, listing, refusedLine, reportOf, faultText, toldOf}
+use Rattle.archive.specs.Listing.{lengthWithin, reportIs, reportOut, toldOut}
+use Rattle.walk.specs.declared.BitPlace.{BitPlace}
+use Rattle.walk.specs.declared.BitPlace.the-variants as bit
+use Rattle.archive.specs.declared.refusal.EntryPlace.{EntryPlace}
+use Rattle.archive.specs.declared.refusal.EntryPlace.the-variants as entry
+use Rattle.archive.specs.declared.checking.Checked.{Checked}
+use Rattle.archive.specs.declared.checking.Checked.the-variants.{Archive, Refused}
 use Rattle.archive.specs.declared.contents.Entry.{Entry}
 use Rattle.archive.proofs.Model.Bodies.{Agrees, agrees-says, part-is, fits}
 use Rattle.archive.proofs.Model.Rules.{kept, archive-formed}
-use Rattle.archive.proofs.Text.Decimal.{within}
-use Rattle.archive.proofs.Text.Lines.{length-line, length-first}
+use Rattle.archive.proofs.Model.Checked.{checked-archive}
+use Rattle.archive.proofs.Text.Decimal.{within, decimal-size}
+use Rattle.archive.proofs.Text.Lines.{length-line, length-two, length-first}
 
 -- network and SSI have at most 8 digits, the part 1, the bit length 4
 line-size : (home : ℕ) (h : Held) → home < 16777216 → Agrees home h → length (line (h .entry)) ≤ 35
@@ -64,24 +73,47 @@ listing-size b ok =
 
 -- ---- the report
 
--- what is reported fits the lent buffer
-pub report-fits : (b : List ℕ) (room : ℕ) → reportIs b room ≤ room
-unfolding reportIs
-report-fits b room = go (leb (length (reportOf b)) room) refl
+-- what is reported fits the lent buffers
+no-longer : (w : List ℕ) (room : ℕ) → lengthWithin w room ≤ room
+no-longer w room = go (leb (length w) room) refl
   where
-    go : (p : Bool) → leb (length (reportOf b)) room ≡ p → pick p (length (reportOf b)) 0 ≤ room
-    go true e = leb-true (length (reportOf b)) room e
+    go : (p : Bool) → leb (length w) room ≡ p → pick p (length w) 0 ≤ room
+    go true e = leb-true (length w) room e
     go false e = omega arith
+
+pub report-fits : (b : List ℕ) (room more : ℕ) → (reportIs b room more .printed ≤ room) × (reportIs b room more .told ≤ more)
+unfolding reportIs
+report-fits b room more = (no-longer (reportOf b) room, no-longer (toldOf b) more)
 
 report-size : (b : List ℕ) → length (reportOf b) ≤ 17946
 unfolding reportOf
-report-size b = go (isArchive b) refl
+report-size b = go (checkIs b) refl
   where
-    go : (p : Bool) → isArchive b ≡ p → length (pick p (listing (reading b)) refusedLine) ≤ 17946
-    go true e = listing-size b e
-    go false e = omega arith
+    go : (c : Checked) → checkIs b ≡ c → length (ifArchive c (λ f. refusedLine) (listing (reading b))) ≤ 17946
+    go Archive e = listing-size b (checked-archive b e)
+    go (Refused f) e = omega arith
 
--- a buffer of 17,946 bytes holds every report
-pub report-whole : (b out : List ℕ) → 17946 ≤ length out → (reportIs b (length out) ≡ length (reportOf b)) × (reportOut b out ≡ over (reportOf b) out)
-unfolding reportIs reportOut
-report-whole b out h = let e = le-leb (length (reportOf b)) (length out) (omega (arith, report-size b)) in (rw e, rw e)
+-- `entry `, a number, ` bit `, a number, a line end
+fault-size : (e : EntryPlace) (p : BitPlace) → length (faultText e p) ≤ 52
+unfolding faultText item
+fault-size entry.Nowhere p = omega arith
+fault-size (entry.At i) bit.Nowhere = omega (arith, length-append (decimal i) lineEnd, decimal-size i)
+fault-size (entry.At i) (bit.At p) = omega (arith, length-two entryWord i bitWord p, decimal-size i, decimal-size p)
+
+told-size : (b : List ℕ) → length (toldOf b) ≤ 52
+unfolding toldOf
+told-size b = go (checkIs b)
+  where
+    go : (c : Checked) → length (ifArchive c (λ f. faultText (f .entry) (f .place)) []) ≤ 52
+    go Archive = omega arith
+    go (Refused f) = fault-size (f .entry) (f .place)
+
+-- buffers of 17,946 and of 52 bytes hold every report
+pub report-whole : (b out told : List ℕ) → 17946 ≤ length out → 52 ≤ length told
+    → (reportIs b (length out) (length told) ≡ record { printed = length (reportOf b); told = length (toldOf b) })
+    × (reportOut b out ≡ over (reportOf b) out) × (toldOut b told ≡ over (toldOf b) told)
+unfolding reportIs reportOut toldOut
+report-whole b out told h k =
+    let e = le-leb (length (reportOf b)) (length out) (omega (arith, report-size b)) in
+    let f = le-leb (length (toldOf b)) (length told) (omega (arith, told-size b)) in
+    (rw (e, f), rw e, rw f)

@@ -13,7 +13,7 @@ use Rattle.archive.proofs.deliver.Statement.{statement}
 use Rattle.archive.proofs.deliver.Tie as tie
 
 returns : tie.Need-returns
-returns c = (rw (← c .before .bytes .ensures, lt-leb _ _ (c .if1 .taken)), refl)
+returns c = let test = c .before in (rw (c .plain .ensures, ← test .before .bytes .ensures, lt-leb _ _ (test .if1 .taken)), refl)
 
 returns-2 : tie.Need-returns-2
 returns-2 c =
@@ -31,6 +31,7 @@ pub deliver-spec : {M : Type 1} → statement M
 deliver-spec =
     tie.close
     (tie.spec
+    (λ c κs. search needs)
     (λ c κs. search needs)
     returns
     (λ c. search needs)

@@ -15,14 +15,15 @@ use Rattle.archive.proofs.empty.Tie as tie
 
 returns : tie.Need-returns
 unfolding emptyIs emptyOut
-returns c = (rw (le-ltb _ _ (c .if1 .taken)), rw (le-ltb _ _ (c .if1 .taken)))
+returns c = let h = le-ltb _ _ (c .before .if1 .taken) in (rw (c .plain .ensures, h), rw h)
 
 returns-2 : tie.Need-returns-2
 unfolding emptyIs emptyOut
 returns-2 c =
-    let h = lt-ltb _ _ (c .before .if1 .left) in
-    let k = lt-leb _ _ (c .if2 .taken) in
-    (rw (h, k), rw (h, k))
+    let test = c .before in
+    let h = lt-ltb _ _ (test .before .if1 .left) in
+    let k = lt-leb _ _ (test .if2 .taken) in
+    (rw (c .plain2 .ensures, h, k), rw (h, k))
 
 returns-3 : tie.Need-returns-3
 unfolding emptyIs emptyOut headerBytes
@@ -42,4 +43,4 @@ returns-3 c =
 pub empty-spec : {M : Type 1} → statement M
 empty-spec =
     tie.close
-    (tie.spec returns returns-2 (λ c κs. search needs) (λ c. search needs) (λ c κs. search needs) (λ c. search needs) returns-3)
+    (tie.spec (λ c κs. search needs) returns (λ c κs. search needs) returns-2 (λ c κs. search needs) (λ c. search needs) (λ c κs. search needs) (λ c. search needs) returns-3)

@@ -76,10 +76,10 @@ spliced-length-requires c κs =
     (inside f, omega (arith, pre .2, pre .1 .bits))
 
 returns : tie.Need-returns
-returns c = (placed-over _ _ (said-no (limits (c .before)) (c .if1 .taken)), refl)
+returns c = let test = c .before in (rw (c .plain .ensures) (placed-over _ _ (said-no (limits (test .before)) (test .if1 .taken))), refl)
 
 returns-2 : tie.Need-returns-2
-returns-2 c = (placed-short _ _ (omega (arith, sized (c .before .before .before))), refl)
+returns-2 c = (rw (c .plain2 .ensures) (placed-short _ _ (omega (arith, sized (c .before .before .before .before)))), refl)
 
 splice-requires : tie.Need-splice-requires
 splice-requires c κs =
@@ -135,7 +135,9 @@ file-spec =
     (λ c. omega (arith, counted (c .before)))
     spliced-length-requires
     (λ c κs. search needs)
+    (λ c κs. search needs)
     returns
+    (λ c κs. search needs)
     returns-2
     splice-requires
     (λ c. search needs)

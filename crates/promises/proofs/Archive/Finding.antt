@@ -10,10 +10,10 @@ use lib.Dec.{eqb}
 use borrow.Author.Tests.{eq-eqb, ne-eqb}
 use Rattle.bits.specs.Bits.{pick}
 use Rattle.bits.proofs.Tests.{never}
-use Rattle.archive.specs.Model.{Held, rankOf, rank}
+use Rattle.archive.specs.Model.{Held, rankOf, rank, inRange}
 use Rattle.archive.specs.Filing.{keepsRules}
 use Rattle.archive.specs.Reading.{reading, isArchive}
-use Rattle.archive.specs.Restoring.{inRange, lookup}
+use Rattle.archive.specs.Restoring.{lookup}
 use Rattle.archive.proofs.Model.Rules.{AllFit, and-fit, kept, all-fit, archive-formed}
 use Rattle.archive.proofs.Model.Keys as keys
 use Rattle.archive.specs.declared.contents.Key.{Key}

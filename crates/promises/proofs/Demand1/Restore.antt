@@ -10,10 +10,10 @@ use lib.Dec.{leb}
 use borrow.Author.Tests.{leb-true, leb-false, le-leb, lt-leb}
 use Rattle.bits.specs.Bits.{pick}
 use Rattle.bits.proofs.Tests.{differ, false-unless}
-use Rattle.archive.specs.Model.{Held, Archive, bodySize}
+use Rattle.archive.specs.Model.{Held, Archive, bodySize, inRange}
 use Rattle.archive.specs.Reading.{reading, isArchive}
 use Rattle.archive.specs.Keeping.{over}
-use Rattle.archive.specs.Restoring.{restoredNumber, inRange, lookup, delivered, bodyOf, restoreIs, restoreOut}
+use Rattle.archive.specs.Restoring.{restoredNumber, lookup, delivered, bodyOf, restoreIs, restoreOut}
 use Rattle.archive.specs.declared.contents.Key.{Key}
 use Rattle.archive.specs.declared.Restored.{Restored}
 use Rattle.archive.specs.declared.Restored.the-variants.{Bits, Refused}

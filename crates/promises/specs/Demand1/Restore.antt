@@ -3,10 +3,10 @@ use mathlib.Core.Path.{_≡_, refl}
 use mathlib.Core.List.{List, [], _∷_}
 use Prim.Native.Nat.{ℕ, _+_, _/_, _≤_, _<_}
 use lib.ListN.{length}
-use Rattle.archive.specs.Model.{Held}
+use Rattle.archive.specs.Model.{Held, inRange}
 use Rattle.archive.specs.Filing.{filingOf, bodyAgrees}
 use Rattle.archive.specs.Keeping.{over}
-use Rattle.archive.specs.Restoring.{restoredNumber, inRange, restoreIs, restoreOut}
+use Rattle.archive.specs.Restoring.{restoredNumber, restoreIs, restoreOut}
 use Rattle.archive.specs.Examples.{calls, partOf5, bytesA}
 use Rattle.archive.specs.declared.contents.Key.{Key}
 use Rattle.archive.specs.declared.Restored.the-variants.{Bits, Refused}

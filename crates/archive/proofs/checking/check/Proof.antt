@@ -1,46 +1,68 @@
--- Entry by entry, what is left to check decides whether the bytes are an archive. Assumes nothing.
-use mathlib.Core.Path.{_≡_, sym, ap, _∙_}
-use mathlib.Core.Bool.{true, false}
+-- Entry by entry, what is left to check decides what the check says. Assumes nothing.
+use mathlib.Core.Path.{_≡_, refl, sym, ap, _∙_}
+use mathlib.Core.Bool.{Bool, true, false}
 use mathlib.Core.List.{List}
-use Prim.Native.Nat.{ℕ, _+_, _-_, _*_, _≤_}
+use Prim.Native.Nat.{ℕ, suc, _+_, _-_, _*_, _≤_}
 use native.Mathlib.Nat.{add-sub-cancel-left}
 use native.Mathlib.Omega.{arith}
 use borrow.Author.Needs.{needs}
-use borrow.Author.Tests.{leb-true}
+use borrow.Author.Tests.{leb-true, eq-eqb, ne-eqb}
 use denote.Ref.{now}
 use lib.ListN.{length, take, drop}
-use lib.Dec.{leb}
+use lib.Dec.{leb, eqb}
+use Rattle.bits.specs.Bits.{guard}
 use Rattle.bits.specs.Frame.{bytesFor}
 use Rattle.bits.proofs.Tests.{both, said-no, said-yes}
 use Rattle.archive.specs.Model.{Held, rankOf, rank, entryWidth, bodySize, withinLimits}
 use Rattle.archive.specs.Filing.{bodyAgrees}
-use Rattle.archive.specs.Reading.{number3, heldAt, isArchive}
+use Rattle.archive.specs.Reading.{number3, entryAt, sizeAt, heldAt}
+use Rattle.archive.specs.Refusals.{plain, ofBody}
+use Rattle.archive.specs.Checking.{bodyPlace, checkIs}
+use Rattle.archive.specs.Inner.{agreementIs, mayFollow, restShape}
 use Rattle.archive.specs.declared.contents.Entry.{Entry}
+use Rattle.archive.specs.declared.checking.Checked.{Checked}
+use Rattle.archive.specs.declared.checking.Checked.the-variants.{Archive, Refused}
 use Rattle.archive.proofs.Bytes.Walking.{home-is}
-use Rattle.archive.proofs.Bytes.Checking.{too-short, over-limits, begins, restOk, rest-low, rest-short, rest-bad, rest-next, rest-none}
+use Rattle.archive.proofs.Bytes.Checking.{too-short, over-limits, begins, follows-not, room-for, restIs, rest-shapeless, rest-none, rest-bad, rest-next}
+use Rattle.archive.proofs.Model.Checked.{agreed, faulty}
 use Rattle.archive.proofs.checking.check.Statement.{statement}
 use Rattle.archive.proofs.checking.check.Tie as tie
 
 abbrev Inv-loop : tie.InvT-loop
-Inv-loop archive size home left₀ off₀ at₀ last₀ left off at last =
-    (at + entryWidth * left ≤ length archive) × (off ≤ length archive) × (length archive ≤ 65536)
-    × (isArchive archive ≡ restOk archive home last left at off)
+Inv-loop archive size home count off₀ left₀ at₀ last₀ off left at last =
+    (left ≤ count) × (at + entryWidth * left ≤ length archive) × (off ≤ length archive) × (length archive ≤ 65536)
+    × (checkIs archive ≡ restIs archive home (count - left) last left at off)
 
 abbrev μ-loop : tie.MeasureT-loop
-μ-loop archive size home left₀ off₀ at₀ last₀ left off at last = left
+μ-loop archive size home count off₀ left₀ at₀ last₀ off left at last = left
+
+-- the bytes, the home network and the entry count
+abbrev b-of : tie.At-loop Inv-loop μ-loop → List ℕ
+b-of l = now (l .before .before .before .before .before .before .before .before .args .archive)
+
+abbrev home-of : tie.At-loop Inv-loop μ-loop → ℕ
+home-of l = l .before .before .before .before .before .home .result
+
+abbrev index-of : tie.At-loop Inv-loop μ-loop → ℕ
+index-of l = l .before .before .before .before .count .result - l .loop .left
+
+-- the entry at hand and its body
+abbrev here : tie.At-loop Inv-loop μ-loop → Held
+here l = heldAt (b-of l) (l .loop .at) (l .loop .off)
 
 returns : tie.Need-returns Inv-loop μ-loop
-returns c = sym (too-short _ (omega arith))
+returns c = rw (c .plain .ensures) (sym (too-short _ (omega arith)))
 
 returns-2 : tie.Need-returns-2 Inv-loop μ-loop
 returns-2 c =
-    let count = c .before .before in
+    let within = c .before .before in
+    let count = within .before in
     let b = now (count .before .before .before .before .args .archive) in
-    let e : withinLimits (count .count .result) (length b) ≡ false = said-no (c .before .within-limits .ensures) (c .if2 .taken) in
-    sym (over-limits b (rw (count .count .ensures .0) at e))
+    let e : withinLimits (count .count .result) (length b) ≡ false = said-no (within .within-limits .ensures) (c .before .if2 .taken) in
+    rw (c .plain2 .ensures) (sym (over-limits b (rw (count .count .ensures .0) at e)))
 
 returns-3 : tie.Need-returns-3 Inv-loop μ-loop
-returns-3 c = sym (too-short _ (omega arith))
+returns-3 c = rw (c .plain3 .ensures) (sym (too-short _ (omega arith)))
 
 loop-holds : tie.Need-loop-holds Inv-loop μ-loop
 loop-holds c =
@@ -49,78 +71,129 @@ loop-holds c =
     let known = count .before .before .before in
     let b = now (known .before .args .archive) in
     let e : withinLimits (count .count .result) (length b) ≡ true = said-yes (within .within-limits .ensures) (c .before .if2 .left) in
-    let h : count .before .home .result ≡ number3 b 0 = count .before .home .ensures ∙ home-is b (omega arith) in (
+    let h : count .before .home .result ≡ number3 b 0 = count .before .home .ensures ∙ home-is b (omega arith) in
+    let first : count .count .result - count .count .result ≡ 0 = omega arith in (
+      omega arith,
       omega arith,
       omega arith,
       leb-true _ _ (both (leb (count .count .result) 512) (leb (length b) 65536) e .1),
-      rw (h, count .count .ensures .0) (begins b (λ i. known .shared-slice-known .given i .fits) (rw (count .count .ensures .0) at e)),
+      rw (first, h, count .count .ensures .0) (begins b (λ i. known .shared-slice-known .given i .fits) (rw (count .count .ensures .0) at e)),
     )
 
--- the bytes, the home network and the entry at hand
-abbrev b-of : tie.At-loop Inv-loop μ-loop → List ℕ
-b-of c = now (c .before .before .before .before .before .before .before .before .args .archive)
-
-abbrev home-of : tie.At-loop Inv-loop μ-loop → ℕ
-home-of c = c .before .before .before .before .before .home .result
-
-abbrev here : tie.At-loop Inv-loop μ-loop → Held
-here c = heldAt (b-of c) (c .loop .at) (c .loop .off)
-
-key : (c : tie.After-rank Inv-loop μ-loop) → c .rank .result ≡ rank (here (c .before .before .before .before))
-key c = c .rank .ensures ∙ ap (λ (e : Entry). rankOf (e .key)) (c .before .before .entry-at .ensures .0)
+may : (c : tie.After-may-follow Inv-loop μ-loop) →
+    let l = c .before .before .before in
+    c .may-follow .result ≡ mayFollow (entryAt (b-of l) (l .loop .at)) (l .loop .last) (length (b-of l) - l .loop .off)
+may c =
+    let l = c .before .before .before in
+    c .may-follow .ensures ∙ ap (λ (e : Entry). mayFollow e (l .loop .last) (length (b-of l) - l .loop .off)) (c .before .entry-at .ensures .0)
 
 returns-4 : tie.Need-returns-4 Inv-loop μ-loop
 returns-4 c =
-    let loop = c .before .before .before .before .before in
-    sym (loop .loop .inv .3 ∙ rest-low (b-of loop) _ _ _ _ _ (c .before .before .before .before .loop-test .taken) (omega (arith, key (c .before))))
+    let may-follow = c .before .before in
+    let test = may-follow .before .before in
+    let l = test .before in
+    rw (c .plain4 .ensures)
+    (sym (l .loop .inv .4
+    ∙ rest-shapeless _ _ _ _ _ _ _ (follows-not (b-of l) _ _ _ _ (test .loop-test .taken) (said-no (may may-follow) (c .before .if4 .taken)))))
 
-size : (c : tie.After-bytes Inv-loop μ-loop) → c .bytes .result ≡ bodySize (here (c .before .before .before .before .before .before .before))
-size c = c .bytes .ensures ∙ ap (λ (e : Entry). bytesFor (e .bits .0)) (c .before .before .before .before .before .entry-at .ensures .0)
+-- it may follow, and its body ends inside
+followed : (c : tie.Else4 Inv-loop μ-loop) →
+    let l = c .before .before .before .before in
+    mayFollow (entryAt (b-of l) (l .loop .at)) (l .loop .last) (length (b-of l) - l .loop .off) ≡ true
+followed c = said-yes (may (c .before)) (c .if4 .left)
+
+inside : (c : tie.After-bytes Inv-loop μ-loop) →
+    let l = c .before .before .before .before .before .before .before in
+    (c .bytes .result ≡ bodySize (here l)) × (l .loop .off + c .bytes .result ≤ length (b-of l))
+inside c =
+    let passed = c .before .before .before in
+    let entry = passed .before .before in
+    let l = entry .before .before in
+    let size = c .bytes .ensures ∙ ap (λ (e : Entry). bytesFor (e .bits .0)) (entry .entry-at .ensures .0) in
+    (size, omega (arith, size, room-for (entryAt (b-of l) (l .loop .at)) _ _ (followed passed), l .loop .inv .2))
+
+ranked : (c : tie.After-rank Inv-loop μ-loop) → c .rank .result ≡ rank (here (c .before .before .before .before .before .before .before .before))
+ranked c = c .rank .ensures ∙ ap (λ (e : Entry). rankOf (e .key)) (c .before .before .before .before .before .before .entry-at .ensures .0)
+
+agreement : (c : tie.After-body-agreement Inv-loop μ-loop) →
+    let l = c .before .before .before .before .before .before .before .before .before .before in
+    c .body-agreement .result ≡ agreementIs (home-of l) (here l)
+agreement c =
+    let bytes = c .before .before .before in
+    let entry = bytes .before .before .before .before .before in
+    let l = entry .before .before in
+    let off = l .loop .off in
+    let n : off + bytes .bytes .result - off ≡ bodySize (here l) = add-sub-cancel-left off (bytes .bytes .result) ∙ inside bytes .0 in
+    c .body-agreement .ensures
+    ∙ (λ i. agreementIs (home-of l) (record { entry = entry .entry-at .ensures .0 i; body = take (n i) (drop off (b-of l)) }))
+
+-- a body at fault: the shape of what is left decides
+at-fault : (c : tie.After-rest-has-shape Inv-loop μ-loop) →
+    let l = c .before .before .before .before .before .before .before .before .before .before .before .before .before .before in
+    checkIs (b-of l) ≡ guard (c .rest-has-shape .result) (Refused (plain 7)) (Refused (ofBody (index-of l) (c .before .before .agreement .given .0 .0)))
+at-fault c =
+    let told = c .before .before in
+    let body = told .before .before in
+    let rank′ = body .before .before in
+    let passed = rank′ .before .before .before .before in
+    let test = passed .before .before .before in
+    let l = test .before in
+    let f = faulty (home-of l) (here l) (sym (agreement body) ∙ told .agreement .given .1) in
+    let behind : c .rest-has-shape .result
+    ≡ restShape (b-of l) (rank (here l)) (l .loop .left - 1) (l .loop .at + entryWidth) (l .loop .off + bodySize (here l)) =
+    c .rest-has-shape .ensures
+    ∙ (λ i. restShape (b-of l) (ranked rank′ i) (l .loop .left - 1) (l .loop .at + entryWidth) (l .loop .off + inside (rank′ .before) .0 i))
+    in
+    l .loop .inv .4
+    ∙ rest-bad (b-of l) (home-of l) (index-of l) _ _ _ _ (test .loop-test .taken) (followed passed) (f .0)
+    ∙ (λ i. guard (sym behind i) (Refused (plain 7)) (Refused (ofBody (index-of l) (f .1 i))))
+
+rest-has-shape-requires : tie.Need-rest-has-shape-requires Inv-loop μ-loop
+rest-has-shape-requires c κs =
+    let bytes = c .before .before .before .before .before .before in
+    omega (arith, inside bytes .1, bytes .before .before .before .before .before .before .before .loop .inv)
 
 returns-5 : tie.Need-returns-5 Inv-loop μ-loop
 returns-5 c =
-    let bits = c .before .before in
-    let loop = bits .before .before .before .before .before .before in
-    sym (loop .loop .inv .3
-    ∙ rest-short (b-of loop) _ _ _ _ _ (bits .before .before .before .before .before .loop-test .taken) (omega (arith, size (c .before))))
-
-agrees : (c : tie.After-body-agrees Inv-loop μ-loop)
-    → c .body-agrees .result ≡ bodyAgrees (home-of (c .before .before .before .before .before .before .before .before .before .before))
-    (here (c .before .before .before .before .before .before .before .before .before .before))
-agrees c =
-    let bytes = c .before .before .before in
-    let loop = bytes .before .before .before .before .before .before .before in
-    let off = loop .loop .off in
-    let n : off + bytes .bytes .result - off ≡ bodySize (here loop) = add-sub-cancel-left off (bytes .bytes .result) ∙ size bytes in
-    c .body-agrees .ensures
-    ∙ (λ i. bodyAgrees (home-of loop)
-    (record { entry = bytes .before .before .before .before .before .entry-at .ensures .0 i; body = take (n i) (drop off (b-of loop)) }))
+    let rest = c .before .before in
+    rw (c .plain5 .ensures) (sym (at-fault rest ∙ ap (λ (t : Bool). guard t (Refused (plain 7)) (Refused _)) (said-no refl (c .before .if5 .taken))))
 
 returns-6 : tie.Need-returns-6 Inv-loop μ-loop
-returns-6 c =
-    let bytes = c .before .before .before .before in
-    let loop = bytes .before .before .before .before .before .before .before in
-    sym (loop .loop .inv .3 ∙ rest-bad (b-of loop) _ _ _ _ _ (bytes .before .before .before .before .before .before .loop-test .taken)
-    (said-no (agrees (c .before)) (c .if6 .taken)))
+returns-6 c = sym (at-fault (c .before) ∙ ap (λ (t : Bool). guard t (Refused (plain 7)) (Refused _)) (said-yes refl (c .if5 .left)))
 
 loop-again : tie.Need-loop-again Inv-loop μ-loop
 loop-again c =
-    let bytes = c .before .before .before .before in
-    let high = bytes .before .before in
-    let loop = high .before .before .before .before .before in
-    let b = b-of loop in (
-      omega arith,
-      omega arith,
-      omega arith,
-      loop .loop .inv .3
-          ∙ rest-next b _ _ _ _ _ (high .before .before .before .before .loop-test .taken) (omega (arith, key (high .before)))
-          (said-yes (agrees (c .before)) (c .if6 .left))
-          ∙ (λ i. restOk b (home-of loop) (sym (key (high .before)) i) (loop .loop .left - 1) (loop .loop .at + entryWidth)
-          (loop .loop .off + sym (size bytes) i)),
+    let body = c .before .before in
+    let rank′ = body .before .before in
+    let bytes = rank′ .before in
+    let passed = bytes .before .before .before in
+    let test = passed .before .before .before in
+    let l = test .before in
+    let b = b-of l in
+    let yes = agreed (home-of l) (here l) (sym (agreement body) ∙ c .enum-told .given .1) in
+    let next : suc (index-of l) ≡ l .before .before .before .before .count .result - (l .loop .left - 1) =
+    omega (arith, l .loop .inv .0, test .loop-test .taken) in (
+      omega (arith, l .loop .inv .0),
+      omega (arith, l .loop .inv .1, test .loop-test .taken),
+      inside bytes .1,
+      l .loop .inv .3,
+      l .loop .inv .4 ∙ rest-next b (home-of l) (index-of l) _ _ _ _ (test .loop-test .taken) (followed passed) yes
+          ∙ (λ i. restIs b (home-of l) (next i) (sym (ranked rank′) i) (l .loop .left - 1) (l .loop .at + entryWidth)
+          (l .loop .off + sym (inside bytes .0) i)),
     )
 
+-- all are passed: the bodies end with the bytes, or not
+ended : (c : tie.After-loop Inv-loop μ-loop) →
+    let l = c .before in checkIs (b-of l) ≡ guard (eqb (l .loop .off) (length (b-of l))) (Refused (plain 7)) Archive
+ended c = c .before .loop .inv .4 ∙ rest-none _ _ _ _ _ _ _ (c .loop-test .left)
+
 returns-7 : tie.Need-returns-7 Inv-loop μ-loop
-returns-7 c = sym (c .before .loop .inv .3 ∙ rest-none _ _ _ _ _ _ (c .loop-test .left))
+returns-7 c =
+    rw (c .plain6 .ensures)
+    (sym (ended (c .before .before) ∙ ap (λ (t : Bool). guard t (Refused (plain 7)) Archive) (ne-eqb _ _ (c .before .if6 .taken))))
+
+returns-8 : tie.Need-returns-8 Inv-loop μ-loop
+returns-8 c = sym (ended (c .before) ∙ ap (λ (t : Bool). guard t (Refused (plain 7)) Archive) (eq-eqb _ _ (c .if6 .left)))
 
 pub check-spec : {M : Type 1} → statement M
 check-spec =
@@ -128,29 +201,42 @@ check-spec =
     (tie.spec
     Inv-loop
     μ-loop
+    (λ c κs. search needs)
     returns
     (λ c κs. search needs)
     (λ c κs. omega arith)
     (λ c κs. search needs)
+    (λ c κs. search needs)
     returns-2
     (λ c. omega arith)
     (λ c. omega arith)
+    (λ c κs. search needs)
     returns-3
     loop-holds
     (λ c κs. omega arith)
+    (λ c. omega arith)
+    (λ c κs. search needs)
     (λ c κs. search needs)
     returns-4
     (λ c κs. search needs)
+    (λ c. omega (arith, inside c .1))
+    (λ c κs. search needs)
     (λ c. omega arith)
+    (λ c. omega arith)
+    (λ c. omega arith)
+    (λ c. omega (arith, inside (c .before) .1))
+    (λ c κs. search needs)
+    (λ c. search needs)
+    (λ c. omega arith)
+    rest-has-shape-requires
+    (λ c κs. search needs)
     returns-5
     (λ c. omega arith)
-    (λ c. omega arith)
-    (λ c. omega arith)
-    (λ c. omega arith)
-    (λ c κs. search needs)
     returns-6
-    (λ c. omega arith)
+    (λ c. search needs)
     (λ c. omega arith)
     (λ c. omega arith)
     loop-again
-    returns-7)
+    (λ c κs. search needs)
+    returns-7
+    returns-8)

@@ -1,60 +1,35 @@
--- A word and two items, one after the other. Assumes nothing.
-use mathlib.Core.List.{_++_}
-use Prim.Native.Nat.{_+_, _≤_}
-use native.Mathlib.Omega.{arith}
-use borrow.Author.Needs.{needs}
-use denote.Ref.{now}
-use lib.ListN.{length}
-use Rattle.bits.proofs.Laying.{then, first-fits, rest-fits}
-use Rattle.archive.specs.Listing.{homeWord, entriesWord, lineEnd, item, firstLine}
-use Rattle.archive.proofs.Text.Lines.{length-first}
 use Rattle.archive.proofs.listing.write_first.Statement.{statement}
 use Rattle.archive.proofs.listing.write_first.Tie as tie
+use Rattle.archive.proofs.listing.write_first.Reads as reads
+use Rattle.archive.proofs.listing.write_first.Lts as lts
+use Rattle.archive.proofs.listing.write_two_items.Reads as write-two-items-reads
 
--- room for the whole, and after the word
-whole : (c : tie.Start) → 0 + length (homeWord ++ (item (c .args .home) entriesWord ++ item (c .args .count) lineEnd)) ≤ length (now (c .args .out))
-unfolding firstLine
-whole c = omega (arith, c .pre)
+-- src/listing.rt:89:26
+slice-aggregate-write-two-items : tie.Need-slice-aggregate-write-two-items
+slice-aggregate-write-two-items c = ?
 
-after-word : (c : tie.After-append)
-    → c .append .result + length (item (c .before .before .before .before .args .home) entriesWord ++ item
-    (c .before .before .before .before .args .count) lineEnd) ≤ length (c .append .last .0)
-after-word c =
-    let start = c .before .before .before .before in
-    rest-fits (item (start .args .home) entriesWord ++ item (start .args .count) lineEnd) (whole start) (c .append .ensures)
+-- src/listing.rt:89:51
+slice-aggregate-write-two-items-2 : tie.Need-slice-aggregate-write-two-items-2
+slice-aggregate-write-two-items-2 c = ?
 
-append-requires : tie.Need-append-requires
-append-requires c κs = let start = c .before .before .before in omega (arith, length-first (start .args .home) (start .args .count))
+-- src/listing.rt:89:5
+write-two-items-requires : tie.Need-write-two-items-requires
+write-two-items-requires c κs = ?
 
-write-item-requires : tie.Need-write-item-requires
-write-item-requires c κs =
-    let word = c .before .before .before .before in
-    let start = word .before .before .before .before in
-    first-fits (item (start .args .home) entriesWord) (item (start .args .count) lineEnd) (word .append .result) (after-word word)
+-- src/listing.rt:85:1
+same-length : tie.Need-same-length
+same-length c = ?
 
-write-item-requires-2 : tie.Need-write-item-requires-2
-write-item-requires-2 c κs =
-    let home = c .before .before .before .before in
-    let word = home .before .before .before .before .before in
-    rest-fits (item (word .before .before .before .before .args .count) lineEnd) (after-word word) (home .write-item .ensures)
-
+-- src/listing.rt:85:1
 returns : tie.Need-returns
-unfolding firstLine
-returns c =
-    let count = c .before .before in
-    let home = count .before .before .before .before .before in
-    let word = home .before .before .before .before .before in
-    then (omega arith) (word .append .ensures) (then (omega (arith, after-word word)) (home .write-item .ensures) (count .write-item2 .ensures))
+returns c = ?
 
 pub write-first-spec : {M : Type 1} → statement M
 write-first-spec =
     tie.close
     (tie.spec
-    (λ c. search needs)
-    append-requires
-    (λ c. search needs)
-    write-item-requires
-    (λ c. search needs)
-    write-item-requires-2
-    (λ c. search needs)
+    slice-aggregate-write-two-items
+    slice-aggregate-write-two-items-2
+    write-two-items-requires
+    same-length
     returns)

@@ -1,9 +1,9 @@
 -- The four tests in turn. Assumes nothing.
 use native.Mathlib.Omega.{arith}
 use borrow.Author.Tests.{lt-ltb, le-ltb, le-leb, lt-leb}
-use Rattle.archive.specs.Restoring.{inRange}
-use Rattle.archive.proofs.in_range.Statement.{statement}
-use Rattle.archive.proofs.in_range.Tie as tie
+use Rattle.archive.specs.Model.{inRange}
+use Rattle.archive.proofs.contents.in_range.Statement.{statement}
+use Rattle.archive.proofs.contents.in_range.Tie as tie
 
 returns : tie.Need-returns
 unfolding inRange
