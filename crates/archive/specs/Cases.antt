@@ -9,14 +9,17 @@ use lib.ListN.{take, replicate}
 use Rattle.archive.specs.Model.{Held, headerBytes, entryBytes, lengthOf, withinLimits, inRange}
 use Rattle.archive.specs.Filing.{filingOf, bodyAgrees}
 use Rattle.archive.specs.Reading.{homeOf, countOf, entryAt, isArchive}
-use Rattle.archive.specs.Refusals.{plain}
+use Rattle.archive.specs.Refusals.{plain, ofBody}
+use Rattle.archive.specs.Checking.{checkIs}
 use Rattle.archive.specs.Keeping.{emptyIs, put}
 use Rattle.archive.specs.Restoring.{fetchIs, restoreIs, restoreOut}
 use Rattle.archive.specs.History.{Offer, after, afterAll, lastAccepted}
-use Rattle.archive.specs.Listing.{digits, decimal, item, twoItems, firstLine, line, lines, listing}
+use Rattle.archive.specs.Listing.{digits, decimal, item, twoItems, firstLine, line, lines, listing, faultText, toldOf}
 use Rattle.archive.specs.Examples.{calls}
 use Rattle.archive.specs.declared.contents.Key.{Key}
 use Rattle.archive.specs.declared.contents.Entry.{Entry}
+use Rattle.walk.specs.declared.BitPlace.the-variants.{At, Nowhere}
+use Rattle.archive.specs.declared.checking.Checked.the-variants as check
 use Rattle.archive.specs.declared.Stored.the-variants as stored
 use Rattle.archive.specs.declared.Fetched.the-variants.{Body, NotHeld}
 use Rattle.archive.specs.declared.Fetched.the-variants as fetch
@@ -170,6 +173,52 @@ rules : (isArchive (ofTwo (entryBytes (entry 1 5 1 63) ++ entryBytes (entry 7 4 
     × (isArchive (ofOne (entryBytes (entry 1 5 3 51)) (failed .pdu)) ≡ false)
 unfolding calls bodyAgrees filingOf
 rules = (refl, refl, refl, refl, refl, refl, refl, refl, refl)
+
+-- ---- what the check says
+
+abbrev damaged : List ℕ
+damaged = 0x00 ∷ 0x82 ∷ 0x00 ∷ 0x00 ∷ 0x09 ∷ 0x00 ∷ 0x00 ∷ 0x07 ∷ 0x41 ∷ 0x60 ∷ 0x00 ∷ []
+
+-- the contents of user 5 and the visitor, and the other way round
+abbrev rising : List ℕ
+rising = entryBytes (entry 1 5 1 63) ++ entryBytes (entry 7 4 2 87)
+
+abbrev falling : List ℕ
+falling = entryBytes (entry 7 4 2 87) ++ entryBytes (entry 1 5 1 63)
+
+-- 7 with an entry and a place: an SS type that is not 6, at 0, in the second body; in both, the first counts; no bits, which end before the
+-- SS type; a service that is missing, at 48
+bodies-refused : (checkIs (ofTwo rising (first .pdu ++ damaged)) ≡ check.Refused (ofBody 1 (At 0)))
+    × (checkIs (ofTwo rising ((0x49 ∷ 0x80 ∷ replicate 6 0) ++ damaged)) ≡ check.Refused (ofBody 0 (At 11)))
+    × (checkIs (ofOne (entryBytes (entry 1 5 1 0)) []) ≡ check.Refused (ofBody 0 (At 0)))
+    × (checkIs (ofOne (entryBytes (entry 1 5 1 48)) (take 6 (first .pdu))) ≡ check.Refused (ofBody 0 (At 48)))
+unfolding calls bodyAgrees filingOf
+bodies-refused = (refl, refl, refl, refl)
+
+-- 7 with an entry and no place: a legal body of another user; a failed interrogation; a nonzero unused bit; 4,097 bits
+bodies-unfit : (checkIs (ofOne (entryBytes (entry 1 6 1 63)) (first .pdu)) ≡ check.Refused (ofBody 0 Nowhere))
+    × (checkIs (ofOne (entryBytes (entry 1 5 1 51)) (failed .pdu)) ≡ check.Refused (ofBody 0 Nowhere))
+    × (checkIs (ofOne (entryBytes (entry 1 5 1 62)) (take 7 (first .pdu) ++ (0x03 ∷ []))) ≡ check.Refused (ofBody 0 Nowhere))
+    × (checkIs (ofOne (entryBytes (entry 1 5 1 4097)) (replicate 513 0)) ≡ check.Refused (ofBody 0 Nowhere))
+unfolding calls bodyAgrees filingOf
+bodies-unfit = (refl, refl, refl, refl)
+
+-- 7 with neither, though a body is at fault too: keys that fall, a key twice, part 3, a byte more or less, an entry too many in the header
+shapes : (checkIs (ofTwo falling (damaged ++ first .pdu)) ≡ check.Refused (plain 7))
+    × (checkIs (ofTwo (entryBytes (entry 7 4 2 87) ++ entryBytes (entry 7 4 2 87)) (damaged ++ damaged)) ≡ check.Refused (plain 7))
+    × (checkIs (ofOne (entryBytes (entry 1 5 3 51)) (failed .pdu)) ≡ check.Refused (plain 7))
+    × (checkIs (ofTwo rising (damaged ++ (first .pdu ++ (0x00 ∷ [])))) ≡ check.Refused (plain 7))
+    × (checkIs (ofTwo rising (first .pdu ++ take 10 damaged)) ≡ check.Refused (plain 7))
+    × (checkIs (ofTwo (entryBytes (entry 1 5 1 63)) (first .pdu)) ≡ check.Refused (plain 7))
+unfolding calls bodyAgrees filingOf
+shapes = (refl, refl, refl, refl, refl, refl)
+
+-- and where `contents` says it is: `entry 1 bit 0`, `entry 0`, nothing
+told : (toldOf (ofTwo rising (first .pdu ++ damaged)) ≡ 101 ∷ 110 ∷ 116 ∷ 114 ∷ 121 ∷ 32 ∷ 49 ∷ 32 ∷ 98 ∷ 105 ∷ 116 ∷ 32 ∷ 48 ∷ 10 ∷ [])
+    × (toldOf (ofOne (entryBytes (entry 1 6 1 63)) (first .pdu)) ≡ 101 ∷ 110 ∷ 116 ∷ 114 ∷ 121 ∷ 32 ∷ 48 ∷ 10 ∷ [])
+    × (toldOf (ofTwo falling (damaged ++ first .pdu)) ≡ [])
+unfolding calls bodyAgrees filingOf toldOf faultText twoItems item decimal digits
+told = (refl, refl, refl)
 
 -- ---- the listing of the least and the greatest numbers
 

@@ -130,10 +130,14 @@ module _ (b : List ℕ) where
   pub too-short : length b < bodiesAt b → checkIs b ≡ Refused (plain 7)
   too-short h =
       let not-all : eqb total (length b) ≡ false = ne-eqb total (length b) (λ (p : total ≡ length b). omega arith) in
-      shapeless (shape ∙ and-false _ (and-false _ (and-false _ not-all)))
+      shapeless
+      (shape ∙ and-false (ltb (number3 b 0) 16777216)
+      (and-false (withinLimits (countOf b) total) (and-false (inOrder 0 (heldIn b)) not-all)))
 
   pub over-limits : withinLimits (countOf b) (length b) ≡ false → checkIs b ≡ Refused (plain 7)
-  over-limits h = shapeless (shape ∙ and-false _ (as-long ∙ ap (λ (x : Bool). x && (inOrder 0 (heldIn b) && eqb total (length b))) h))
+  over-limits h = shapeless
+      (shape ∙ and-false (ltb (number3 b 0) 16777216)
+      (as-long ∙ ap (λ (x : Bool). x && (inOrder 0 (heldIn b) && eqb total (length b))) h))
 
   pub begins : Bytes b → withinLimits (countOf b) (length b) ≡ true → checkIs b ≡ restIs b (number3 b 0) 0 0 (countOf b) headerWidth (bodiesAt b)
   unfolding checkIs restIs restShape reading

@@ -1,106 +1,145 @@
+-- Each way out is a case of the answer; what is filed is what the definition files. Assumes nothing.
+use mathlib.Core.Path.{_≡_, sym, ap, _∙_, subst}
+use mathlib.Core.Bool.{true}
+use mathlib.Core.List.{List}
+use Prim.Native.Nat.{ℕ}
 use borrow.Author.Needs.{needs}
+use denote.Ref.{now}
+use lib.ListN.{length}
+use Rattle.walk.specs.Walk.{walkIs}
+use Rattle.walk.specs.declared.Head.{Head}
+use Rattle.walk.specs.declared.Walked.the-variants as walked
+use Rattle.reader.specs.Read.{readIs}
+use Rattle.reader.specs.declared.Answer.the-variants.{Accepted}
+use Rattle.judging.specs.Judge.{mayHold}
+use Rattle.archive.specs.Model.{Archive, bytesOf}
+use Rattle.archive.specs.Filing.{entryFor}
+use Rattle.archive.specs.Reading.{reading, isArchive}
+use Rattle.archive.specs.Keeping.{leaves, with, heldFor, captured, placed, captureIs}
+use Rattle.archive.specs.Inner.{filingUnder, walkedRefusal}
+use Rattle.archive.specs.declared.Stored.the-variants.{Refused}
+use Rattle.archive.specs.declared.contents.Entry.{Entry}
+use Rattle.archive.specs.declared.refusal.Refusal.{Refusal}
+use Rattle.archive.proofs.Model.Bodies.{fits, Fits}
+use Rattle.archive.proofs.Model.Checked.{checked-archive}
+use Rattle.archive.proofs.Calls.Capture.{home-read, home-fits, filed-under, offered-agrees, no-archive, pdu-refused, not-held, as-placed, capture-leaves}
 use Rattle.archive.proofs.capture.Statement.{statement}
 use Rattle.archive.proofs.capture.Tie as tie
-use Rattle.archive.proofs.capture.Reads as reads
-use Rattle.archive.proofs.capture.Lts as lts
-use Rattle.archive.proofs.checking.check.Reads as check-reads
-use Rattle.archive.proofs.contents.home.Reads as home-reads
-use Rattle.archive.proofs.file.Reads as file-reads
-use Rattle.archive.proofs.filing.filing_of.Reads as filing-of-reads
-use Rattle.archive.proofs.refusal.of_walk.Reads as of-walk-reads
-use Rattle.archive.proofs.refusal.plain.Reads as plain-reads
-use Rattle.walk.proofs.walk.Reads as walk-reads
 
--- src/lib.rt:72:9
-check-requires : tie.Need-check-requires
-check-requires c κs = search needs
-
--- src/lib.rt:73:29
-enum-known-checked : tie.Need-enum-known-checked
-enum-known-checked c = search needs
-
--- src/lib.rt:74:9
 returns : tie.Need-returns
-returns c = ?
+returns c =
+    let checked = c .before in
+    let check = checked .before .before in
+    let a = check .before .before .before .before .args in
+    let bad = sym (check .check .ensures) ∙ checked .checked .given .1 in
+    let e = no-archive (now (a .archive)) (now (a .body)) (a .n .0) (length (now (a .out))) bad in
+    (sym e, sym (capture-leaves _ _ _ (now (a .out)) e))
 
-enum-told : tie.Need-enum-told
-enum-told c = search needs
+-- the archive's bytes, the PDU, its bit length and the lent buffer
+abbrev b-of : tie.After-walk → List ℕ
+b-of c = now (c .before .before .before .before .before .before .before .args .archive)
 
--- src/lib.rt:76:9
-walk-requires : tie.Need-walk-requires
-walk-requires c κs = search needs
+abbrev s-of : tie.After-walk → List ℕ
+s-of c = now (c .before .before .before .before .before .before .before .args .body)
 
--- src/lib.rt:77:26
-enum-known-walked : tie.Need-enum-known-walked
-enum-known-walked c = search needs
+abbrev n-of : tie.After-walk → ℕ
+n-of c = c .before .before .before .before .before .before .before .args .n .0
 
--- src/lib.rt:78:32
-enum-told-2 : tie.Need-enum-told-2
-enum-told-2 c = search needs
+abbrev out-of : tie.After-walk → List ℕ
+out-of c = now (c .before .before .before .before .before .before .before .args .out)
 
--- src/lib.rt:78:32
-of-walk-requires : tie.Need-of-walk-requires
-of-walk-requires c κs = search needs
+ok : (c : tie.After-walk) → isArchive (b-of c) ≡ true
+ok c = let told = c .before in checked-archive _ (sym (told .before .before .check .ensures) ∙ told .enum-told .given .1)
 
--- src/lib.rt:78:9
+-- the walk's refusal is passed on
 returns-2 : tie.Need-returns-2
-returns-2 c = ?
+returns-2 c =
+    let told = c .before in
+    let w = told .before .before in
+    let e : captureIs (b-of w) (s-of w) (n-of w) (length (out-of w)) ≡ Refused (c .of-walk .result) =
+    pdu-refused _ _ _ _ (ok w) (sym (w .walk .ensures) ∙ told .enum-told2 .given .1)
+    ∙ ap (λ (f : Refusal). Refused f) (sym (c .of-walk .ensures ∙ ap walkedRefusal (told .enum-told2 .given .1)))
+    in
+    (sym e, sym (capture-leaves _ _ _ (out-of w) e))
 
--- src/lib.rt:80:36
-home-requires : tie.Need-home-requires
-home-requires c κs = search needs
+-- the head of the accepted PDU, and what is filed by it
+abbrev walk-of : tie.After-filing-of → tie.After-walk
+walk-of c = c .before .before .before .before .before
 
--- src/lib.rt:80:9
-filing-of-requires : tie.Need-filing-of-requires
-filing-of-requires c κs = search needs
+abbrev head-of : tie.After-filing-of → Head
+head-of c = c .before .before .before .walked .given .0 .0
 
--- src/lib.rt:81:23
-enum-known-filing : tie.Need-enum-known-filing
-enum-known-filing c = search needs
+accepted : (c : tie.After-filing-of) → walkIs (s-of (walk-of c)) (n-of (walk-of c)) ≡ walked.Accepted (head-of c)
+accepted c = sym (walk-of c .walk .ensures) ∙ c .before .before .before .walked .given .1
 
--- src/lib.rt:82:32
-enum-told-3 : tie.Need-enum-told-3
-enum-told-3 c = search needs
+filed : (c : tie.After-filing-of) → let w = walk-of c in c .filing-of .result ≡ filingUnder (reading (b-of w) .home) (head-of c) (n-of w)
+filed c =
+    let w = walk-of c in
+    c .filing-of .ensures ∙ ap (λ (home : ℕ). filingUnder home (head-of c) (n-of w)) (c .before .home .ensures ∙ home-read (b-of w) (ok w))
 
--- src/lib.rt:82:32
-plain-requires : tie.Need-plain-requires
-plain-requires c κs = search needs
-
--- src/lib.rt:82:9
 returns-3 : tie.Need-returns-3
-returns-3 c = ?
+returns-3 c =
+    let told = c .before in
+    let f = told .before .before in
+    let w = walk-of f in
+    let e = not-held (b-of w) (s-of w) (n-of w) (length (out-of w)) (reading (b-of w) .home) (ok w) (accepted f) (sym (filed f) ∙ told .enum-told3 .given .1) in
+    (ap (λ (x : Refusal). Refused x) (c .plain .ensures) ∙ sym e, sym (capture-leaves _ _ _ (out-of w) e))
 
--- src/lib.rt:84:5
+-- the entry is the one that the PDU is held under
+under : (c : tie.After-filing) → let w = walk-of (c .before .before) in (readIs (s-of w) (n-of w) .answer ≡ Accepted)
+    × (mayHold (readIs (s-of w) (n-of w) .found) ≡ true)
+    × (entryFor (reading (b-of w) .home) (readIs (s-of w) (n-of w) .found) (n-of w) ≡ c .filing .given .0 .0)
+under c = let f = c .before .before in filed-under _ _ _ (accepted f) (sym (filed f) ∙ c .filing .given .1)
+
+fit : (c : tie.After-filing) → Fits (record { entry = c .filing .given .0 .0; body = s-of (walk-of (c .before .before)) })
+fit c =
+    let w = walk-of (c .before .before) in
+    let home = reading (b-of w) .home in
+    subst (λ (e : Entry). Fits (record { entry = e; body = s-of w })) (under c .2)
+    (fits home (heldFor home (s-of w) (n-of w)) (home-fits (b-of w) (ok w)) (offered-agrees home (s-of w) (n-of w) (under c .0) (under c .1)))
+
 file-requires : tie.Need-file-requires
-file-requires c κs = ?
+file-requires c κs =
+    let filing = c .before .before in
+    (ok (walk-of (filing .before .before)), fit filing .entry, fit filing .full)
 
--- src/lib.rt:68:1
-same-length : tie.Need-same-length
-same-length c = search needs
-
--- src/lib.rt:68:1
 returns-4 : tie.Need-returns-4
-returns-4 c = ?
+unfolding captured
+returns-4 c =
+    let file = c .before .before in
+    let filing = file .before .before .before in
+    let w = walk-of (filing .before .before) in
+    let is : with (reading (b-of w)) (record { entry = filing .filing .given .0 .0; body = s-of w }) ≡ captured (b-of w) (s-of w) (n-of w) =
+    ap (λ (e : Entry). with (reading (b-of w)) (record { entry = e; body = s-of w })) (sym (under filing .2))
+    in
+    let e : captureIs (b-of w) (s-of w) (n-of w) (length (out-of w)) ≡ file .file .result =
+    as-placed (b-of w) (s-of w) (n-of w) (length (out-of w)) (ok w) (under filing .0) (under filing .1)
+    ∙ sym (file .file .ensures .0 ∙ ap (λ (a : Archive). placed a (length (out-of w))) is)
+    in (
+      sym e,
+      file .file .ensures .1 ∙ ap (λ (a : Archive). leaves (file .file .result) (bytesOf a) (out-of w)) is
+          ∙ sym (capture-leaves (b-of w) (s-of w) (n-of w) (out-of w) e),
+    )
 
 pub capture-spec : {M : Type 1} → statement M
 capture-spec =
     tie.close
     (tie.spec
-    check-requires
-    enum-known-checked
+    (λ c κs. search needs)
+    (λ c. search needs)
     returns
-    enum-told
-    walk-requires
-    enum-known-walked
-    enum-told-2
-    of-walk-requires
+    (λ c. search needs)
+    (λ c κs. search needs)
+    (λ c. search needs)
+    (λ c. search needs)
+    (λ c κs. search needs)
     returns-2
-    home-requires
-    filing-of-requires
-    enum-known-filing
-    enum-told-3
-    plain-requires
+    (λ c κs. search needs)
+    (λ c κs. search needs)
+    (λ c. search needs)
+    (λ c. search needs)
+    (λ c κs. search needs)
     returns-3
     file-requires
-    same-length
+    (λ c. search needs)
     returns-4)

@@ -1,79 +1,88 @@
+-- What fetch finds decides, after the range. Assumes nothing.
+use mathlib.Core.Path.{_≡_, sym, ap, _∙_}
+use mathlib.Core.Bool.{true}
+use mathlib.Core.List.{List}
+use Prim.Native.Nat.{ℕ}
 use borrow.Author.Needs.{needs}
+use denote.Ref.{now}
+use lib.ListN.{length}
+use Rattle.bits.proofs.Tests.{said-no, said-yes}
+use Rattle.archive.specs.Model.{inRange}
+use Rattle.archive.specs.Restoring.{fetchIs, restores, restoreIs}
+use Rattle.archive.specs.declared.refusal.Refusal.{Refusal}
+use Rattle.archive.specs.declared.Restored.the-variants.{Refused}
+use Rattle.archive.specs.declared.Fetched.{Fetched}
+use Rattle.archive.proofs.Calls.Restore.{out-of-range, none-found, not-found, found-at, found-body, restore-leaves}
 use Rattle.archive.proofs.restore.Statement.{statement}
 use Rattle.archive.proofs.restore.Tie as tie
-use Rattle.archive.proofs.restore.Reads as reads
-use Rattle.archive.proofs.restore.Lts as lts
-use Rattle.archive.proofs.contents.in_range.Reads as in-range-reads
-use Rattle.archive.proofs.deliver.Reads as deliver-reads
-use Rattle.archive.proofs.fetch.Reads as fetch-reads
-use Rattle.archive.proofs.refusal.plain.Reads as plain-reads
 
--- src/lib.rt:145:9
-in-range-requires : tie.Need-in-range-requires
-in-range-requires c κs = search needs
-
--- src/lib.rt:146:34
-plain-requires : tie.Need-plain-requires
-plain-requires c κs = search needs
-
--- src/lib.rt:146:9
 returns : tie.Need-returns
-returns c = ?
+returns c =
+    let test = c .before in
+    let a = test .before .before .before .before .args in
+    let e = out-of-range (now (a .archive)) (a .key) (length (now (a .out))) (said-no (test .before .in-range .ensures) (test .if1 .taken)) in
+    (ap (λ (f : Refusal). Refused f) (c .plain .ensures) ∙ sym e, sym (restore-leaves _ _ (now (a .out)) e))
 
--- src/lib.rt:148:9
-fetch-requires : tie.Need-fetch-requires
-fetch-requires c κs = search needs
+within : (c : tie.Else1) → inRange (c .before .before .before .before .args .key) ≡ true
+within c = said-yes (c .before .in-range .ensures) (c .if1 .left)
 
--- src/lib.rt:150:26
-enum-known-found : tie.Need-enum-known-found
-enum-known-found c = search needs
+-- what fetch found
+found : (c : tie.After-fetch) {f : Fetched} → c .fetch .result ≡ f
+    → fetchIs (now (c .before .before .before .before .before .args .archive)) (c .before .before .before .before .before .args .key) ≡ f
+found c e = sym (c .fetch .ensures) ∙ e
 
--- src/lib.rt:151:47
-enum-told : tie.Need-enum-told
-enum-told c = search needs
-
--- src/lib.rt:151:47
-plain-requires-2 : tie.Need-plain-requires-2
-plain-requires-2 c κs = search needs
-
--- src/lib.rt:152:23
-enum-known-found-2 : tie.Need-enum-known-found-2
-enum-known-found-2 c = search needs
-
--- src/lib.rt:152:34
-deliver-requires : tie.Need-deliver-requires
-deliver-requires c κs = ?
-
--- src/lib.rt:141:1
 returns-2 : tie.Need-returns-2
-returns-2 c = ?
+returns-2 c =
+    let refused = c .before in
+    let fetch = refused .before .before in
+    let a = fetch .before .before .before .before .before .args in
+    let e = none-found (now (a .archive)) (a .key) (within (fetch .before)) (length (now (a .out))) (found fetch (refused .found .given .1)) in
+    (sym e, sym (restore-leaves _ _ (now (a .out)) e))
 
--- src/lib.rt:141:1
 returns-3 : tie.Need-returns-3
-returns-3 c = ?
+returns-3 c =
+    let told = c .before in
+    let fetch = told .before .before in
+    let a = fetch .before .before .before .before .before .args in
+    let e = not-found (now (a .archive)) (a .key) (within (fetch .before)) (length (now (a .out))) (found fetch (told .enum-told .given .1)) in
+    (ap (λ (f : Refusal). Refused f) (c .plain2 .ensures) ∙ sym e, sym (restore-leaves _ _ (now (a .out)) e))
 
--- src/lib.rt:141:1
-same-length : tie.Need-same-length
-same-length c = search needs
+deliver-requires : tie.Need-deliver-requires
+deliver-requires c κs =
+    let found-in = c .before .before in
+    let fetch = found-in .before .before in
+    let a = fetch .before .before .before .before .before .args in
+    found-at (now (a .archive)) (a .key) (within (fetch .before)) (found fetch (found-in .found2 .given .1)) .1 .inside
 
--- src/lib.rt:141:1
 returns-4 : tie.Need-returns-4
-returns-4 c = ?
+returns-4 c =
+    let deliver = c .before .before in
+    let found-in = deliver .before .before .before in
+    let fetch = found-in .before .before in
+    let a = fetch .before .before .before .before .before .args in
+    let out = now (a .out) in
+    let r = found-body (now (a .archive)) (a .key) (within (fetch .before)) (length out) (found fetch (found-in .found2 .given .1)) in
+    let e : restoreIs (now (a .archive)) (a .key) (length out) ≡ deliver .deliver .result = r .0 ∙ sym (deliver .deliver .ensures .0) in (
+      sym e,
+      deliver .deliver .ensures .1
+          ∙ ap (λ (w : List ℕ). restores (deliver .deliver .result) w out) (sym (r .1))
+          ∙ sym (restore-leaves (now (a .archive)) (a .key) out e),
+    )
 
 pub restore-spec : {M : Type 1} → statement M
 restore-spec =
     tie.close
     (tie.spec
-    in-range-requires
-    plain-requires
+    (λ c κs. search needs)
+    (λ c κs. search needs)
     returns
-    fetch-requires
-    enum-known-found
-    enum-told
-    plain-requires-2
-    enum-known-found-2
+    (λ c κs. search needs)
+    (λ c. search needs)
+    (λ c. search needs)
+    (λ c κs. search needs)
+    (λ c. search needs)
     deliver-requires
     returns-2
     returns-3
-    same-length
+    (λ c. search needs)
     returns-4)

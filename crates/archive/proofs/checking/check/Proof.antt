@@ -128,10 +128,10 @@ agreement c =
     ∙ (λ i. agreementIs (home-of l) (record { entry = entry .entry-at .ensures .0 i; body = take (n i) (drop off (b-of l)) }))
 
 -- a body at fault: the shape of what is left decides
-at-fault : (c : tie.After-rest-has-shape Inv-loop μ-loop) →
+at-fault : (c : tie.After-rest-has-shape Inv-loop μ-loop) {t : Bool} → c .rest-has-shape .result ≡ t →
     let l = c .before .before .before .before .before .before .before .before .before .before .before .before .before .before in
-    checkIs (b-of l) ≡ guard (c .rest-has-shape .result) (Refused (plain 7)) (Refused (ofBody (index-of l) (c .before .before .agreement .given .0 .0)))
-at-fault c =
+    checkIs (b-of l) ≡ guard t (Refused (plain 7)) (Refused (ofBody (index-of l) (c .before .before .agreement .given .0 .0)))
+at-fault c e =
     let told = c .before .before in
     let body = told .before .before in
     let rank′ = body .before .before in
@@ -146,7 +146,7 @@ at-fault c =
     in
     l .loop .inv .4
     ∙ rest-bad (b-of l) (home-of l) (index-of l) _ _ _ _ (test .loop-test .taken) (followed passed) (f .0)
-    ∙ (λ i. guard (sym behind i) (Refused (plain 7)) (Refused (ofBody (index-of l) (f .1 i))))
+    ∙ (λ i. guard ((sym behind ∙ e) i) (Refused (plain 7)) (Refused (ofBody (index-of l) (f .1 i))))
 
 rest-has-shape-requires : tie.Need-rest-has-shape-requires Inv-loop μ-loop
 rest-has-shape-requires c κs =
@@ -156,10 +156,10 @@ rest-has-shape-requires c κs =
 returns-5 : tie.Need-returns-5 Inv-loop μ-loop
 returns-5 c =
     let rest = c .before .before in
-    rw (c .plain5 .ensures) (sym (at-fault rest ∙ ap (λ (t : Bool). guard t (Refused (plain 7)) (Refused _)) (said-no refl (c .before .if5 .taken))))
+    rw (c .plain5 .ensures) (sym (at-fault rest (said-no refl (c .before .if5 .taken))))
 
 returns-6 : tie.Need-returns-6 Inv-loop μ-loop
-returns-6 c = sym (at-fault (c .before) ∙ ap (λ (t : Bool). guard t (Refused (plain 7)) (Refused _)) (said-yes refl (c .if5 .left)))
+returns-6 c = sym (at-fault (c .before) (said-yes refl (c .if5 .left)))
 
 loop-again : tie.Need-loop-again Inv-loop μ-loop
 loop-again c =

@@ -1,68 +1,47 @@
+-- By the check: `refused 7` and where, or the listing. Assumes nothing.
+use mathlib.Core.Path.{sym, _∙_}
+use borrow.Author.Needs.{needs}
+use denote.Ref.{now}
+use Rattle.archive.specs.Listing.{reportOf, toldOf, reportIs, reportOut, toldOut}
+use Rattle.archive.proofs.Model.Checked.{checked-archive}
+use Rattle.archive.proofs.Text.Within.{nothing}
 use Rattle.archive.proofs.listing.report.Statement.{statement}
 use Rattle.archive.proofs.listing.report.Tie as tie
-use Rattle.archive.proofs.listing.report.Reads as reads
-use Rattle.archive.proofs.listing.report.Lts as lts
-use Rattle.archive.proofs.checking.check.Reads as check-reads
-use Rattle.archive.proofs.listing.write_fault.Reads as write-fault-reads
-use Rattle.archive.proofs.listing.write_listing.Reads as write-listing-reads
-use Rattle.archive.proofs.listing.write_refused.Reads as write-refused-reads
 
--- src/listing.rt:252:11
-check-requires : tie.Need-check-requires
-check-requires c κs = ?
-
--- src/listing.rt:253:26
-enum-known-refusal : tie.Need-enum-known-refusal
-enum-known-refusal c = ?
-
--- src/listing.rt:254:22
-write-refused-requires : tie.Need-write-refused-requires
-write-refused-requires c κs = ?
-
--- src/listing.rt:255:19
-write-fault-requires : tie.Need-write-fault-requires
-write-fault-requires c κs = ?
-
--- src/listing.rt:258:45
-enum-told : tie.Need-enum-told
-enum-told c = ?
-
--- src/listing.rt:258:22
-write-listing-requires : tie.Need-write-listing-requires
-write-listing-requires c κs = ?
-
--- src/listing.rt:247:1
-same-length : tie.Need-same-length
-same-length c = ?
-
--- src/listing.rt:247:1
-same-length-2 : tie.Need-same-length-2
-same-length-2 c = ?
-
--- src/listing.rt:247:1
 returns : tie.Need-returns
-returns c = ?
+unfolding reportOf toldOf reportIs reportOut toldOut
+returns c =
+    let fault = c .before .before in
+    let refused = fault .before .before .before .before in
+    let refusal = refused .before .before .before in
+    let e = sym (refusal .before .before .check .ensures) ∙ refusal .refusal .given .1 in (
+      rw e (λ i. record { printed = refused .write-refused .ensures .0 i; told = fault .write-fault .ensures .0 i }),
+      (rw e (refused .write-refused .ensures .1), rw e (fault .write-fault .ensures .1)),
+    )
 
--- src/listing.rt:247:1
-same-length-3 : tie.Need-same-length-3
-same-length-3 c = ?
-
--- src/listing.rt:247:1
 returns-2 : tie.Need-returns-2
-returns-2 c = ?
+unfolding reportOf toldOf reportIs reportOut toldOut
+returns-2 c =
+    let listing = c .before .before in
+    let told = listing .before .before in
+    let none = nothing (now (told .before .before .before .before .before .before .args .told)) in
+    let e = sym (told .before .before .check .ensures) ∙ told .enum-told .given .1 in (
+      rw e (λ i. record { printed = listing .write-listing .ensures .0 i; told = none .0 i }),
+      (rw e (listing .write-listing .ensures .1), rw e (none .1)),
+    )
 
 pub report-spec : {M : Type 1} → statement M
 report-spec =
     tie.close
     (tie.spec
-    check-requires
-    enum-known-refusal
-    write-refused-requires
-    write-fault-requires
-    enum-told
-    write-listing-requires
-    same-length
-    same-length-2
+    (λ c κs. search needs)
+    (λ c. search needs)
+    (λ c κs. search needs)
+    (λ c κs. search needs)
+    (λ c. search needs)
+    (λ c κs. let told = c .before in checked-archive _ (sym (told .before .before .check .ensures) ∙ told .enum-told .given .1))
+    (λ c. search needs)
+    (λ c. search needs)
     returns
-    same-length-3
+    (λ c. search needs)
     returns-2)

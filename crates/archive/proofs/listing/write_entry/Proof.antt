@@ -1,58 +1,60 @@
+-- The word and the number on a line, where there is room. Assumes nothing.
+use mathlib.Core.Path.{_≡_}
+use mathlib.Core.List.{_++_}
+use Prim.Native.Nat.{ℕ, _+_, _≤_}
+use native.Mathlib.Omega.{arith}
 use borrow.Author.Needs.{needs}
+use denote.Ref.{now}
+use lib.ListN.{length, length-append}
+use Rattle.bits.proofs.Laying.{then, rest-fits}
+use Rattle.walk.specs.declared.BitPlace.the-variants as bit
+use Rattle.archive.specs.Listing.{decimal, entryWord, lineEnd, item, faultText}
+use Rattle.archive.specs.declared.refusal.EntryPlace.the-variants as entry
+use Rattle.archive.proofs.Text.Within.{too-long, laid-whole}
 use Rattle.archive.proofs.listing.write_entry.Statement.{statement}
 use Rattle.archive.proofs.listing.write_entry.Tie as tie
-use Rattle.archive.proofs.listing.write_entry.Reads as reads
-use Rattle.archive.proofs.listing.write_entry.Lts as lts
-use Rattle.archive.proofs.copying.append.Reads as append-reads
-use Rattle.archive.proofs.listing.digits_of.Reads as digits-of-reads
-use Rattle.archive.proofs.listing.write_item.Reads as write-item-reads
 
--- src/listing.rt:205:24
-digits-of-requires : tie.Need-digits-of-requires
-digits-of-requires c κs = search needs
+size : (i : ℕ) → length (faultText (entry.At i) bit.Nowhere) ≡ 7 + length (decimal i)
+unfolding faultText item
+size i = omega (arith, length-append (decimal i) lineEnd)
 
--- src/listing.rt:205:20
-add-if1 : tie.Need-add-if1
-add-if1 c = search needs
-
--- src/listing.rt:206:9
 returns : tie.Need-returns
-returns c = ?
+returns c =
+    let digits = c .before in
+    let i = digits .before .before .args .index in
+    too-long (faultText (entry.At i) bit.Nowhere) _ (omega (arith, size i, digits .digits-of .ensures .0, c .if1 .taken))
 
--- src/listing.rt:208:44
-slice-aggregate-append : tie.Need-slice-aggregate-append
-slice-aggregate-append c = search needs
+-- room for the whole
+whole : (c : tie.Else1) → let a = c .before .before .before .args in 0 + length (faultText (entry.At (a .index)) bit.Nowhere) ≤ length (now (a .out))
+whole c = let digits = c .before in omega (arith, size (digits .before .before .args .index), digits .digits-of .ensures .0, c .if1 .left)
 
--- src/listing.rt:208:9
-append-requires : tie.Need-append-requires
-append-requires c κs = search needs
-
--- src/listing.rt:209:38
-slice-aggregate-write-item : tie.Need-slice-aggregate-write-item
-slice-aggregate-write-item c = search needs
-
--- src/listing.rt:209:5
 write-item-requires : tie.Need-write-item-requires
-write-item-requires c κs = ?
+unfolding faultText
+write-item-requires c κs =
+    let word = c .before .before .before .before in
+    let test = word .before .before .before in
+    rest-fits (item (test .before .before .before .args .index) lineEnd) (whole test) (word .append .ensures)
 
--- src/listing.rt:201:1
-same-length : tie.Need-same-length
-same-length c = search needs
-
--- src/listing.rt:201:1
 returns-2 : tie.Need-returns-2
-returns-2 c = ?
+unfolding faultText
+returns-2 c =
+    let number = c .before .before in
+    let word = number .before .before .before .before .before in
+    let test = word .before .before .before in
+    let a = test .before .before .before .args in
+    laid-whole (entryWord ++ item (a .index) lineEnd) (now (a .out)) (omega (arith, whole test))
+    (then (omega (arith, whole test)) (word .append .ensures) (number .write-item .ensures))
 
 pub write-entry-spec : {M : Type 1} → statement M
 write-entry-spec =
     tie.close
     (tie.spec
-    digits-of-requires
-    add-if1
+    (λ c κs. search needs)
+    (λ c. search needs)
     returns
-    slice-aggregate-append
-    append-requires
-    slice-aggregate-write-item
+    (λ c. search needs)
+    (λ c κs. search needs)
+    (λ c. search needs)
     write-item-requires
-    same-length
+    (λ c. search needs)
     returns-2)

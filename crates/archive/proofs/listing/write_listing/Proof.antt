@@ -1,30 +1,31 @@
+-- The whole text, where there is room. Assumes nothing.
+use native.Mathlib.Omega.{arith}
+use borrow.Author.Needs.{needs}
+use denote.Ref.{now}
+use Rattle.archive.specs.Reading.{reading}
+use Rattle.archive.specs.Listing.{listing}
+use Rattle.archive.proofs.Text.Within.{too-long, laid-whole}
 use Rattle.archive.proofs.listing.write_listing.Statement.{statement}
 use Rattle.archive.proofs.listing.write_listing.Tie as tie
-use Rattle.archive.proofs.listing.write_listing.Reads as reads
-use Rattle.archive.proofs.listing.write_listing.Lts as lts
-use Rattle.archive.proofs.listing.text_length.Reads as text-length-reads
-use Rattle.archive.proofs.listing.write_text.Reads as write-text-reads
 
--- src/listing.rt:186:20
-text-length-requires : tie.Need-text-length-requires
-text-length-requires c κs = ?
-
--- src/listing.rt:187:9
 returns : tie.Need-returns
-returns c = ?
+returns c =
+    let a = c .before .before .before .before .args in
+    too-long (listing (reading (now (a .archive)))) (now (a .out)) (omega (arith, c .before .text-length .ensures, c .if1 .taken))
 
--- src/listing.rt:189:5
-write-text-requires : tie.Need-write-text-requires
-write-text-requires c κs = ?
-
--- src/listing.rt:181:1
-same-length : tie.Need-same-length
-same-length c = ?
-
--- src/listing.rt:181:1
 returns-2 : tie.Need-returns-2
-returns-2 c = ?
+returns-2 c =
+    let write = c .before .before in
+    let test = write .before .before in
+    let a = test .before .before .before .before .args in
+    laid-whole (listing (reading (now (a .archive)))) (now (a .out)) (omega (arith, test .before .text-length .ensures, test .if1 .left)) (write .write-text .ensures)
 
 pub write-listing-spec : {M : Type 1} → statement M
 write-listing-spec =
-    tie.close (tie.spec text-length-requires returns write-text-requires same-length returns-2)
+    tie.close
+    (tie.spec
+    (λ c κs. c .before .before .pre)
+    returns
+    (λ c κs. let size = c .before .before in (size .before .before .before .pre, omega (arith, size .text-length .ensures)))
+    (λ c. search needs)
+    returns-2)
