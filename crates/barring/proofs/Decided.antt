@@ -20,8 +20,13 @@ use Rattle.archive.specs.Model.{inRange}
 use Rattle.archive.specs.Reading.{reading, isArchive}
 use Rattle.archive.specs.Restoring.{fetchIs}
 use Rattle.archive.specs.declared.Fetched.{Fetched}
-use Rattle.archive.specs.declared.Fetched.the-variants.{Body, NoArchive}
+use Rattle.archive.specs.declared.Fetched.the-variants.{Body}
 use Rattle.archive.specs.declared.Fetched.the-variants as fetched
+use Rattle.archive.specs.Checking.{checkIs}
+use Rattle.archive.specs.declared.refusal.Refusal.{Refusal}
+use Rattle.archive.specs.declared.checking.Checked.{Checked}
+use Rattle.archive.specs.declared.checking.Checked.the-variants as checked
+use Rattle.archive.proofs.Model.Checked.{archive-checked, checked-archive}
 use Rattle.archive.proofs.Calls.Fetch.{Right, BodyIs, fetch-right, fetch-none}
 use Rattle.archive.proofs.Calls.Capture.{home-read}
 use Rattle.barring.specs.Decision.{decisionOf}
@@ -44,7 +49,7 @@ request-ranged q e =
     let p = both (ltb (q .user .network) 16777216) (ltb (q .user .ssi) 16777216) (user-first _ _ _ _ _ _ e) in
     rw (p .0, p .1, part-ranged (q .destination))
 
-not-archive : (b : List ℕ) (q : Request) → requestRefusal q ≡ 0 → isArchive b ≡ false → Refused 7 ≡ decideIs b q
+not-archive : (b : List ℕ) (q : Request) {f : Refusal} → requestRefusal q ≡ 0 → checkIs b ≡ checked.Refused f → Refused f ≡ decideIs b q
 unfolding decideIs
 not-archive b q e a = rw (e, a)
 
@@ -55,22 +60,24 @@ module _ (b : List ℕ) (q : Request) (e : requestRefusal q ≡ 0) where
   module _ (a : isArchive b ≡ true) where
     pub decide-held : decideIs b q ≡ judgedBy (reading b .home) q (partIn b q)
     unfolding decideIs
-    decide-held = rw (e, a)
+    decide-held = rw (e, archive-checked b a)
 
     found : Right b fetchedFor (partIn b q)
     found = fetch-right b _ a (request-ranged q e)
 
-  found-as : (f : Fetched) → fetchedFor ≡ f → (f ≡ NoArchive → ⊥) → (isArchive b ≡ true) × Right b f (partIn b q)
-  found-as f h held = go (isArchive b) refl
+  found-as : (f : Fetched) → fetchedFor ≡ f → ((g : Refusal) → f ≡ fetched.Refused g → ⊥) → (isArchive b ≡ true) × Right b f (partIn b q)
+  found-as f h held = go (checkIs b) refl
     where
-      go : (t : Bool) → isArchive b ≡ t → (isArchive b ≡ true) × Right b f (partIn b q)
-      go true a = (a, subst (λ (x : Fetched). Right b x (partIn b q)) h (found a))
-      go false a = absurd (held (sym h ∙ fetch-none b _ a))
+      go : (c : Checked) → checkIs b ≡ c → (isArchive b ≡ true) × Right b f (partIn b q)
+      go checked.Archive a =
+          let yes = checked-archive b a in
+          (yes, subst (λ (x : Fetched). Right b x (partIn b q)) h (found yes))
+      go (checked.Refused g) a = absurd (held g (sym h ∙ fetch-none b _ a))
 
   -- the body that is fetched lies within the archive, and the rule applied to it is the decision
   module _ (at : ℕ) (n : BitCount) (f : fetchedFor ≡ Body at n) where
     body : (isArchive b ≡ true) × BodyIs b at n (partIn b q)
-    body = found-as (Body at n) f (λ x. never cc)
+    body = found-as (Body at n) f (λ g x. never cc)
 
     pub body-within : at + bytesFor (n .0) ≤ length b
     body-within = body .1 .inside
@@ -84,12 +91,14 @@ module _ (b : List ℕ) (q : Request) (e : requestRefusal q ≡ 0) where
 
   pub decide-missing : fetchedFor ≡ fetched.NotHeld → NotHeld ≡ decideIs b q
   decide-missing f =
-      let k = found-as fetched.NotHeld f (λ x. never cc) in
+      let k = found-as fetched.NotHeld f (λ g x. never cc) in
       sym (decide-held (k .0) ∙ ap (judgedBy (reading b .home) q) (k .1))
 
-  pub decide-damaged : fetchedFor ≡ NoArchive → Refused 7 ≡ decideIs b q
-  decide-damaged f = go (isArchive b) refl
+  pub decide-damaged : {f : Refusal} → fetchedFor ≡ fetched.Refused f → Refused f ≡ decideIs b q
+  decide-damaged {f} h = go (checkIs b) refl
     where
-      go : (t : Bool) → isArchive b ≡ t → Refused 7 ≡ decideIs b q
-      go true a = absurd (subst (λ (x : Fetched). Right b x (partIn b q)) f (found a))
-      go false a = not-archive b q e a
+      go : (c : Checked) → checkIs b ≡ c → Refused f ≡ decideIs b q
+      go checked.Archive a = absurd (subst (λ (x : Fetched). Right b x (partIn b q)) h (found (checked-archive b a)))
+      go (checked.Refused g) a =
+          let same : fetched.Refused g ≡ fetched.Refused f = sym (fetch-none b _ a) ∙ h in
+          sym (cc same) ∙ not-archive b q e a

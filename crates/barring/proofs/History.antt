@@ -15,7 +15,10 @@ use Rattle.rules.specs.Request.{requestRefusal}
 use Rattle.rules.specs.Rule.{ruling}
 use Rattle.rules.specs.declared.request.Request.{Request}
 use Rattle.archive.specs.Model.{Held}
-use Rattle.archive.specs.Reading.{isArchive}
+use Rattle.archive.specs.Refusals.{plain}
+use Rattle.archive.specs.Checking.{checkIs, ifArchive}
+use Rattle.archive.specs.declared.checking.Checked.{Checked}
+use Rattle.archive.specs.declared.checking.Checked.the-variants as checked
 use Rattle.archive.specs.Keeping.{emptyIs, emptyOut}
 use Rattle.archive.specs.History.{Offer, afterAll, lastAccepted}
 use Rattle.archive.specs.declared.Stored.the-variants.{Bytes}
@@ -56,9 +59,9 @@ module _ (home : ℕ) (lent : List ℕ) (m : ℕ) (e : emptyIs home (length lent
 -- a part that is not held never allows a call
 pub not-held-not-allowed : (b : List ℕ) (q : Request) → partIn b q ≡ none → decideIs b q ≡ Allowed → ⊥
 unfolding decideIs
-not-held-not-allowed b q h e = go (eqb (requestRefusal q) 0) (isArchive b) (rw h at e)
+not-held-not-allowed b q h e = go (eqb (requestRefusal q) 0) (checkIs b) (rw h at e)
   where
-    go : (p t : Bool) → pick p (pick t NotHeld (Refused 7)) (Refused (requestRefusal q)) ≡ Allowed → ⊥
-    go true true x = never cc
-    go true false x = never cc
-    go false t x = never cc
+    go : (p : Bool) (c : Checked) → pick p (ifArchive c Refused NotHeld) (Refused (plain (requestRefusal q))) ≡ Allowed → ⊥
+    go true checked.Archive x = never cc
+    go true (checked.Refused f) x = never cc
+    go false c x = never cc

@@ -11,7 +11,9 @@ use Rattle.rules.specs.declared.request.Destination.{Destination}
 use Rattle.rules.specs.declared.request.Destination.the-variants.{Identity, Number}
 use Rattle.rules.specs.declared.request.Request.{Request}
 use Rattle.archive.specs.Model.{Held}
-use Rattle.archive.specs.Reading.{reading, isArchive}
+use Rattle.archive.specs.Reading.{reading}
+use Rattle.archive.specs.Refusals.{plain}
+use Rattle.archive.specs.Checking.{checkIs, ifArchive}
 use Rattle.archive.specs.Restoring.{lookup}
 use Rattle.archive.specs.declared.contents.Key.{Key}
 use Rattle.barring.specs.Decision.{decisionOf}
@@ -38,6 +40,6 @@ partIn b q = lookup (keyFor q) (reading b .held)
 
 unfoldable pub decideIs : List ℕ → Request → Decision
 decideIs b q =
-    guard (eqb (requestRefusal q) 0) (Refused (requestRefusal q))
-    (guard (isArchive b) (Refused 7)
+    guard (eqb (requestRefusal q) 0) (Refused (plain (requestRefusal q)))
+    (ifArchive (checkIs b) Refused
     (judgedBy (reading b .home) q (partIn b q)))

@@ -1,7 +1,10 @@
 // Whether a call is barred: the decision from an archive (document 01, "The barring rule").
+use archive::EntryPlace;
 use archive::Fetched;
 use archive::Key;
+use archive::Refusal;
 use bits::BitCount;
+use pdu::BitPlace;
 use rules::Ruling;
 use rules::request::Destination;
 use rules::request::Request;
@@ -14,12 +17,12 @@ ghost use Rattle.barring.specs.Decision.{decisionOf};
 ghost use Rattle.barring.specs.Decide.{partFor, decideIs};
 ghost use Rattle.barring.specs.Inner.{rulingOfBody};
 
-// The answer to a request: allowed; barred, with its cause; the part that judges it is not held; or refused, with its number.
+// The answer to a request: allowed; barred, with its cause; the part that judges it is not held; or refused.
 pub enum Decision {
     Allowed,
     Barred(u32),
     NotHeld,
-    Refused(u32),
+    Refused(Refusal),
 }
 
 // What a part says, as the answer to a request.
@@ -57,9 +60,13 @@ fn ruling_of_body(archive: &[u8], at: usize, n: BitCount, request: Request) -> D
 pub fn decide(archive: &[u8], request: Request) -> Decision
     ensures { λ r. ⌜ r ≡ decideIs (now (archive .entry)) request ⌝ }
 {
-    let refusal = request_refusal(request);
-    if refusal != 0 {
-        return Decision::Refused(refusal);
+    let number = request_refusal(request);
+    if number != 0 {
+        return Decision::Refused(Refusal {
+            number,
+            entry: EntryPlace::Nowhere,
+            place: BitPlace::Nowhere,
+        });
     }
     let user = request.user;
     let destination = request.destination;
@@ -72,6 +79,6 @@ pub fn decide(archive: &[u8], request: Request) -> Decision
     match archive::fetch(archive, key) {
         Fetched::Body(at, n) => ruling_of_body(archive, at, n, request),
         Fetched::NotHeld => Decision::NotHeld,
-        Fetched::NoArchive => Decision::Refused(7),
+        Fetched::Refused(refusal) => Decision::Refused(refusal),
     }
 }

@@ -122,7 +122,7 @@ module _ (b : List ℕ) where
           ≡ isYes (pick (t && (withinLimits (length held) (lengthOf (reading b)) && (inOrder 0 held && eqb (lengthOf (reading b)) (length b))))
           (bodiesFrom home 0 held) (Refused (plain 7)))
       go false h = refl
-      go true h = rw (rules-are home 0 0 held (ltb-true home 16777216 h)) 
+      go true h = rw (rules-are home 0 0 held (ltb-true home 16777216 h))
           (shuffled (withinLimits (length held) (lengthOf (reading b))) (inOrder 0 held) (eqb (lengthOf (reading b)) (length b)) (bodiesFrom home 0 held))
 
   pub archive-checked : isArchive b ≡ true → checkIs b ≡ Archive

@@ -45,7 +45,7 @@ returns-3 : tie.Need-returns-3
 returns-3 c = let f = c .before .before in decide-missing _ _ (ranged f) (fetches f ∙ c .enum-told .given .1)
 
 returns-4 : tie.Need-returns-4
-returns-4 c = let f = c .before .before in decide-damaged _ _ (ranged f) (fetches f ∙ c .enum-told2 .given .1)
+returns-4 c = let f = c .before .before .before in decide-damaged _ _ (ranged f) (fetches f ∙ c .before .refusal .given .1)
 
 pub decide-spec : {M : Type 1} → statement M
 decide-spec =
