@@ -15,7 +15,8 @@ use Rattle.words.specs.RecordWords.{recordWords}
 use Rattle.words.specs.Sized.{SizedRecord}
 use Rattle.words.proofs.RecordInverse.{record-long, record-back}
 use Rattle.words.proofs.LegalRecords.{record-sized}
-use Rattle.boc.specs.Calls.{readWords, writeNumber, writeOut, writeBits}
+use Rattle.reader.specs.Words.{readWords}
+use Rattle.boc.specs.Calls.{writeNumber, writeOut, writeBits}
 
 module _ (s : List ℕ) (n : ℕ) (words : List ℕ) (l : length words ≡ recordWidth) (a : readIs s n .answer ≡ Accepted) where
   abbrev found : Record

@@ -1,11 +1,24 @@
--- A call's answer passed on: its refusal number, what it left in the lent memory, and the number behind the pointer. Assumes nothing.
+-- A call's answer passed on: its refusal number, what it left in the lent memory, and the numbers behind the pointers. Assumes nothing.
 use mathlib.Core.Path.{_≡_, sym, ap, _∙_}
 use mathlib.Core.List.{List}
 use Prim.Native.Nat.{ℕ}
 
-module _ {A : Type 0} (refusal : A → ℕ) (number : A → ℕ → ℕ) (old : ℕ) {answer is told : A} (e : answer ≡ is) (t : answer ≡ told) where
-  pub answered : (refusal told ≡ refusal is) × (number told old ≡ number is old)
-  answered = let p = sym t ∙ e in (ap refusal p, ap (λ (x : A). number x old) p)
+-- the answer that was told is the answer
+module _ {A : Type 0} {answer is told : A} (e : answer ≡ is) (t : answer ≡ told) where
+  -- what is said of the one is said of the other
+  pub said : (f : A → ℕ) {x : ℕ} → x ≡ f told → x ≡ f is
+  said f h = h ∙ ap f (sym t ∙ e)
 
-  pub passed : {out out′ : List ℕ} → out ≡ out′ → (refusal told ≡ refusal is) × ((out ≡ out′) × (number told old ≡ number is old))
-  passed left = (answered .0, (left, answered .1))
+  pub passed : (refusal : A → ℕ) (number : A → ℕ → ℕ) (old : ℕ) {out out′ : List ℕ} → out ≡ out′
+      → (refusal told ≡ refusal is) × ((out ≡ out′) × (number told old ≡ number is old))
+  passed refusal number old left = let p = sym t ∙ e in (ap refusal p, (left, ap (λ (x : A). number x old) p))
+
+  -- behind a pointer
+  pub left : (f : A → ℕ → ℕ) {x old : ℕ} → x ≡ f told old → x ≡ f is old
+  left f {old = old} h = said (λ x. f x old) h
+
+  -- behind three of them: a length or a decision, the entry and the place
+  pub behind : (number entry place : A → ℕ → ℕ) {n i p old oldEntry oldPlace : ℕ}
+      → n ≡ number told old → i ≡ entry told oldEntry → p ≡ place told oldPlace
+      → (n ≡ number is old) × ((i ≡ entry is oldEntry) × (p ≡ place is oldPlace))
+  behind number entry place h k l = (left number h, (left entry k, left place l))

@@ -1,41 +1,61 @@
--- What each call returns, 0 or the refusal number, and what it leaves behind its pointers: a refusal leaves all of it as it was.
+-- What each call returns, 0 or the refusal number, and what it leaves behind its pointers: a refusal leaves lengths, decisions and buffers as they
+-- were and says where it stopped; a success leaves entry and place as they were.
 use Prim.Native.Nat.{ℕ}
 use mathlib.Core.List.{List}
 use lib.ListN.{length}
-use Rattle.bits.specs.Bits.{pick}
-use Rattle.reader.specs.Read.{readIs, refusalOf}
+use Rattle.bits.specs.Bits.{pick, guard}
+use Rattle.walk.specs.declared.BitPlace.{BitPlace}
+use Rattle.walk.specs.declared.BitPlace.the-variants as bit
+use Rattle.reader.specs.Read.{refusalOf}
+use Rattle.reader.specs.Words.{readWordsIs}
 use Rattle.reader.specs.declared.Answer.{Answer}
 use Rattle.reader.specs.declared.Answer.the-variants as answer
 use Rattle.writer.specs.Write.{writtenNumber, writeIs, outIs}
 use Rattle.writer.specs.declared.Written.{Written}
 use Rattle.writer.specs.declared.Written.the-variants as written
-use Rattle.archive.specs.Keeping.{storedNumber, emptyIs, captureIs}
-use Rattle.archive.specs.Restoring.{restoredNumber, restoreIs}
+use Rattle.archive.specs.Refusals.{plain}
+use Rattle.archive.specs.Keeping.{storedRefusal, emptyIs, captureIs}
+use Rattle.archive.specs.Restoring.{restoredRefusal, restoreIs}
 use Rattle.archive.specs.Listing.{listIs}
 use Rattle.archive.specs.declared.contents.Key.{Key}
+use Rattle.archive.specs.declared.refusal.EntryPlace.{EntryPlace}
+use Rattle.archive.specs.declared.refusal.EntryPlace.the-variants as entry
 use Rattle.archive.specs.declared.Stored.{Stored}
 use Rattle.archive.specs.declared.Stored.the-variants as stored
 use Rattle.archive.specs.declared.Restored.{Restored}
 use Rattle.archive.specs.declared.Restored.the-variants as restored
-use Rattle.words.specs.RecordWords.{areRecord, recordWords, recordFrom}
+use Rattle.words.specs.RecordWords.{areRecord, recordFrom}
 use Rattle.words.specs.RequestWords.{isRequest, requestFrom}
 use Rattle.barring.specs.Decide.{decideIs}
-use Rattle.barring.specs.Decision.{decidedNumber, verdictOf}
+use Rattle.barring.specs.Decision.{decidedRefusal, verdictOf}
 use Rattle.barring.specs.declared.Decision.{Decision}
 use Rattle.barring.specs.declared.Decision.the-variants as decided
 
+-- ---- where a call stopped
+
+-- BOC_NOWHERE: no entry, or no place
+abbrev pub nowhere : ℕ
+nowhere = 18446744073709551615
+
+abbrev pub placeWord : BitPlace → ℕ
+placeWord (bit.At p) = p
+placeWord bit.Nowhere = nowhere
+
+abbrev pub entryWord : EntryPlace → ℕ
+entryWord (entry.At i) = i
+entryWord entry.Nowhere = nowhere
+
 -- ---- boc_read
 
--- a slice of words of another length than a record's gives 9, before anything else
-unfoldable pub readNumber : List ℕ → ℕ → ℕ → ℕ
-readNumber s n words = pick (areRecord words) (refusalOf (readIs s n .answer)) 9
+abbrev pub readPlaceOf : Answer → ℕ → ℕ
+readPlaceOf answer.Accepted old = old
+readPlaceOf (answer.Refused f) old = placeWord (f .place)
 
-abbrev pub ifAccepted : {A : Type 0} → Answer → A → A → A
-ifAccepted answer.Accepted new old = new
-ifAccepted (answer.Refused k) new old = old
+abbrev pub readNumber : List ℕ → ℕ → ℕ → ℕ
+readNumber s n words = refusalOf (readWordsIs s n words) .number
 
-unfoldable pub readWords : List ℕ → ℕ → List ℕ → List ℕ
-readWords s n words = pick (areRecord (length words)) (ifAccepted (readIs s n .answer) (recordWords (readIs s n .found)) words) words
+abbrev pub readPlace : List ℕ → ℕ → ℕ → ℕ → ℕ
+readPlace s n words old = readPlaceOf (readWordsIs s n words) old
 
 -- ---- boc_write
 
@@ -43,6 +63,7 @@ abbrev pub writtenLength : Written → ℕ → ℕ
 writtenLength (written.Bits n) old = n .0
 writtenLength (written.Refused k) old = old
 
+-- a slice of words of another length than a record's gives 9, before anything else
 unfoldable pub writeNumber : List ℕ → List ℕ → ℕ
 writeNumber words out = pick (areRecord (length words)) (writtenNumber (writeIs (recordFrom words) out)) 9
 
@@ -54,9 +75,20 @@ writeBits words out old = pick (areRecord (length words)) (writtenLength (writeI
 
 -- ---- boc_empty, boc_capture and boc_contents
 
+abbrev pub storedNumber : Stored → ℕ
+storedNumber a = storedRefusal a .number
+
 abbrev pub storedLength : Stored → ℕ → ℕ
 storedLength (stored.Bytes n) old = n
-storedLength (stored.Refused k) old = old
+storedLength (stored.Refused f) old = old
+
+abbrev pub storedEntry : Stored → ℕ → ℕ
+storedEntry (stored.Bytes n) old = old
+storedEntry (stored.Refused f) old = entryWord (f .entry)
+
+abbrev pub storedPlace : Stored → ℕ → ℕ
+storedPlace (stored.Bytes n) old = old
+storedPlace (stored.Refused f) old = placeWord (f .place)
 
 abbrev pub emptyNumber : ℕ → List ℕ → ℕ
 emptyNumber home out = storedNumber (emptyIs home (length out))
@@ -64,48 +96,63 @@ emptyNumber home out = storedNumber (emptyIs home (length out))
 abbrev pub emptyLength : ℕ → List ℕ → ℕ → ℕ
 emptyLength home out old = storedLength (emptyIs home (length out)) old
 
-abbrev pub captureNumber : List ℕ → List ℕ → ℕ → List ℕ → ℕ
-captureNumber b s n out = storedNumber (captureIs b s n (length out))
-
-abbrev pub captureLength : List ℕ → List ℕ → ℕ → List ℕ → ℕ → ℕ
-captureLength b s n out old = storedLength (captureIs b s n (length out)) old
+-- what boc_capture answers
+abbrev pub captureAnswer : List ℕ → List ℕ → ℕ → List ℕ → Stored
+captureAnswer b s n out = captureIs b s n (length out)
 
 -- ---- boc_restore
 
+abbrev pub restoredNumber : Restored → ℕ
+restoredNumber a = restoredRefusal a .number
+
 abbrev pub restoredLength : Restored → ℕ → ℕ
 restoredLength (restored.Bits n) old = n .0
-restoredLength (restored.Refused k) old = old
+restoredLength (restored.Refused f) old = old
+
+abbrev pub restoredEntry : Restored → ℕ → ℕ
+restoredEntry (restored.Bits n) old = old
+restoredEntry (restored.Refused f) old = entryWord (f .entry)
+
+abbrev pub restoredPlace : Restored → ℕ → ℕ
+restoredPlace (restored.Bits n) old = old
+restoredPlace (restored.Refused f) old = placeWord (f .place)
 
 -- the user and part that the call names
 abbrev pub keyOf : ℕ → ℕ → ℕ → Key
 keyOf network ssi part = record { network = network; ssi = ssi; part = part }
 
-abbrev pub restoreNumber : List ℕ → ℕ → ℕ → ℕ → List ℕ → ℕ
-restoreNumber b network ssi part out = restoredNumber (restoreIs b (keyOf network ssi part) (length out))
-
-abbrev pub restoreBits : List ℕ → ℕ → ℕ → ℕ → List ℕ → ℕ → ℕ
-restoreBits b network ssi part out old = restoredLength (restoreIs b (keyOf network ssi part) (length out)) old
+abbrev pub restoreAnswer : List ℕ → ℕ → ℕ → ℕ → List ℕ → Restored
+restoreAnswer b network ssi part out = restoreIs b (keyOf network ssi part) (length out)
 
 -- ---- boc_decide
+
+abbrev pub decidedNumber : Decision → ℕ
+decidedNumber d = decidedRefusal d .number
 
 -- the decision's number; a refusal leaves the old one
 abbrev pub decidedVerdict : Decision → ℕ → ℕ
 decidedVerdict (decided.Barred cause) old = verdictOf (decided.Barred cause)
 decidedVerdict decided.Allowed old = verdictOf decided.Allowed
 decidedVerdict decided.NotHeld old = verdictOf decided.NotHeld
-decidedVerdict (decided.Refused k) old = old
+decidedVerdict (decided.Refused f) old = old
+
+abbrev pub decidedEntry : Decision → ℕ → ℕ
+decidedEntry (decided.Barred cause) old = old
+decidedEntry decided.Allowed old = old
+decidedEntry decided.NotHeld old = old
+decidedEntry (decided.Refused f) old = entryWord (f .entry)
+
+abbrev pub decidedPlace : Decision → ℕ → ℕ
+decidedPlace (decided.Barred cause) old = old
+decidedPlace decided.Allowed old = old
+decidedPlace decided.NotHeld old = old
+decidedPlace (decided.Refused f) old = placeWord (f .place)
 
 -- 9 unless they are a request's words
-unfoldable pub decideNumber : List ℕ → List ℕ → ℕ
-decideNumber b words = pick (isRequest words) (decidedNumber (decideIs b (requestFrom words))) 9
-
-unfoldable pub decideDecision : List ℕ → List ℕ → ℕ → ℕ
-decideDecision b words old = pick (isRequest words) (decidedVerdict (decideIs b (requestFrom words)) old) old
+unfoldable pub decideAnswer : List ℕ → List ℕ → Decision
+decideAnswer b words = guard (isRequest words) (decided.Refused (plain 9)) (decideIs b (requestFrom words))
 
 -- ---- boc_contents
 
-abbrev pub contentsNumber : List ℕ → List ℕ → ℕ
-contentsNumber b out = storedNumber (listIs b (length out))
-
-abbrev pub contentsLength : List ℕ → List ℕ → ℕ → ℕ
-contentsLength b out old = storedLength (listIs b (length out)) old
+abbrev pub contentsAnswer : List ℕ → List ℕ → Stored
+contentsAnswer b out = listIs b (length out)

@@ -2,12 +2,14 @@
 use mathlib.Core.Path.{_≡_, refl}
 use mathlib.Core.List.{List, []}
 use Prim.Native.Nat.{ℕ}
-use Rattle.boc.specs.Calls.{readNumber, decideNumber}
+use Rattle.reader.specs.Words.{readWordsIs}
+use Rattle.boc.specs.Calls.{nowhere, readNumber, readPlace, decidedNumber, decidedEntry, decidedPlace, decideAnswer}
 
-read-513 : (s : List ℕ) (n : ℕ) → readNumber s n 513 ≡ 9
-unfolding readNumber
-read-513 s n = refl
+read-513 : (s : List ℕ) (n : ℕ) → (readNumber s n 513 ≡ 9) × (readPlace s n 513 77 ≡ nowhere)
+unfolding readWordsIs
+read-513 s n = (refl, refl)
 
-decide-nothing : (b : List ℕ) → decideNumber b [] ≡ 9
-unfolding decideNumber
-decide-nothing b = refl
+decide-nothing : (b : List ℕ) → let d = decideAnswer b [] in
+    (decidedNumber d ≡ 9) × (decidedEntry d 77 ≡ nowhere) × (decidedPlace d 77 ≡ nowhere)
+unfolding decideAnswer
+decide-nothing b = (refl, refl, refl)

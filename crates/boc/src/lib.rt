@@ -1,30 +1,77 @@
-// The public calls for C: each returns 0 or the refusal number; what it answers besides goes through a pointer to one number,
-// which a refusal leaves alone. A slice of words of another length than it should have gives 9, before anything else.
+// The public calls for C: each returns 0 or the refusal number; what it answers besides goes through a pointer to one number, which a refusal
+// leaves alone. A refusal of reading, or of an archive's call, says where it stopped through pointers of their own, which a success leaves alone.
+// A slice of words of another length than it should have gives 9, before anything else.
+use archive::EntryPlace;
 use archive::Key;
+use archive::Refusal;
 use archive::Restored;
 use archive::Stored;
 use archive::listing;
 use barring::Decision;
 use bits::BitCount;
 use pdu::Answer;
+use pdu::BitPlace;
 use pdu::Written;
 use words::request;
 ghost use mathlib.Core.Path.{_≡_};
 ghost use lib.ListN.{length};
+ghost use Rattle.reader.specs.Words.{readWords};
 ghost use Rattle.archive.specs.Keeping.{emptyOut, captureOut};
 ghost use Rattle.archive.specs.Restoring.{restoreOut};
 ghost use Rattle.archive.specs.Listing.{listOut};
-ghost use Rattle.boc.specs.Calls.{readNumber, readWords, writeNumber, writeOut, writeBits, emptyNumber, emptyLength, captureNumber, captureLength, keyOf, restoreNumber, restoreBits, decideNumber, decideDecision, contentsNumber, contentsLength};
+ghost use Rattle.boc.specs.Calls.{placeWord, entryWord, readNumber, readPlace, writeNumber, writeOut, writeBits, emptyNumber, emptyLength};
+ghost use Rattle.boc.specs.Calls.{storedNumber, storedLength, storedEntry, storedPlace, captureAnswer, contentsAnswer};
+ghost use Rattle.boc.specs.Calls.{restoredNumber, restoredLength, restoredEntry, restoredPlace, keyOf, restoreAnswer};
+ghost use Rattle.boc.specs.Calls.{decidedNumber, decidedVerdict, decidedEntry, decidedPlace, decideAnswer};
+
+// No entry, or no place: BOC_NOWHERE.
+const NOWHERE: usize = 18446744073709551615;
+
+fn place_word(place: BitPlace) -> usize
+    ensures { λ r. ⌜ r ≡ placeWord place ⌝ }
+{
+    match place {
+        BitPlace::At(bit) => bit,
+        BitPlace::Nowhere => NOWHERE,
+    }
+}
+
+fn entry_word(entry: EntryPlace) -> usize
+    ensures { λ r. ⌜ r ≡ entryWord entry ⌝ }
+{
+    match entry {
+        EntryPlace::At(index) => index,
+        EntryPlace::Nowhere => NOWHERE,
+    }
+}
+
+// Says where an archive's call stopped; returns the refusal number.
+fn refuse(refusal: Refusal, entry: &mut usize, place: &mut usize) -> u32
+    ensures { λ r. ⌜ r ≡ refusal .number ⌝ }
+    ensures { λ _. ⌜ now (entry .exit) ≡ entryWord (refusal .entry) ⌝ }
+    ensures { λ _. ⌜ now (place .exit) ≡ placeWord (refusal .place) ⌝ }
+{
+    let at_entry = refusal.entry;
+    let at_place = refusal.place;
+    *entry = entry_word(at_entry);
+    *place = place_word(at_place);
+    refusal.number
+}
 
 // Reads the PDU of `bits` bits in `pdu`; its record goes to `record`.
 #[no_mangle]
-pub extern "C" fn boc_read(pdu: &[u8], bits: usize, record: &mut [u32]) -> u32
+pub extern "C" fn boc_read(pdu: &[u8], bits: usize, record: &mut [u32], place: &mut usize) -> u32
     ensures { λ r. ⌜ r ≡ readNumber (now (pdu .entry)) bits (length (now («record» .entry))) ⌝ }
     ensures { λ _. ⌜ now («record» .exit) ≡ readWords (now (pdu .entry)) bits (now («record» .entry)) ⌝ }
+    ensures { λ _. ⌜ now (place .exit) ≡ readPlace (now (pdu .entry)) bits (length (now («record» .entry))) (now (place .entry)) ⌝ }
 {
     match pdu::read_words(pdu, BitCount(bits), record) {
         Answer::Accepted => 0,
-        Answer::Refused(number) => number,
+        Answer::Refused(refusal) => {
+            let at = refusal.place;
+            *place = place_word(at);
+            refusal.number
+        },
     }
 }
 
@@ -56,7 +103,7 @@ pub extern "C" fn boc_empty(home: u32, out: &mut [u8], length: &mut usize) -> u3
             *length = n;
             0
         },
-        Stored::Refused(number) => number,
+        Stored::Refused(refusal) => refusal.number,
     }
 }
 
@@ -68,17 +115,21 @@ pub extern "C" fn boc_capture(
     bits: usize,
     out: &mut [u8],
     length: &mut usize,
+    entry: &mut usize,
+    place: &mut usize,
 ) -> u32
-    ensures { λ r. ⌜ r ≡ captureNumber (now (archive .entry)) (now (pdu .entry)) bits (now (out .entry)) ⌝ }
+    ensures { λ r. ⌜ r ≡ storedNumber (captureAnswer (now (archive .entry)) (now (pdu .entry)) bits (now (out .entry))) ⌝ }
     ensures { λ _. ⌜ now (out .exit) ≡ captureOut (now (archive .entry)) (now (pdu .entry)) bits (now (out .entry)) ⌝ }
-    ensures { λ _. ⌜ now (length .exit) ≡ captureLength (now (archive .entry)) (now (pdu .entry)) bits (now (out .entry)) (now (length .entry)) ⌝ }
+    ensures { λ _. ⌜ now (length .exit) ≡ storedLength (captureAnswer (now (archive .entry)) (now (pdu .entry)) bits (now (out .entry))) (now (length .entry)) ⌝ }
+    ensures { λ _. ⌜ now (entry .exit) ≡ storedEntry (captureAnswer (now (archive .entry)) (now (pdu .entry)) bits (now (out .entry))) (now (entry .entry)) ⌝ }
+    ensures { λ _. ⌜ now (place .exit) ≡ storedPlace (captureAnswer (now (archive .entry)) (now (pdu .entry)) bits (now (out .entry))) (now (place .entry)) ⌝ }
 {
     match archive::capture(archive, pdu, BitCount(bits), out) {
         Stored::Bytes(n) => {
             *length = n;
             0
         },
-        Stored::Refused(number) => number,
+        Stored::Refused(refusal) => refuse(refusal, entry, place),
     }
 }
 
@@ -91,10 +142,14 @@ pub extern "C" fn boc_restore(
     part: u32,
     out: &mut [u8],
     bits: &mut usize,
+    entry: &mut usize,
+    place: &mut usize,
 ) -> u32
-    ensures { λ r. ⌜ r ≡ restoreNumber (now (archive .entry)) network ssi part (now (out .entry)) ⌝ }
+    ensures { λ r. ⌜ r ≡ restoredNumber (restoreAnswer (now (archive .entry)) network ssi part (now (out .entry))) ⌝ }
     ensures { λ _. ⌜ now (out .exit) ≡ restoreOut (now (archive .entry)) (keyOf network ssi part) (now (out .entry)) ⌝ }
-    ensures { λ _. ⌜ now (bits .exit) ≡ restoreBits (now (archive .entry)) network ssi part (now (out .entry)) (now (bits .entry)) ⌝ }
+    ensures { λ _. ⌜ now (bits .exit) ≡ restoredLength (restoreAnswer (now (archive .entry)) network ssi part (now (out .entry))) (now (bits .entry)) ⌝ }
+    ensures { λ _. ⌜ now (entry .exit) ≡ restoredEntry (restoreAnswer (now (archive .entry)) network ssi part (now (out .entry))) (now (entry .entry)) ⌝ }
+    ensures { λ _. ⌜ now (place .exit) ≡ restoredPlace (restoreAnswer (now (archive .entry)) network ssi part (now (out .entry))) (now (place .entry)) ⌝ }
 {
     let key = Key { network, ssi, part };
     match archive::restore(archive, key, out) {
@@ -102,18 +157,28 @@ pub extern "C" fn boc_restore(
             *bits = n.0;
             0
         },
-        Restored::Refused(number) => number,
+        Restored::Refused(refusal) => refuse(refusal, entry, place),
     }
 }
 
 // Decides a request; the decision goes to `decision`: 0 to 2 barred with that cause, 3 allowed, 4 not held.
 #[no_mangle]
-pub extern "C" fn boc_decide(archive: &[u8], request: &[u32], decision: &mut u32) -> u32
-    ensures { λ r. ⌜ r ≡ decideNumber (now (archive .entry)) (now (request .entry)) ⌝ }
-    ensures { λ _. ⌜ now (decision .exit) ≡ decideDecision (now (archive .entry)) (now (request .entry)) (now (decision .entry)) ⌝ }
+pub extern "C" fn boc_decide(
+    archive: &[u8],
+    request: &[u32],
+    decision: &mut u32,
+    entry: &mut usize,
+    place: &mut usize,
+) -> u32
+    ensures { λ r. ⌜ r ≡ decidedNumber (decideAnswer (now (archive .entry)) (now (request .entry))) ⌝ }
+    ensures { λ _. ⌜ now (decision .exit) ≡ decidedVerdict (decideAnswer (now (archive .entry)) (now (request .entry))) (now (decision .entry)) ⌝ }
+    ensures { λ _. ⌜ now (entry .exit) ≡ decidedEntry (decideAnswer (now (archive .entry)) (now (request .entry))) (now (entry .entry)) ⌝ }
+    ensures { λ _. ⌜ now (place .exit) ≡ decidedPlace (decideAnswer (now (archive .entry)) (now (request .entry))) (now (place .entry)) ⌝ }
 {
     let spelt = request::request_from(request);
     if !spelt.given {
+        *entry = NOWHERE;
+        *place = NOWHERE;
         return 9;
     }
     match barring::decide(archive, spelt.asked) {
@@ -129,22 +194,30 @@ pub extern "C" fn boc_decide(archive: &[u8], request: &[u32], decision: &mut u32
             *decision = 4;
             0
         },
-        Decision::Refused(number) => number,
+        Decision::Refused(refusal) => refuse(refusal, entry, place),
     }
 }
 
 // Lists an archive as text; its length in bytes goes to `length`.
 #[no_mangle]
-pub extern "C" fn boc_contents(archive: &[u8], out: &mut [u8], length: &mut usize) -> u32
-    ensures { λ r. ⌜ r ≡ contentsNumber (now (archive .entry)) (now (out .entry)) ⌝ }
+pub extern "C" fn boc_contents(
+    archive: &[u8],
+    out: &mut [u8],
+    length: &mut usize,
+    entry: &mut usize,
+    place: &mut usize,
+) -> u32
+    ensures { λ r. ⌜ r ≡ storedNumber (contentsAnswer (now (archive .entry)) (now (out .entry))) ⌝ }
     ensures { λ _. ⌜ now (out .exit) ≡ listOut (now (archive .entry)) (now (out .entry)) ⌝ }
-    ensures { λ _. ⌜ now (length .exit) ≡ contentsLength (now (archive .entry)) (now (out .entry)) (now (length .entry)) ⌝ }
+    ensures { λ _. ⌜ now (length .exit) ≡ storedLength (contentsAnswer (now (archive .entry)) (now (out .entry))) (now (length .entry)) ⌝ }
+    ensures { λ _. ⌜ now (entry .exit) ≡ storedEntry (contentsAnswer (now (archive .entry)) (now (out .entry))) (now (entry .entry)) ⌝ }
+    ensures { λ _. ⌜ now (place .exit) ≡ storedPlace (contentsAnswer (now (archive .entry)) (now (out .entry))) (now (place .entry)) ⌝ }
 {
     match listing::list(archive, out) {
         Stored::Bytes(bytes) => {
             *length = bytes;
             0
         },
-        Stored::Refused(refusal) => refusal,
+        Stored::Refused(refusal) => refuse(refusal, entry, place),
     }
 }

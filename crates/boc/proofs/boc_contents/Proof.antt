@@ -1,20 +1,26 @@
 -- The answer passed on. Assumes nothing.
+use mathlib.Core.Path.{refl}
 use borrow.Author.Needs.{needs}
-use Rattle.archive.specs.Keeping.{storedNumber}
-use Rattle.boc.specs.Calls.{storedLength}
-use Rattle.boc.proofs.Answering.{passed}
+use Rattle.boc.specs.Calls.{storedNumber, storedLength, storedEntry, storedPlace}
+use Rattle.boc.proofs.Answering.{said, behind}
 use Rattle.boc.proofs.boc_contents.Statement.{statement}
 use Rattle.boc.proofs.boc_contents.Tie as tie
 
 returns : tie.Need-returns
 returns c =
     let call = c .before .before .before .before .before .list in
-    passed storedNumber storedLength _ (call .ensures .0) (c .before .bytes .given .1) (call .ensures .1)
+    let e = call .ensures .0 in
+    let t = c .before .bytes .given .1 in
+    (said e t storedNumber refl, (call .ensures .1, behind e t storedLength storedEntry storedPlace refl refl refl))
 
 returns-2 : tie.Need-returns-2
 returns-2 c =
-    let call = c .before .before .before .before .before .list in
-    passed storedNumber storedLength _ (call .ensures .0) (c .before .refusal .given .1) (call .ensures .1)
+    let refusal = c .before .before .before .before in
+    let call = refusal .before .before .before .before .list in
+    let e = call .ensures .0 in
+    let t = refusal .refusal .given .1 in
+    let left = c .refuse .ensures in
+    (said e t storedNumber (left .0), (call .ensures .1, behind e t storedLength storedEntry storedPlace refl (left .1 .0) (left .1 .1)))
 
 pub boc-contents-spec : {M : Type 1} → statement M
 boc-contents-spec =
@@ -23,6 +29,7 @@ boc-contents-spec =
     (λ c κs. search needs)
     (λ c. search needs)
     (λ c. search needs)
+    (λ c κs. search needs)
     (λ c. search needs)
     returns
     (λ c. search needs)

@@ -1,7 +1,6 @@
 -- The answer passed on. Assumes nothing.
 use borrow.Author.Needs.{needs}
-use Rattle.archive.specs.Keeping.{storedNumber}
-use Rattle.boc.specs.Calls.{storedLength}
+use Rattle.boc.specs.Calls.{storedNumber, storedLength}
 use Rattle.boc.proofs.Answering.{passed}
 use Rattle.boc.proofs.boc_empty.Statement.{statement}
 use Rattle.boc.proofs.boc_empty.Tie as tie
@@ -9,12 +8,12 @@ use Rattle.boc.proofs.boc_empty.Tie as tie
 returns : tie.Need-returns
 returns c =
     let call = c .before .before .before .before .before .empty in
-    passed storedNumber storedLength _ (call .ensures .0) (c .before .n .given .1) (call .ensures .1)
+    passed (call .ensures .0) (c .before .n .given .1) storedNumber storedLength _ (call .ensures .1)
 
 returns-2 : tie.Need-returns-2
 returns-2 c =
     let call = c .before .before .before .before .before .empty in
-    passed storedNumber storedLength _ (call .ensures .0) (c .before .number .given .1) (call .ensures .1)
+    passed (call .ensures .0) (c .before .refusal .given .1) storedNumber storedLength _ (call .ensures .1)
 
 pub boc-empty-spec : {M : Type 1} → statement M
 boc-empty-spec =

@@ -1,31 +1,31 @@
 -- The reader's answer passed on. Assumes nothing.
-use mathlib.Core.Path.{_≡_, sym, ap, _∙_}
+use mathlib.Core.Path.{refl}
+use Prim.Native.Nat.{ℕ}
 use borrow.Author.Needs.{needs}
-use denote.Ref.{now}
-use lib.ListN.{length}
 use Rattle.reader.specs.Read.{refusalOf}
 use Rattle.reader.specs.declared.Answer.{Answer}
-use Rattle.boc.specs.Calls.{readNumber, readWords}
-use Rattle.boc.proofs.Words.{read-number, read-words}
+use Rattle.boc.specs.Calls.{readPlaceOf}
+use Rattle.boc.proofs.Answering.{said, left}
 use Rattle.boc.proofs.boc_read.Statement.{statement}
 use Rattle.boc.proofs.boc_read.Tie as tie
 
--- its number, and what it left in the words
-told : (c : tie.After-read-words) {answer : Answer} → c .read-words .result ≡ answer →
-    let a = c .before .before .before .before .args in
-    let w = now (a .«record») in
-    (refusalOf answer ≡ readNumber (now (a .pdu)) (a .bits) (length w)) × (c .read-words .last .1 .1 .0 ≡ readWords (now (a .pdu)) (a .bits) w)
-told c e =
-    let a = c .before .before .before .before .args in
-    let s = now (a .pdu) in
-    let w = now (a .«record») in
-    (ap refusalOf (sym e ∙ c .read-words .ensures .0) ∙ read-number s (a .bits) (length w), c .read-words .ensures .1 ∙ read-words s (a .bits) w)
+abbrev number : Answer → ℕ
+number a = refusalOf a .number
 
 returns : tie.Need-returns
-returns c = told (c .before .before .before .before) (c .enum-told .given .1)
+returns c =
+    let call = c .before .before .before .before .read-words in
+    let e = call .ensures .0 in
+    let t = c .enum-told .given .1 in
+    (said e t number refl, (call .ensures .1, left e t readPlaceOf refl))
 
 returns-2 : tie.Need-returns-2
-returns-2 c = told (c .before .before .before .before .before) (c .before .number .given .1)
+returns-2 c =
+    let refusal = c .before .before in
+    let call = refusal .before .before .before .before .read-words in
+    let e = call .ensures .0 in
+    let t = refusal .refusal .given .1 in
+    (said e t number refl, (call .ensures .1, left e t readPlaceOf (c .place-word .ensures)))
 
 pub boc-read-spec : {M : Type 1} → statement M
 boc-read-spec =
@@ -34,6 +34,7 @@ boc-read-spec =
     (λ c κs. search needs)
     (λ c. search needs)
     (λ c. search needs)
+    (λ c κs. search needs)
     (λ c. search needs)
     returns
     (λ c. search needs)

@@ -21,7 +21,7 @@ told c e old =
     let a = c .before .before .before .before .args in
     let w = now (a .«record») in
     let out = now (a .out) in
-    let p = passed writtenNumber writtenLength old (c .write-words .ensures .0) e (c .write-words .ensures .1) in
+    let p = passed (c .write-words .ensures .0) e writtenNumber writtenLength old (c .write-words .ensures .1) in
     (p .0 ∙ write-number w out, (p .1 .0 ∙ write-out w out, p .1 .1 ∙ write-bits w out old))
 
 returns : tie.Need-returns
