@@ -1,6 +1,7 @@
 pub mod Tables
 pub mod Requests
 pub mod Archive
+pub mod Broken
 pub mod Demand1
 pub mod Visitors
 pub mod Words

@@ -3,14 +3,13 @@ use mathlib.Core.Path.{_≡_, refl, sym, ap, ap₂, _∙_, subst}
 use mathlib.Core.Bool.{Bool, true, false, _&&_}
 use mathlib.Core.List.{List, [], _∷_}
 use mathlib.Core.Option.{Option, none, some}
-use Prim.Native.Nat.{ℕ, zero, suc, _≤_, _<_}
-use native.Mathlib.Omega.{arith}
-use borrow.Author.Tests.{eqb-true, lt-ltb, le-leb}
+use Prim.Native.Nat.{ℕ, _≤_}
+use borrow.Author.Tests.{eqb-true, ne-eqb}
 use lib.ListN.{length, take}
 use lib.Dec.{eqb}
 use Rattle.bits.specs.Bits.{pick}
 use Rattle.bits.specs.Frame.{bytesFor}
-use Rattle.bits.proofs.Tests.{never, false-unless, both⁻¹, picked}
+use Rattle.bits.proofs.Tests.{never}
 use Rattle.reader.specs.Read.{readIs}
 use Rattle.rules.specs.Request.{requestRefusal}
 use Rattle.rules.specs.Rule.{ruling}
@@ -18,50 +17,50 @@ use Rattle.barring.specs.declared.Decision.{Decision}
 use Rattle.barring.specs.declared.Decision.the-variants as decided
 use Rattle.rules.specs.declared.request.Request.{Request}
 use Rattle.archive.specs.Model.{inRange}
-use Rattle.archive.specs.Reading.{reading, isArchive}
+use Rattle.archive.specs.Reading.{reading}
 use Rattle.archive.specs.Filing.{names}
-use Rattle.archive.specs.Keeping.{storedNumber, over, emptyIs, emptyOut, captureOut}
-use Rattle.archive.specs.Restoring.{restoredNumber, restoreOut}
+use Rattle.archive.specs.Refusals.{plain}
+use Rattle.archive.specs.Checking.{checkIs, ifArchive}
+use Rattle.archive.specs.Keeping.{storedRefusal, over, emptyIs, emptyOut, captureOut}
+use Rattle.archive.specs.Restoring.{restoreOut}
 use Rattle.archive.specs.History.{Offer, keptOf, answerTo, after, afterAll, entryOf, latest, lastAccepted}
 use Rattle.archive.specs.declared.contents.Key.{Key}
+use Rattle.archive.specs.declared.refusal.Refusal.{Refusal}
 use Rattle.archive.specs.declared.Stored.{Stored}
 use Rattle.archive.specs.declared.Stored.the-variants.{Bytes, Refused}
 use Rattle.archive.specs.declared.Restored.{Restored}
 use Rattle.archive.proofs.Model.Keys.{in-range}
-use Rattle.words.specs.RequestWords.{isRequest, requestFrom}
+use Rattle.words.specs.RequestWords.{requestFrom}
 use Rattle.barring.specs.Decide.{keyFor, partIn, judgedBy, decideIs}
-use Rattle.barring.specs.Decision.{decisionOf, decidedNumber, verdictOf}
-use Rattle.boc.specs.Calls.{storedLength, emptyNumber, restoredLength, keyOf, restoreNumber, restoreBits, decideNumber, decideDecision}
+use Rattle.barring.specs.Decision.{decisionOf, verdictOf}
+use Rattle.boc.specs.Calls.{storedNumber, storedLength, emptyNumber, restoredNumber, restoredLength, keyOf, restoreAnswer}
+use Rattle.boc.specs.Calls.{decidedNumber, decidedVerdict, decideAnswer}
 use Rattle.promises.specs.Sequences.{Call, returned, goneOn, goneOnAll, lastZero, begun, Promise}
 use Rattle.promises.specs.Demand1.Decision.{Verdict, outside-group, restricted-service, restricted-address, allowed, not-held}
 use Rattle.promises.specs.Demand3 as demand3
 use Rattle.promises.proofs.Calls.{decide-kept}
+use Rattle.promises.proofs.Calls.OfWords.{asked}
 use Rattle.promises.proofs.Demand1.Empty as empty
 use Rattle.promises.proofs.Demand1.Capture as capture
 
 -- ---- what C goes on with
 
 -- no capture is refused with 0
-zero-taken : (b : List ℕ) (o : Offer) → answerTo b o ≡ Refused 0 → ⊥
-zero-taken b o e =
-    let w = capture.promise .success b (o .pdu) (o .bits) (o .lent) (ap storedNumber e) .0 in
+zero-taken : (b : List ℕ) (o : Offer) (f : Refusal) → answerTo b o ≡ Refused f → f .number ≡ 0 → ⊥
+zero-taken b o f e z =
+    let w = capture.promise .success b (o .pdu) (o .bits) (o .lent) (ap (λ (a : Stored). storedRefusal a .number) e ∙ z) .0 in
     never cc
 
-not-zero : (k : ℕ) → eqb (suc k) 0 ≡ false
-not-zero k = false-unless (eqb (suc k) 0) (λ t. absurd (omega (arith, eqb-true (suc k) 0 t)))
-
-goes : (a : Stored) (b out : List ℕ) (old : ℕ) → (a ≡ Refused 0 → ⊥)
+goes : (a : Stored) (b out : List ℕ) (old : ℕ) → ((f : Refusal) → a ≡ Refused f → f .number ≡ 0 → ⊥)
     → pick (eqb (storedNumber a) 0) (take (storedLength a old) out) b ≡ keptOf a b out
 goes (Bytes n) b out old h = refl
-goes (Refused zero) b out old h = absurd (h refl)
-goes (Refused (suc k)) b out old h = rw (not-zero k)
+goes (Refused f) b out old h = rw (ne-eqb (f .number) 0 (h f refl))
 
-counts : (a : Stored) (same : Bool) (o : Offer) (last : Option Offer) → (a ≡ Refused 0 → ⊥)
+counts : (a : Stored) (same : Bool) (o : Offer) (last : Option Offer) → ((f : Refusal) → a ≡ Refused f → f .number ≡ 0 → ⊥)
     → pick (eqb (storedNumber a) 0 && same) (some o) last ≡ latest a same o last
 counts (Bytes n) true o last h = refl
 counts (Bytes n) false o last h = refl
-counts (Refused zero) same o last h = absurd (h refl)
-counts (Refused (suc k)) same o last h = rw (not-zero k)
+counts (Refused f) same o last h = rw (ne-eqb (f .number) 0 (h f refl))
 
 unfoldable offers : List Call → List Offer
 offers [] = []
@@ -91,9 +90,9 @@ module _ (k : Key) where
 -- a request that is decided is in its range
 request-zero : (b : List ℕ) (q : Request) → decidedNumber (decideIs b q) ≡ 0 → requestRefusal q ≡ 0
 unfolding decideIs
-request-zero b q = go (eqb (requestRefusal q) 0) refl (pick (isArchive b) (judgedBy (reading b .home) q (partIn b q)) (decided.Refused 7))
+request-zero b q = go (eqb (requestRefusal q) 0) refl (ifArchive (checkIs b) decided.Refused (judgedBy (reading b .home) q (partIn b q)))
   where
-    go : (p : Bool) → eqb (requestRefusal q) 0 ≡ p → (d : Decision) → decidedNumber (pick p d (decided.Refused (requestRefusal q))) ≡ 0
+    go : (p : Bool) → eqb (requestRefusal q) 0 ≡ p → (d : Decision) → decidedNumber (pick p d (decided.Refused (plain (requestRefusal q)))) ≡ 0
         → requestRefusal q ≡ 0
     go true f d e = eqb-true (requestRefusal q) 0 f
     go false f d e = e
@@ -106,13 +105,13 @@ verdict-is allowed = refl
 verdict-is not-held = refl
 
 -- what boc_decide tells is the number of the decision
-decision-is : (b w : List ℕ) (old : ℕ) → decideNumber b w ≡ 0 → decideDecision b w old ≡ verdictOf (decideIs b (requestFrom w))
-decision-is b w old e = verdict-is (decide-kept b w old .success e)
+decision-is : (b w : List ℕ) (old : ℕ) → decidedNumber (decideAnswer b w) ≡ 0
+    → decidedVerdict (decideAnswer b w) old ≡ verdictOf (decideIs b (requestFrom w))
+decision-is b w old e = verdict-is (decide-kept b w old 0 0 .success e .0)
 
 -- it is a request in its range
-in-its-range : (b w : List ℕ) → decideNumber b w ≡ 0 → requestRefusal (requestFrom w) ≡ 0
-unfolding decideNumber
-in-its-range b w e = request-zero b (requestFrom w) (picked (isRequest w) e (λ x. omega arith) .1)
+in-its-range : (b w : List ℕ) → decidedNumber (decideAnswer b w) ≡ 0 → requestRefusal (requestFrom w) ≡ 0
+in-its-range b w e = request-zero b (requestFrom w) (asked b w e .1)
 
 module _ (home : ℕ) (lent : List ℕ) (old : ℕ) (calls : List Call) (e : emptyNumber home lent ≡ 0) where
   abbrev m : ℕ
@@ -144,7 +143,8 @@ module _ (home : ℕ) (lent : List ℕ) (old : ℕ) (calls : List Call) (e : emp
   module _ (network ssi part : ℕ) (r : inRange (keyOf network ssi part) ≡ true) (out : List ℕ) (bits : ℕ) where
     abbrev Gives : ℕ → ℕ → List ℕ → List ℕ → Type 0
     Gives k n left b =
-        (restoreNumber b network ssi part out ≡ k) × (restoreBits b network ssi part out bits ≡ n) × (restoreOut b (keyOf network ssi part) out ≡ left)
+        (restoredNumber (restoreAnswer b network ssi part out) ≡ k) × (restoredLength (restoreAnswer b network ssi part out) bits ≡ n)
+        × (restoreOut b (keyOf network ssi part) out ≡ left)
 
     restored : (o : Offer) → last (keyOf network ssi part) ≡ some o → bytesFor (o .bits) ≤ length out → Gives 0 (o .bits) (over (o .pdu) out) b
     restored o l h =
@@ -157,7 +157,7 @@ module _ (home : ℕ) (lent : List ℕ) (old : ℕ) (calls : List Call) (e : emp
         let p = demand3.restores-nothing-else home lent m written (offers calls) (keyOf network ssi part) r out (last-is (keyOf network ssi part) ∙ l) in
         subst (Gives 11 bits out) archive-is (ap restoredNumber (p .0), ap (λ (x : Restored). restoredLength x bits) (p .0), p .1)
 
-  module _ (w : List ℕ) (before : ℕ) (d : decideNumber b w ≡ 0) where
+  module _ (w : List ℕ) (before : ℕ) (d : decidedNumber (decideAnswer b w) ≡ 0) where
     abbrev q : Request
     q = requestFrom w
 
@@ -168,13 +168,13 @@ module _ (home : ℕ) (lent : List ℕ) (old : ℕ) (calls : List Call) (e : emp
     lastFor-is = last-is (keyFor q)
 
     -- what is told, once the decision is known
-    told : {x : Decision} → decideIs (afterAll start (offers calls)) q ≡ x → decideDecision b w before ≡ verdictOf x
+    told : {x : Decision} → decideIs (afterAll start (offers calls)) q ≡ x → decidedVerdict (decideAnswer b w) before ≡ verdictOf x
     told {x} k = decision-is b w before d ∙ ap verdictOf (subst (λ (s : List ℕ). decideIs s q ≡ x) archive-is k)
 
-    by-the-last : (o : Offer) → lastFor ≡ some o → decideDecision b w before ≡ verdictOf (decisionOf (ruling home (readIs (o .pdu) (o .bits) .found) q))
+    by-the-last : (o : Offer) → lastFor ≡ some o → decidedVerdict (decideAnswer b w) before ≡ verdictOf (decisionOf (ruling home (readIs (o .pdu) (o .bits) .found) q))
     by-the-last o l = told (demand3.decides-by-the-last home lent m written (offers calls) q (in-its-range b w d) o (lastFor-is ∙ l))
 
-    by-nothing : lastFor ≡ none → decideDecision b w before ≡ 4
+    by-nothing : lastFor ≡ none → decidedVerdict (decideAnswer b w) before ≡ 4
     by-nothing l = told (demand3.decides-by-nothing-else home lent m written (offers calls) q (in-its-range b w d) (lastFor-is ∙ l))
 
 pub promise : (home : ℕ) (lent : List ℕ) (old : ℕ) (calls : List Call) → Promise home lent old calls

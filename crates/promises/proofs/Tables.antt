@@ -8,9 +8,9 @@ use Rattle.bits.proofs.Tests.{differ}
 use Rattle.promises.specs.Answers.{isOneOf, OneOf, Exactly}
 
 -- its answer is in the table and in the list, and whatever is in the table is its answer
-pub exactly {ℓ} : {number : ℕ} {numbers : List ℕ} (Given : ℕ → Type ℓ) → Given number → OneOf numbers number → ((k : ℕ) → Given k → number ≡ k)
-    → Exactly number numbers Given
-exactly Given row listed back = record { listed = listed; exactly = λ k. (λ e. subst Given e row, back k) }
+pub exactly {ℓ} : {A : Type 0} {number : A → ℕ} {answer : A} {numbers : List ℕ} (Given : A → Type ℓ) → Given answer → OneOf numbers (number answer)
+    → ((a : A) → Given a → answer ≡ a) → Exactly number answer numbers Given
+exactly Given row listed back = record { listed = listed; exactly = λ a. (λ e. subst Given e row, back a) }
 
 -- one of a list is one of a longer list
 pub wider : (ks ls : List ℕ) (n : ℕ) → OneOf ks n → OneOf (ks ++ ls) n

@@ -19,6 +19,11 @@ use Rattle.rules.specs.declared.request.Request.{Request}
 use Rattle.archive.specs.Model.{Held, rank}
 use Rattle.archive.specs.Filing.{keepsRules, bodyAgrees}
 use Rattle.archive.specs.Reading.{reading, isArchive}
+use Rattle.archive.specs.Refusals.{plain}
+use Rattle.archive.specs.Checking.{checkIs, ifArchive}
+use Rattle.archive.specs.declared.checking.Checked.{Checked}
+use Rattle.archive.specs.declared.checking.Checked.the-variants as checked
+use Rattle.archive.proofs.Model.Checked.{checked-archive}
 use Rattle.archive.proofs.Model.Rules.{kept, archive-formed}
 use Rattle.archive.proofs.Model.Bodies as bodies
 use Rattle.archive.specs.declared.contents.Entry.{Entry}
@@ -94,18 +99,18 @@ module _ (b : List ℕ) (q : Request) where
         ap decisionOf (read-with home r q (q .user .network) n)
 
   -- the answer, after the two tests
-  abbrev after : Bool → Bool → Decision → Decision
-  after t a d = guard t (Refused (requestRefusal q)) (guard a (Refused 7) d)
+  abbrev after : Bool → Checked → Decision → Decision
+  after t c d = guard t (Refused (plain (requestRefusal q))) (ifArchive c Refused d)
 
   callers-network : decideIs b q ≡ decideWith (q .user .network) b q
   unfolding decideIs
-  callers-network = go (eqb (requestRefusal q) 0) refl (isArchive b) refl
+  callers-network = go (eqb (requestRefusal q) 0) refl (checkIs b) refl
     where
-      go : (t : Bool) → eqb (requestRefusal q) 0 ≡ t → (a : Bool) → isArchive b ≡ a
-          → after t a (judgedBy (reading b .home) q (partIn b q)) ≡ after t a (judgedWith (q .user .network) q (partIn b q))
-      go false e a f = refl
-      go true e false f = refl
-      go true e true f = judged (eqb-true _ _ e) f (partIn b q) refl
+      go : (t : Bool) → eqb (requestRefusal q) 0 ≡ t → (c : Checked) → checkIs b ≡ c
+          → after t c (judgedBy (reading b .home) q (partIn b q)) ≡ after t c (judgedWith (q .user .network) q (partIn b q))
+      go false e c f = refl
+      go true e (checked.Refused x) f = refl
+      go true e checked.Archive f = judged (eqb-true _ _ e) (checked-archive b f) (partIn b q) refl
 
   home-user : q .user .network ≡ reading b .home → decideIs b q ≡ decideWith (reading b .home) b q
   home-user e = callers-network ∙ ap (λ (n : ℕ). decideWith n b q) e

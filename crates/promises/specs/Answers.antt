@@ -17,7 +17,7 @@ OneOf ks n = isOneOf ks n ≡ true
 
 -- ---- a call keeps its table
 
--- the number of its answer is one of these, and each is given exactly then
-pub record Exactly {ℓ} (number : ℕ) (numbers : List ℕ) (Given : ℕ → Type ℓ) : Type ℓ where
-  pub listed : OneOf numbers number
-  pub exactly : (k : ℕ) → (number ≡ k) ↔ Given k
+-- the number of its answer is one of these, and each answer, a number or a number with entry and place, is given exactly then
+pub record Exactly {ℓ} {A : Type 0} (number : A → ℕ) (answer : A) (numbers : List ℕ) (Given : A → Type ℓ) : Type ℓ where
+  pub listed : OneOf numbers (number answer)
+  pub exactly : (a : A) → (answer ≡ a) ↔ Given a

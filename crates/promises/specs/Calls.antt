@@ -1,5 +1,6 @@
 -- Demand 1 as C meets it, about the seven calls of include/boc.h: each returns 0 or a number of its list, exactly then. If it is not 0, the
--- lent memory and the number behind the pointer are what they were; if it is 0, the pointer holds exactly the length or the decision.
+-- lent memory and the length or decision behind the pointer are what they were, and the pointers to entry and place hold those of the refusal,
+-- or BOC_NOWHERE; if it is 0, the pointer holds exactly the length or the decision, and entry and place are what they were.
 use mathlib.Core.Path.{_≡_}
 use mathlib.Core.List.{List, [], _∷_, _++_}
 use mathlib.Core.Option.{none}
@@ -9,20 +10,27 @@ use Rattle.bits.specs.Frame.{bytesFor, bitsIn, pack}
 use Rattle.codec.specs.Codec.{Legal}
 use Rattle.grammar.specs.Grammar.{pdu}
 use Rattle.grammar.specs.declared.record.Record.{Record}
-use Rattle.reader.specs.Read.{readIs}
+use Rattle.walk.specs.declared.BitPlace.the-variants as bit
+use Rattle.reader.specs.Read.{refusalOf, readIs}
+use Rattle.reader.specs.Words.{readWordsIs, readWords}
 use Rattle.writer.specs.Write.{lengthOf}
 use Rattle.archive.specs.Model.{Held, bytesOf}
-use Rattle.archive.specs.Keeping.{over, captured, emptyOut, captureOut}
-use Rattle.archive.specs.Restoring.{restoreOut}
+use Rattle.archive.specs.Refusals.{plain}
+use Rattle.archive.specs.Keeping.{storedRefusal, over, captured, emptyOut, captureOut}
+use Rattle.archive.specs.Restoring.{restoredRefusal, restoreOut}
 use Rattle.archive.specs.Listing.{listOut}
 use Rattle.archive.specs.Listing as lists
 use Rattle.words.specs.RecordWords.{word, recordWords, recordFrom}
 use Rattle.words.specs.RequestWords.{requestFrom}
 use Rattle.barring.specs.Decide.{partIn, decideIs}
-use Rattle.boc.specs.Calls.{readNumber, readWords, writeNumber, writeOut, writeBits, emptyNumber, emptyLength, captureNumber, captureLength}
-use Rattle.boc.specs.Calls.{keyOf, restoreNumber, restoreBits, decideNumber, decideDecision, contentsNumber, contentsLength}
+use Rattle.barring.specs.Decision.{decidedRefusal}
+use Rattle.boc.specs.Calls.{placeWord, entryWord, readNumber, readPlace, writeNumber, writeOut, writeBits, emptyNumber, emptyLength}
+use Rattle.boc.specs.Calls.{storedNumber, storedLength, storedEntry, storedPlace, captureAnswer, contentsAnswer}
+use Rattle.boc.specs.Calls.{restoredNumber, restoredLength, restoredEntry, restoredPlace, keyOf, restoreAnswer}
+use Rattle.boc.specs.Calls.{decidedNumber, decidedVerdict, decidedEntry, decidedPlace, decideAnswer}
 use Rattle.promises.specs.Answers.{Exactly}
 use Rattle.promises.specs.Archive.{IsArchive, HeldFor}
+use Rattle.promises.specs.Broken.{numberOf}
 use Rattle.promises.specs.Demand1.Reading as reading
 use Rattle.promises.specs.Demand1.Writing as writing
 use Rattle.promises.specs.Demand1.Empty as empty
@@ -34,9 +42,9 @@ use Rattle.promises.specs.Demand1.Listing as listing
 -- ---- words
 
 -- 9 for words that are not what they should be, before everything; then the rows of a table
-pub data Checked {ℓ} (Right : Type 0) (Given : ℕ → Type ℓ) : ℕ → Type ℓ where
-  wrong : (Right → ⊥) → Checked Right Given 9
-  right : (k : ℕ) → Right → Given k → Checked Right Given k
+pub data Checked {ℓ} {A : Type 0} (nine : A) (Right : Type 0) (Given : A → Type ℓ) : A → Type ℓ where
+  wrong : (Right → ⊥) → Checked nine Right Given nine
+  right : (a : A) → Right → Given a → Checked nine Right Given a
 
 -- 514 words are a record
 abbrev pub OfRecord : List ℕ → Type 0
@@ -60,57 +68,82 @@ pub record OfRequest (w : List ℕ) : Type 0 where
 -- ---- the calls; proved in proofs/Calls.antt
 
 -- boc_read: 0, 9 for another count of words than 514, and the numbers of reading
-pub record Read (pdu′ : List ℕ) (bits : ℕ) (words : List ℕ) : Type 1 where
-  pub table : Exactly (readNumber pdu′ bits (length words)) (reading.numbers ++ (9 ∷ [])) (Checked (OfRecord words) (reading.Given pdu′ bits))
+pub record Read (pdu′ : List ℕ) (bits : ℕ) (words : List ℕ) (place : ℕ) : Type 1 where
+  pub table : Exactly reading.numberOf (refusalOf (readWordsIs pdu′ bits (length words))) (reading.numbers ++ (9 ∷ []))
+      (Checked (reading.told 9 bit.Nowhere) (OfRecord words) (reading.Given pdu′ bits))
   -- the words are those of the legal record whose writing the PDU is
   pub success : readNumber pdu′ bits (length words) ≡ 0 → let r = readIs pdu′ bits .found in
       Legal pdu r × (bitsIn bits pdu′ ≡ pdu .print r) × (readWords pdu′ bits words ≡ recordWords r)
-  pub refusal : (readNumber pdu′ bits (length words) ≡ 0 → ⊥) → readWords pdu′ bits words ≡ words
+      × (readPlace pdu′ bits (length words) place ≡ place)
+  pub refusal : (readNumber pdu′ bits (length words) ≡ 0 → ⊥)
+      → (readWords pdu′ bits words ≡ words)
+      × (readPlace pdu′ bits (length words) place ≡ placeWord (refusalOf (readWordsIs pdu′ bits (length words)) .place))
 
 -- boc_write: 0, 9 for another count of words than 514, and the numbers of writing
 pub record Write (words out : List ℕ) (bits : ℕ) : Type 1 where
-  pub table : Exactly (writeNumber words out) (0 ∷ 3 ∷ 4 ∷ 8 ∷ 9 ∷ []) (Checked (OfRecord words) (writing.Given (recordFrom words) out))
+  pub table : Exactly (λ k. k) (writeNumber words out) (0 ∷ 3 ∷ 4 ∷ 8 ∷ 9 ∷ []) (Checked 9 (OfRecord words) (writing.Given (recordFrom words) out))
   pub success : writeNumber words out ≡ 0 → let r = recordFrom words in
       (writeOut words out ≡ pack (pdu .print r) ++ drop (bytesFor (lengthOf r)) out) × (writeBits words out bits ≡ lengthOf r)
   pub refusal : (writeNumber words out ≡ 0 → ⊥) → (writeOut words out ≡ out) × (writeBits words out bits ≡ bits)
 
 -- boc_empty
 pub record Empty (home : ℕ) (out : List ℕ) (old : ℕ) : Type 0 where
-  pub table : Exactly (emptyNumber home out) (0 ∷ 9 ∷ 8 ∷ []) (empty.Given home (length out))
+  pub table : Exactly (λ k. k) (emptyNumber home out) (0 ∷ 9 ∷ 8 ∷ []) (empty.Given home (length out))
   pub success : emptyNumber home out ≡ 0 → (emptyOut home out ≡ over (empty.header home) out) × (emptyLength home out old ≡ 5)
   pub refusal : (emptyNumber home out ≡ 0 → ⊥) → (emptyOut home out ≡ out) × (emptyLength home out old ≡ old)
 
 -- boc_capture
-pub record Capture (archive pdu′ : List ℕ) (bits : ℕ) (out : List ℕ) (old : ℕ) : Type 0 where
-  pub table : Exactly (captureNumber archive pdu′ bits out) (reading.numbers ++ (7 ∷ 6 ∷ 8 ∷ [])) (capture.Given archive pdu′ bits (length out))
-  pub success : captureNumber archive pdu′ bits out ≡ 0 → let b = bytesOf (captured archive pdu′ bits) in
-      (captureOut archive pdu′ bits out ≡ over b out) × (captureLength archive pdu′ bits out old ≡ length b)
-  pub refusal : (captureNumber archive pdu′ bits out ≡ 0 → ⊥)
-      → (captureOut archive pdu′ bits out ≡ out) × (captureLength archive pdu′ bits out old ≡ old)
+pub record Capture (archive pdu′ : List ℕ) (bits : ℕ) (out : List ℕ) (old entry place : ℕ) : Type 0 where
+  pub table : let answer = captureAnswer archive pdu′ bits out in
+      Exactly numberOf (storedRefusal answer) (reading.numbers ++ (7 ∷ 6 ∷ 8 ∷ [])) (capture.Given archive pdu′ bits (length out))
+  pub success : let answer = captureAnswer archive pdu′ bits out in
+      storedNumber answer ≡ 0 → let b = bytesOf (captured archive pdu′ bits) in
+      (captureOut archive pdu′ bits out ≡ over b out) × (storedLength answer old ≡ length b)
+      × (storedEntry answer entry ≡ entry) × (storedPlace answer place ≡ place)
+  pub refusal : let answer = captureAnswer archive pdu′ bits out in
+      (storedNumber answer ≡ 0 → ⊥) → let f = storedRefusal answer in
+      (captureOut archive pdu′ bits out ≡ out) × (storedLength answer old ≡ old)
+      × (storedEntry answer entry ≡ entryWord (f .entry)) × (storedPlace answer place ≡ placeWord (f .place))
 
 -- boc_restore
-pub record Restore (archive : List ℕ) (network ssi part : ℕ) (out : List ℕ) (old : ℕ) : Type 0 where
-  pub table : Exactly (restoreNumber archive network ssi part out) (0 ∷ 9 ∷ 7 ∷ 11 ∷ 8 ∷ [])
-      (restore.Given archive (keyOf network ssi part) (length out))
+pub record Restore (archive : List ℕ) (network ssi part : ℕ) (out : List ℕ) (old entry place : ℕ) : Type 0 where
+  pub table : let answer = restoreAnswer archive network ssi part out in
+      Exactly numberOf (restoredRefusal answer) (0 ∷ 9 ∷ 7 ∷ 11 ∷ 8 ∷ []) (restore.Given archive (keyOf network ssi part) (length out))
   -- the PDU that is held for that user and part, and its bits
-  pub success : restoreNumber archive network ssi part out ≡ 0
+  pub success : let answer = restoreAnswer archive network ssi part out in
+      restoredNumber answer ≡ 0
       → (k : IsArchive archive) × (h : Held) × HeldFor (k .archive .held) (keyOf network ssi part) h
-      × (restoreOut archive (keyOf network ssi part) out ≡ over (h .body) out) × (restoreBits archive network ssi part out old ≡ h .entry .bits .0)
-  pub refusal : (restoreNumber archive network ssi part out ≡ 0 → ⊥)
-      → (restoreOut archive (keyOf network ssi part) out ≡ out) × (restoreBits archive network ssi part out old ≡ old)
+      × (restoreOut archive (keyOf network ssi part) out ≡ over (h .body) out) × (restoredLength answer old ≡ h .entry .bits .0)
+      × (restoredEntry answer entry ≡ entry) × (restoredPlace answer place ≡ place)
+  pub refusal : let answer = restoreAnswer archive network ssi part out in
+      (restoredNumber answer ≡ 0 → ⊥) → let f = restoredRefusal answer in
+      (restoreOut archive (keyOf network ssi part) out ≡ out) × (restoredLength answer old ≡ old)
+      × (restoredEntry answer entry ≡ entryWord (f .entry)) × (restoredPlace answer place ≡ placeWord (f .place))
 
 -- boc_decide: 0, 9 for words that are no request's or a request out of its range, 7
-pub record Decide (archive words : List ℕ) (old : ℕ) : Type 0 where
-  pub table : Exactly (decideNumber archive words) (0 ∷ 9 ∷ 7 ∷ []) (Checked (OfRequest words) (decision.Given archive (requestFrom words)))
+pub record Decide (archive words : List ℕ) (old entry place : ℕ) : Type 0 where
+  pub table : let answer = decideAnswer archive words in
+      Exactly numberOf (decidedRefusal answer) (0 ∷ 9 ∷ 7 ∷ []) (Checked (plain 9) (OfRequest words) (decision.Given archive (requestFrom words)))
   -- 0 to 2 barred with that cause, 3 allowed, 4 not held
-  pub success : decideNumber archive words ≡ 0 → decision.Verdict (decideDecision archive words old) (decideIs archive (requestFrom words))
+  pub success : let answer = decideAnswer archive words in
+      decidedNumber answer ≡ 0 → decision.Verdict (decidedVerdict answer old) (decideIs archive (requestFrom words))
+      × (decidedEntry answer entry ≡ entry) × (decidedPlace answer place ≡ place)
   -- a part that is not held gives 4 and nothing else
-  pub not-held : decideNumber archive words ≡ 0 → partIn archive (requestFrom words) ≡ none → decideDecision archive words old ≡ 4
-  pub refusal : (decideNumber archive words ≡ 0 → ⊥) → decideDecision archive words old ≡ old
+  pub not-held : let answer = decideAnswer archive words in
+      decidedNumber answer ≡ 0 → partIn archive (requestFrom words) ≡ none → decidedVerdict answer old ≡ 4
+  pub refusal : let answer = decideAnswer archive words in
+      (decidedNumber answer ≡ 0 → ⊥) → let f = decidedRefusal answer in
+      (decidedVerdict answer old ≡ old) × (decidedEntry answer entry ≡ entryWord (f .entry)) × (decidedPlace answer place ≡ placeWord (f .place))
 
 -- boc_contents
-pub record Contents (archive out : List ℕ) (old : ℕ) : Type 0 where
-  pub table : Exactly (contentsNumber archive out) (0 ∷ 7 ∷ 8 ∷ []) (listing.Given archive (length out))
-  pub success : contentsNumber archive out ≡ 0 → (k : IsArchive archive)
-      × (listOut archive out ≡ over (lists.listing (k .archive)) out) × (contentsLength archive out old ≡ length (lists.listing (k .archive)))
-  pub refusal : (contentsNumber archive out ≡ 0 → ⊥) → (listOut archive out ≡ out) × (contentsLength archive out old ≡ old)
+pub record Contents (archive out : List ℕ) (old entry place : ℕ) : Type 0 where
+  pub table : let answer = contentsAnswer archive out in
+      Exactly numberOf (storedRefusal answer) (0 ∷ 7 ∷ 8 ∷ []) (listing.Given archive (length out))
+  pub success : let answer = contentsAnswer archive out in
+      storedNumber answer ≡ 0 → (k : IsArchive archive)
+      × (listOut archive out ≡ over (lists.listing (k .archive)) out) × (storedLength answer old ≡ length (lists.listing (k .archive)))
+      × (storedEntry answer entry ≡ entry) × (storedPlace answer place ≡ place)
+  pub refusal : let answer = contentsAnswer archive out in
+      (storedNumber answer ≡ 0 → ⊥) → let f = storedRefusal answer in
+      (listOut archive out ≡ out) × (storedLength answer old ≡ old)
+      × (storedEntry answer entry ≡ entryWord (f .entry)) × (storedPlace answer place ≡ placeWord (f .place))

@@ -2,25 +2,31 @@
 use mathlib.Core.Path.{_≡_, refl}
 use mathlib.Core.List.{List, [], _∷_, _++_}
 use Prim.Native.Nat.{ℕ}
-use lib.ListN.{replicate}
+use lib.ListN.{take, drop, replicate}
 use Rattle.bits.specs.Bits.{bits}
 use Rattle.bits.specs.Frame.{framed}
 use Rattle.grammar.specs.Grammar.{grammar}
 use Rattle.grammar.specs.ProfileRecords.{asking}
 use Rattle.reader.specs.Read.{readIs}
+use Rattle.reader.specs.Words.{readWordsIs}
 use Rattle.writer.specs.Write.{recordRefusal, writeRefusal, writeIs}
 use Rattle.rules.specs.Request.{requests}
 use Rattle.rules.specs.Rule.{rules}
 use Rattle.archive.specs.Model.{inRange}
 use Rattle.archive.specs.Filing.{filingOf, bodyAgrees}
 use Rattle.archive.specs.Restoring.{restoreIs}
-use Rattle.archive.specs.Listing.{digits, decimal, item, firstLine, lines, listing, listIs}
+use Rattle.archive.specs.Listing.{digits, decimal, item, twoItems, firstLine, lines, listing, listIs}
+use Rattle.archive.specs.declared.Stored.{Stored}
+use Rattle.archive.specs.declared.Restored.{Restored}
 use Rattle.archive.specs.Examples.{calls, profileA, bytesA}
 use Rattle.words.specs.RecordWords.{recordWords, records}
 use Rattle.words.specs.RequestWords as request
 use Rattle.barring.specs.Decide.{partFor, decideIs}
-use Rattle.boc.specs.Calls.{readNumber, writeNumber, writeBits, emptyNumber, emptyLength, captureNumber, captureLength, restoreNumber}
-use Rattle.boc.specs.Calls.{restoreBits, decideNumber, decideDecision, contentsNumber, contentsLength}
+use Rattle.barring.specs.declared.Decision.{Decision}
+use Rattle.boc.specs.Calls.{nowhere, readNumber, readPlace, writeNumber, writeBits, emptyNumber, emptyLength}
+use Rattle.boc.specs.Calls.{storedNumber, storedLength, storedEntry, storedPlace, captureAnswer, contentsAnswer}
+use Rattle.boc.specs.Calls.{restoredNumber, restoredLength, restoredEntry, restoredPlace, restoreAnswer}
+use Rattle.boc.specs.Calls.{decidedNumber, decidedVerdict, decidedEntry, decidedPlace, decideAnswer}
 
 -- the PDU of an INTERROGATE, one for the users 200 to 199, and so many zeros: 5 of them are an archive that holds nothing
 abbrev asked : List ℕ
@@ -34,8 +40,15 @@ lent n = replicate n 0
 
 read-met : readNumber asked 42 514 ∷ readNumber [] 1 514 ∷ readNumber [] 0 514 ∷ readNumber (0x00 ∷ []) 6 514 ∷ readNumber reversed 65 514
     ∷ readNumber asked 43 514 ∷ readNumber (0x48 ∷ 0x00 ∷ []) 11 514 ∷ readNumber asked 42 513 ∷ [] ≡ 0 ∷ 1 ∷ 2 ∷ 3 ∷ 4 ∷ 5 ∷ 10 ∷ 9 ∷ []
-unfolding grammar readIs framed bits readNumber
+unfolding grammar readIs framed bits readWordsIs
 read-met = refl
+
+-- the place: as it was after a success; 1 and 9 have none
+read-places : readPlace asked 42 514 77 ∷ readPlace [] 1 514 77 ∷ readPlace [] 0 514 77 ∷ readPlace (0x00 ∷ []) 6 514 77 ∷ readPlace reversed 65 514 77
+    ∷ readPlace asked 43 514 77 ∷ readPlace (0x48 ∷ 0x00 ∷ []) 11 514 77 ∷ readPlace asked 42 513 77 ∷ []
+    ≡ 77 ∷ nowhere ∷ 0 ∷ 0 ∷ 40 ∷ 42 ∷ 6 ∷ nowhere ∷ []
+unfolding grammar readIs framed bits readWordsIs
+read-places = refl
 
 -- the users 200 to 199 in words: PDU type, range type 9, SSI, extension present, extension, SSI; interrogation type
 abbrev backwards : List ℕ
@@ -60,23 +73,53 @@ empty-length : emptyLength 1 (lent 5) 77 ∷ emptyLength 1 (lent 4) 77 ∷ [] �
 unfolding calls
 empty-length = refl
 
-capture-met : captureNumber (lent 5) profileA 138 (lent 32) ∷ captureNumber [] [] 0 [] ∷ captureNumber (lent 5) [] 1 []
-    ∷ captureNumber (lent 5) [] 0 [] ∷ captureNumber (lent 5) (0x00 ∷ []) 6 [] ∷ captureNumber (lent 5) reversed 65 [] ∷ captureNumber (lent 5) asked 43 []
-    ∷ captureNumber (lent 5) (0x48 ∷ 0x00 ∷ []) 11 [] ∷ captureNumber (lent 5) asked 42 [] ∷ captureNumber (lent 5) profileA 138 (lent 31) ∷ []
-    ≡ 0 ∷ 7 ∷ 1 ∷ 2 ∷ 3 ∷ 4 ∷ 5 ∷ 10 ∷ 6 ∷ 8 ∷ []
-unfolding calls
-capture-met = refl
+-- number, entry and place of what boc_capture, boc_restore, boc_contents and boc_decide answer; a success leaves 77
+abbrev stored : Stored → List ℕ
+stored a = storedNumber a ∷ storedEntry a 77 ∷ storedPlace a 77 ∷ []
 
-capture-length : captureLength (lent 5) profileA 138 (lent 32) 77 ∷ captureLength (lent 5) profileA 138 (lent 31) 77 ∷ [] ≡ 32 ∷ 77 ∷ []
+abbrev restored : Restored → List ℕ
+restored a = restoredNumber a ∷ restoredEntry a 77 ∷ restoredPlace a 77 ∷ []
+
+abbrev decided : Decision → List ℕ
+decided d = decidedNumber d ∷ decidedEntry d 77 ∷ decidedPlace d 77 ∷ []
+
+-- profile A's archive with a bit of A's SS type flipped, and with the entry of another user
+abbrev damagedA : List ℕ
+damagedA = take 14 bytesA ++ (0x48 ∷ drop 15 bytesA)
+
+abbrev anotherA : List ℕ
+anotherA = take 10 bytesA ++ (0x06 ∷ drop 11 bytesA)
+
+capture-met : (stored (captureAnswer (lent 5) profileA 138 (lent 32)) ≡ 0 ∷ 77 ∷ 77 ∷ [])
+    × (stored (captureAnswer [] [] 0 []) ≡ 7 ∷ nowhere ∷ nowhere ∷ [])
+    × (stored (captureAnswer damagedA [] 0 []) ≡ 7 ∷ 0 ∷ 6 ∷ [])
+    × (stored (captureAnswer anotherA [] 0 []) ≡ 7 ∷ 0 ∷ nowhere ∷ [])
+    × (stored (captureAnswer (lent 5) [] 1 []) ≡ 1 ∷ nowhere ∷ nowhere ∷ [])
+    × (stored (captureAnswer (lent 5) [] 0 []) ≡ 2 ∷ nowhere ∷ 0 ∷ [])
+    × (stored (captureAnswer (lent 5) (0x00 ∷ []) 6 []) ≡ 3 ∷ nowhere ∷ 0 ∷ [])
+    × (stored (captureAnswer (lent 5) reversed 65 []) ≡ 4 ∷ nowhere ∷ 40 ∷ [])
+    × (stored (captureAnswer (lent 5) asked 43 []) ≡ 5 ∷ nowhere ∷ 42 ∷ [])
+    × (stored (captureAnswer (lent 5) (0x48 ∷ 0x00 ∷ []) 11 []) ≡ 10 ∷ nowhere ∷ 6 ∷ [])
+    × (stored (captureAnswer (lent 5) asked 42 []) ≡ 6 ∷ nowhere ∷ nowhere ∷ [])
+    × (stored (captureAnswer (lent 5) profileA 138 (lent 31)) ≡ 8 ∷ nowhere ∷ nowhere ∷ [])
+unfolding calls bodyAgrees filingOf
+capture-met = (refl, refl, refl, refl, refl, refl, refl, refl, refl, refl, refl, refl)
+
+capture-length : storedLength (captureAnswer (lent 5) profileA 138 (lent 32)) 77 ∷ storedLength (captureAnswer (lent 5) profileA 138 (lent 31)) 77 ∷ []
+    ≡ 32 ∷ 77 ∷ []
 unfolding calls
 capture-length = refl
 
-restore-met : restoreNumber bytesA 1 5 1 (lent 18) ∷ restoreNumber bytesA 1 5 3 (lent 18) ∷ restoreNumber [] 1 5 1 (lent 18)
-    ∷ restoreNumber bytesA 1 5 2 (lent 18) ∷ restoreNumber bytesA 1 5 1 (lent 17) ∷ [] ≡ 0 ∷ 9 ∷ 7 ∷ 11 ∷ 8 ∷ []
+restore-met : (restored (restoreAnswer bytesA 1 5 1 (lent 18)) ≡ 0 ∷ 77 ∷ 77 ∷ [])
+    × (restored (restoreAnswer bytesA 1 5 3 (lent 18)) ≡ 9 ∷ nowhere ∷ nowhere ∷ [])
+    × (restored (restoreAnswer [] 1 5 1 (lent 18)) ≡ 7 ∷ nowhere ∷ nowhere ∷ [])
+    × (restored (restoreAnswer damagedA 1 5 1 (lent 18)) ≡ 7 ∷ 0 ∷ 6 ∷ [])
+    × (restored (restoreAnswer bytesA 1 5 2 (lent 18)) ≡ 11 ∷ nowhere ∷ nowhere ∷ [])
+    × (restored (restoreAnswer bytesA 1 5 1 (lent 17)) ≡ 8 ∷ nowhere ∷ nowhere ∷ [])
 unfolding calls bodyAgrees filingOf restoreIs inRange
-restore-met = refl
+restore-met = (refl, refl, refl, refl, refl, refl)
 
-restore-bits : restoreBits bytesA 1 5 1 (lent 18) 77 ∷ restoreBits bytesA 1 5 2 (lent 18) 77 ∷ [] ≡ 138 ∷ 77 ∷ []
+restore-bits : restoredLength (restoreAnswer bytesA 1 5 1 (lent 18)) 77 ∷ restoredLength (restoreAnswer bytesA 1 5 2 (lent 18)) 77 ∷ [] ≡ 138 ∷ 77 ∷ []
 unfolding calls bodyAgrees filingOf restoreIs inRange
 restore-bits = refl
 
@@ -88,21 +131,28 @@ abbrev to112 : List ℕ
 to112 = 1 ∷ 5 ∷ 1 ∷ 2 ∷ 0 ∷ 0 ∷ 3 ∷ 1 ∷ 1 ∷ 2 ∷ lent 24
 
 -- 9: an SSI out of its range, 33 words, a kind of destination that is none
-decide-met : decideNumber bytesA (to 100) ∷ decideNumber bytesA (to 16777216) ∷ decideNumber bytesA (1 ∷ 5 ∷ 1 ∷ 1 ∷ 1 ∷ 100 ∷ lent 27)
-    ∷ decideNumber bytesA (1 ∷ 5 ∷ 1 ∷ 3 ∷ 1 ∷ 100 ∷ lent 28) ∷ decideNumber [] (to 100) ∷ [] ≡ 0 ∷ 9 ∷ 9 ∷ 9 ∷ 7 ∷ []
-unfolding calls bodyAgrees filingOf requests rules request.requests partFor decideIs decideNumber
-decide-met = refl
+decide-met : (decided (decideAnswer bytesA (to 100)) ≡ 0 ∷ 77 ∷ 77 ∷ [])
+    × (decided (decideAnswer bytesA (to 16777216)) ≡ 9 ∷ nowhere ∷ nowhere ∷ [])
+    × (decided (decideAnswer bytesA (1 ∷ 5 ∷ 1 ∷ 1 ∷ 1 ∷ 100 ∷ lent 27)) ≡ 9 ∷ nowhere ∷ nowhere ∷ [])
+    × (decided (decideAnswer bytesA (1 ∷ 5 ∷ 1 ∷ 3 ∷ 1 ∷ 100 ∷ lent 28)) ≡ 9 ∷ nowhere ∷ nowhere ∷ [])
+    × (decided (decideAnswer [] (to 100)) ≡ 7 ∷ nowhere ∷ nowhere ∷ [])
+    × (decided (decideAnswer anotherA (to 100)) ≡ 7 ∷ 0 ∷ nowhere ∷ [])
+unfolding calls bodyAgrees filingOf requests rules request.requests partFor decideIs decideAnswer
+decide-met = (refl, refl, refl, refl, refl, refl)
 
 -- A held: barred 2 for 1/100, allowed for 1/200, not held for a number; a refusal leaves what was there
-decide-decision : decideDecision bytesA (to 100) 77 ∷ decideDecision bytesA (to 200) 77 ∷ decideDecision bytesA to112 77
-    ∷ decideDecision [] (to 100) 77 ∷ [] ≡ 2 ∷ 3 ∷ 4 ∷ 77 ∷ []
-unfolding calls bodyAgrees filingOf requests rules request.requests partFor decideIs decideDecision
+decide-decision : decidedVerdict (decideAnswer bytesA (to 100)) 77 ∷ decidedVerdict (decideAnswer bytesA (to 200)) 77
+    ∷ decidedVerdict (decideAnswer bytesA to112) 77 ∷ decidedVerdict (decideAnswer [] (to 100)) 77 ∷ [] ≡ 2 ∷ 3 ∷ 4 ∷ 77 ∷ []
+unfolding calls bodyAgrees filingOf requests rules request.requests partFor decideIs decideAnswer
 decide-decision = refl
 
-contents-met : contentsNumber (lent 5) (lent 17) ∷ contentsNumber [] (lent 17) ∷ contentsNumber (lent 5) (lent 16) ∷ [] ≡ 0 ∷ 7 ∷ 8 ∷ []
-unfolding calls listIs listing firstLine lines item decimal digits
-contents-met = refl
+contents-met : (stored (contentsAnswer (lent 5) (lent 17)) ≡ 0 ∷ 77 ∷ 77 ∷ [])
+    × (stored (contentsAnswer [] (lent 17)) ≡ 7 ∷ nowhere ∷ nowhere ∷ [])
+    × (stored (contentsAnswer damagedA (lent 17)) ≡ 7 ∷ 0 ∷ 6 ∷ [])
+    × (stored (contentsAnswer (lent 5) (lent 16)) ≡ 8 ∷ nowhere ∷ nowhere ∷ [])
+unfolding calls bodyAgrees filingOf listIs listing twoItems firstLine lines item decimal digits
+contents-met = (refl, refl, refl, refl)
 
-contents-length : contentsLength (lent 5) (lent 17) 77 ∷ contentsLength (lent 5) (lent 16) 77 ∷ [] ≡ 17 ∷ 77 ∷ []
-unfolding calls listIs listing firstLine lines item decimal digits
+contents-length : storedLength (contentsAnswer (lent 5) (lent 17)) 77 ∷ storedLength (contentsAnswer (lent 5) (lent 16)) 77 ∷ [] ≡ 17 ∷ 77 ∷ []
+unfolding calls listIs listing twoItems firstLine lines item decimal digits
 contents-length = refl

@@ -12,6 +12,7 @@ use Rattle.rules.specs.Request.{requestRefusal}
 use Rattle.rules.specs.Rule.{ruling}
 use Rattle.rules.specs.declared.request.Request.{Request}
 use Rattle.archive.specs.Model.{inRange}
+use Rattle.archive.specs.Refusals.{plain}
 use Rattle.archive.specs.Keeping.{over, emptyIs, emptyOut}
 use Rattle.archive.specs.Restoring.{restoreIs, restoreOut}
 use Rattle.archive.specs.History.{Offer, afterAll, lastAccepted}
@@ -42,7 +43,7 @@ module _ (home : ℕ) (lent : List ℕ) (m : ℕ) (e : emptyIs home (length lent
 
     -- or "not held", and no byte changed.
     pub restores-nothing-else : last k ≡ none
-        → (restoreIs archive k (length out) ≡ Refused 11) × (restoreOut archive k out ≡ out)
+        → (restoreIs archive k (length out) ≡ Refused (plain 11)) × (restoreOut archive k out ≡ out)
     restores-nothing-else = history.never home lent m e offers k r out
 
   module _ (q : Request) (f : requestRefusal q ≡ 0) where

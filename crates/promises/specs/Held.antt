@@ -1,5 +1,5 @@
 -- Which PDUs an archive may hold (otherwise 6), and under which entry, in plain values of document 01, with worked cases.
-use mathlib.Core.Path.{_≡_, refl, sym, _∙_}
+use mathlib.Core.Path.{_≡_, refl, sym, ap, _∙_}
 use mathlib.Core.Logic.{_↔_, _⊎_, inl, inr}
 use mathlib.Core.Bool.{Bool, true, false, _&&_}
 use mathlib.Core.List.{List, [], _∷_}
@@ -16,10 +16,12 @@ use Rattle.reader.specs.declared.Answer.the-variants as reader
 use Rattle.judging.specs.Judge.{mayHold}
 use Rattle.archive.specs.Model.{lengthOf, withinLimits}
 use Rattle.archive.specs.Reading.{isArchive}
-use Rattle.archive.specs.Keeping.{storedNumber, captured, placed, captureIs, captureOut}
+use Rattle.archive.specs.Refusals.{plain}
+use Rattle.archive.specs.Keeping.{storedRefusal, captured, placed, captureIs, captureOut}
 use Rattle.archive.specs.Examples.{calls}
 use Rattle.archive.specs.declared.Stored.{Stored}
 use Rattle.archive.specs.declared.Stored.the-variants.{Bytes, Refused}
+use Rattle.archive.proofs.Model.Checked.{archive-checked}
 
 -- an INTERROGATE ACK (PDU type 12) that accepts (interrogation result 1 or 2), for one user (affected range type 1)
 pub record Holdable (r : Record) : Type 0 where
@@ -61,14 +63,16 @@ module _ (b s : List ℕ) (n room : ℕ) (archive : isArchive b ≡ true) (legal
   fits = withinLimits (length (captured b s n .held)) (lengthOf (captured b s n)) && leb (lengthOf (captured b s n)) room
 
   answer : (t : Bool) → mayHold (readIs s n .found) ≡ t
-      → captureIs b s n room ≡ pick t (pick fits (Bytes (lengthOf (captured b s n))) (Refused 8)) (Refused 6)
+      → captureIs b s n room ≡ pick t (pick fits (Bytes (lengthOf (captured b s n))) (Refused (plain 8))) (Refused (plain 6))
   unfolding captureIs placed
-  answer t e = rw (archive, legal, e)
+  answer t e = rw (archive-checked b archive, legal, e)
 
-  not-6 : mayHold (readIs s n .found) ≡ true → captureIs b s n room ≡ Refused 6 → ⊥
-  not-6 m e = by-test (λ (a : Stored). a ≡ Refused 6 → ⊥) fits (λ x. never cc) (λ x. never cc) (sym (answer true m) ∙ e)
+  not-6 : mayHold (readIs s n .found) ≡ true → captureIs b s n room ≡ Refused (plain 6) → ⊥
+  not-6 m e =
+      let refused : Stored → ℕ = λ a. storedRefusal a .number in
+      by-test (λ (a : Stored). refused a ≡ 6 → ⊥) fits (λ x. omega (arith, x)) (λ x. omega (arith, x)) (ap refused (sym (answer true m) ∙ e))
 
-  pub gives-6 : (captureIs b s n room ≡ Refused 6) ↔ (Holdable (readIs s n .found) → ⊥)
+  pub gives-6 : (captureIs b s n room ≡ Refused (plain 6)) ↔ (Holdable (readIs s n .found) → ⊥)
   gives-6 = (
     λ e h. not-6 (is (readIs s n .found) h) e,
     λ none. answer false (false-unless _ (λ m. none (says (readIs s n .found) m))),
@@ -81,7 +85,7 @@ nothing = 0x00 ∷ 0x00 ∷ 0x01 ∷ 0x00 ∷ 0x00 ∷ []
 
 -- the number of the answer to a PDU of n bits
 abbrev number : List ℕ → ℕ → ℕ
-number s n = storedNumber (captureIs nothing s n 100)
+number s n = storedRefusal (captureIs nothing s n 100) .number
 
 -- results 1 and 2, with three empty lists: held
 accepting : (number (0x49 ∷ 0x82 ∷ 0x00 ∷ 0x00 ∷ 0x0a ∷ 0x21 ∷ 0x20 ∷ 0x00 ∷ []) 63 ≡ 0)

@@ -4,6 +4,7 @@ pub mod Demand2
 pub mod Demand3
 pub mod Held
 pub mod Archive
+pub mod Broken
 pub mod Profiles
 pub mod Cases
 pub mod Rules

@@ -19,7 +19,8 @@ use Rattle.archive.specs.declared.contents.Key.{Key}
 use Rattle.words.specs.RequestWords.{requestFrom}
 use Rattle.barring.specs.Decide.{keyFor}
 use Rattle.barring.specs.Decision.{decisionOf, verdictOf}
-use Rattle.boc.specs.Calls.{emptyNumber, emptyLength, captureNumber, captureLength, keyOf, restoreNumber, restoreBits, decideNumber, decideDecision}
+use Rattle.boc.specs.Calls.{emptyNumber, emptyLength, storedNumber, storedLength, captureAnswer, restoredNumber, restoredLength, keyOf, restoreAnswer}
+use Rattle.boc.specs.Calls.{decidedNumber, decidedVerdict, decideAnswer}
 
 -- a call of boc_capture: the PDU, its bits and the buffer; and the number behind the pointer before it
 pub record Call : Type 0 where
@@ -28,13 +29,13 @@ pub record Call : Type 0 where
 
 -- what it returns
 abbrev pub returned : List ℕ → Call → ℕ
-returned b c = captureNumber b (c .offer .pdu) (c .offer .bits) (c .offer .lent)
+returned b c = storedNumber (captureAnswer b (c .offer .pdu) (c .offer .bits) (c .offer .lent))
 
 -- after 0 one goes on with the first bytes of the buffer, as many as the pointer says; after any other number with the old archive
 unfoldable pub goneOn : List ℕ → Call → List ℕ
 goneOn b c =
     let o = c .offer in
-    pick (eqb (returned b c) 0) (take (captureLength b (o .pdu) (o .bits) (o .lent) (c .old)) (captureOut b (o .pdu) (o .bits) (o .lent))) b
+    pick (eqb (returned b c) 0) (take (storedLength (captureAnswer b (o .pdu) (o .bits) (o .lent)) (c .old)) (captureOut b (o .pdu) (o .bits) (o .lent))) b
 
 unfoldable pub goneOnAll : List ℕ → List Call → List ℕ
 goneOnAll b [] = b
@@ -56,20 +57,21 @@ pub record Promise (home : ℕ) (lent : List ℕ) (old : ℕ) (calls : List Call
   pub restores-the-last : emptyNumber home lent ≡ 0 → let b = goneOnAll (begun home lent old) calls in
       (network ssi part : ℕ) → network < 16777216 → ssi < 16777216 → 1 ≤ part → part ≤ 2 → (out : List ℕ) (bits : ℕ)
       → (o : Offer) → lastZero (keyOf network ssi part) (begun home lent old) none calls ≡ some o → bytesFor (o .bits) ≤ length out
-      → (restoreNumber b network ssi part out ≡ 0) × (restoreBits b network ssi part out bits ≡ o .bits)
+      → let answer = restoreAnswer b network ssi part out in (restoredNumber answer ≡ 0) × (restoredLength answer bits ≡ o .bits)
       × (restoreOut b (keyOf network ssi part) out ≡ over (o .pdu) out)
   -- or 11, and changes nothing.
   pub restores-nothing-else : emptyNumber home lent ≡ 0 → let b = goneOnAll (begun home lent old) calls in
       (network ssi part : ℕ) → network < 16777216 → ssi < 16777216 → 1 ≤ part → part ≤ 2 → (out : List ℕ) (bits : ℕ)
       → lastZero (keyOf network ssi part) (begun home lent old) none calls ≡ none
-      → (restoreNumber b network ssi part out ≡ 11) × (restoreBits b network ssi part out bits ≡ bits) × (restoreOut b (keyOf network ssi part) out ≡ out)
+      → let answer = restoreAnswer b network ssi part out in
+      (restoredNumber answer ≡ 11) × (restoredLength answer bits ≡ bits) × (restoreOut b (keyOf network ssi part) out ≡ out)
   -- Where boc_decide returns 0, the decision is the number of what the barring rule says by the record of that same PDU,
   pub decides-by-the-last : emptyNumber home lent ≡ 0 → let b = goneOnAll (begun home lent old) calls in
-      (words : List ℕ) (before : ℕ) → decideNumber b words ≡ 0 → let q = requestFrom words in
+      (words : List ℕ) (before : ℕ) → decidedNumber (decideAnswer b words) ≡ 0 → let q = requestFrom words in
       (o : Offer) → lastZero (keyFor q) (begun home lent old) none calls ≡ some o
-      → decideDecision b words before ≡ verdictOf (decisionOf (ruling home (readIs (o .pdu) (o .bits) .found) q))
+      → decidedVerdict (decideAnswer b words) before ≡ verdictOf (decisionOf (ruling home (readIs (o .pdu) (o .bits) .found) q))
   -- or 4, and nothing else.
   pub decides-by-nothing-else : emptyNumber home lent ≡ 0 → let b = goneOnAll (begun home lent old) calls in
-      (words : List ℕ) (before : ℕ) → decideNumber b words ≡ 0 → let q = requestFrom words in
+      (words : List ℕ) (before : ℕ) → decidedNumber (decideAnswer b words) ≡ 0 → let q = requestFrom words in
       lastZero (keyFor q) (begun home lent old) none calls ≡ none
-      → decideDecision b words before ≡ 4
+      → decidedVerdict (decideAnswer b words) before ≡ 4

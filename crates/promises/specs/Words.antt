@@ -13,7 +13,8 @@ use Rattle.words.specs.RequestWords.{areRequest, requestWords, requestFrom}
 use Rattle.words.specs.Sized.{SizedRecord, SizedRequest}
 use Rattle.words.proofs.RecordInverse as records
 use Rattle.words.proofs.RequestInverse as requests
-use Rattle.boc.specs.Calls.{readNumber, readWords, writeNumber, writeOut, writeBits, decideNumber}
+use Rattle.boc.specs.Calls.{readNumber, writeNumber, writeOut, writeBits, decidedNumber, decideAnswer}
+use Rattle.reader.specs.Words.{readWords}
 
 -- ---- records
 
@@ -48,4 +49,4 @@ pub record Promise : Type 0 where
   -- Words that boc_write accepts are exactly the words of the record that it writes,
   pub written-words : (w out : List ℕ) → writeNumber w out ≡ 0 → recordWords (recordFrom w) ≡ w
   -- and those on which boc_decide decides are exactly the words of its request: no length or digit among them is wider than a byte.
-  pub decided-words : (b w : List ℕ) → decideNumber b w ≡ 0 → requestWords (requestFrom w) ≡ w
+  pub decided-words : (b w : List ℕ) → decidedNumber (decideAnswer b w) ≡ 0 → requestWords (requestFrom w) ≡ w

@@ -13,6 +13,7 @@ use Rattle.grammar.specs.Grammar.{pdu, networkOf}
 use Rattle.grammar.specs.declared.record.Identity.{Identity}
 use Rattle.grammar.specs.declared.record.Record.{Record}
 use Rattle.reader.specs.Read.{readIs, refusalOf}
+use Rattle.reader.specs.declared.Answer.{Answer}
 use Rattle.reader.specs.declared.Answer.the-variants.{Accepted}
 use Rattle.reader.specs.declared.Reading.{Reading}
 use Rattle.pdu.specs.Accepted.{acceptedAs}
@@ -37,7 +38,7 @@ pub read-legal : (s : List ℕ) (n : ℕ) → readIs s n .answer ≡ Accepted �
 read-legal s n e = record {
   framed = accepted-framed s n e;
   legal = accepted-legal s n e;
-  bits = reading-kept.promise .success s n (ap refusalOf e) .2;
+  bits = reading-kept.promise .success s n (ap (λ (a : Answer). refusalOf a .number) e) .2;
 }
 
 pub legal : (s : List ℕ) (n : ℕ) (r : Record) → (readIs s n ≡ acceptedAs r) ↔ LegalPdu s n r

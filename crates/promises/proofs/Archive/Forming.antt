@@ -25,7 +25,7 @@ use Rattle.promises.proofs.Archive.Agreeing.{agrees-says, agrees-is}
 -- ---- entries that rise
 
 module _ (e f : Key) (he : KeyFits e) (hf : KeyFits f) where
-  before : rankOf e < rankOf f → Before e f
+  pub before : rankOf e < rankOf f → Before e f
   before l = go (ltb (e .network) (f .network)) refl (ltb (e .ssi) (f .ssi)) refl
     where
       go : (p : Bool) → ltb (e .network) (f .network) ≡ p → (q : Bool) → ltb (e .ssi) (f .ssi) ≡ q → Before e f
@@ -40,7 +40,7 @@ module _ (e f : Key) (he : KeyFits e) (hf : KeyFits f) where
           let same : e .network ≡ f .network = omega (arith, l, he .ssi, he .part, hf .ssi, hf .part) in
           archive.by-part same (omega (arith, l, he .part, hf .part)) (omega (arith, l, he .part, hf .part))
 
-  above : Before e f → rankOf e < rankOf f
+  pub above : Before e f → rankOf e < rankOf f
   above (archive.by-network n) = by-network e f he n
   above (archive.by-ssi n s) = by-ssi e f he n s
   above (archive.by-part n s p) = by-part e f n s p

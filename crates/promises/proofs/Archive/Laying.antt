@@ -38,11 +38,11 @@ laid-reads b at off (h ∷ hs) (e, body, more) =
     let there = laid-reads b (at + 9) (off + (h .entry .bits .0 + 7) / 8) hs more in
     λ i. here i ∷ (ap (λ (n : ℕ). heldFrom b (length hs) (at + 9) (off + n)) size ∙ there) i
 
-laid-size : (b : List ℕ) (at off : ℕ) (hs : List Held) → Laid b at off hs → off + sizes hs ≡ length b
+pub laid-size : (b : List ℕ) (at off : ℕ) (hs : List Held) → Laid b at off hs → off + sizes hs ≡ length b
 laid-size b at off [] l = omega (arith, l)
 laid-size b at off (h ∷ hs) (e, body, more) = omega (arith, laid-size b (at + 9) (off + (h .entry .bits .0 + 7) / 8) hs more)
 
-reads-laid : (b : List ℕ) (n at off : ℕ) → off + sizes (heldFrom b n at off) ≡ length b → Laid b at off (heldFrom b n at off)
+pub reads-laid : (b : List ℕ) (n at off : ℕ) → off + sizes (heldFrom b n at off) ≡ length b → Laid b at off (heldFrom b n at off)
 unfolding heldFrom
 reads-laid b zero at off e = omega (arith, e)
 reads-laid b (suc n) at off e =
@@ -61,14 +61,17 @@ archive-says b ok =
       laid = subst (λ (k : ℕ). Laid b 5 (5 + 9 * k) (heldIn b)) (sym n) (reads-laid b (countOf b) 5 (bodiesAt b) (o .whole));
     }
 
-pub archive-read : (b : List ℕ) (k : IsArchive b) → k .archive ≡ reading b
+-- an archive that is laid so is the one that is read
+pub read-as : (b : List ℕ) (a : Archive) → a .home ≡ archive.threeBytes b 0 → length (a .held) ≡ archive.twoBytes b 3
+    → Laid b 5 (5 + 9 * length (a .held)) (a .held) → a ≡ reading b
 unfolding reading
-archive-read b k =
-    let hs = k .archive .held in
-    let e : heldIn b ≡ hs =
-    ap (λ (n : ℕ). heldFrom b n 5 (5 + 9 * n)) (sym (k .count)) ∙ laid-reads b 5 (5 + 9 * length hs) hs (k .laid)
-    in
-    λ i. record { home = k .home i; held = sym e i }
+read-as b a home count laid =
+    let hs = a .held in
+    let e : heldIn b ≡ hs = ap (λ (n : ℕ). heldFrom b n 5 (5 + 9 * n)) (sym count) ∙ laid-reads b 5 (5 + 9 * length hs) hs laid in
+    λ i. record { home = home i; held = sym e i }
+
+pub archive-read : (b : List ℕ) (k : IsArchive b) → k .archive ≡ reading b
+archive-read b k = read-as b (k .archive) (k .home) (k .count) (k .laid)
 
 pub archive-is : (b : List ℕ) → IsArchive b → isArchive b ≡ true
 unfolding isArchive

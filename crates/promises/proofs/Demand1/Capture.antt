@@ -17,7 +17,14 @@ use Rattle.judging.specs.Judge.{mayHold}
 use Rattle.archive.specs.Model.{Held, Archive, lengthOf}
 use Rattle.archive.specs.Filing.{entryFor, bodyAgrees, keepsRules}
 use Rattle.archive.specs.Reading.{reading, isArchive}
-use Rattle.archive.specs.Keeping.{storedNumber, heldFor, captured, captureIs}
+use Rattle.archive.specs.Refusals.{plain, ofPdu}
+use Rattle.archive.specs.Checking.{checkIs}
+use Rattle.walk.specs.declared.BitPlace.{BitPlace}
+use Rattle.walk.specs.declared.Refusal as pdu
+use Rattle.archive.specs.declared.refusal.Refusal.{Refusal}
+use Rattle.archive.specs.declared.checking.Checked.{Checked}
+use Rattle.archive.specs.declared.checking.Checked.the-variants as checked
+use Rattle.archive.specs.Keeping.{storedRefusal, heldFor, captured, captureIs}
 use Rattle.archive.specs.Restoring.{lookup}
 use Rattle.archive.specs.declared.contents.Entry.{Entry}
 use Rattle.archive.specs.declared.Stored.the-variants.{Bytes, Refused}
@@ -31,10 +38,13 @@ use Rattle.promises.specs.Held.{may-be-held}
 use Rattle.promises.specs.Archive as said
 use Rattle.promises.specs.Archive.{Agrees, IsArchive, Ranged, HeldFor}
 use Rattle.promises.specs.Demand1.Reading as read
-use Rattle.promises.specs.Demand1.Capture.{number, Offered, Full, result, Given, Promise}
+use Rattle.promises.specs.Demand1.Capture.{answer, Offered, Full, result, Given, Promise}
 use Rattle.promises.specs.Demand1.Capture.{success, damaged, unread, not-kept, full, too-long, no-room}
 use Rattle.promises.proofs.Tables.{exactly, wider}
+use Rattle.promises.specs.Broken as breaking
 use Rattle.promises.proofs.Archive as archive-kept
+use Rattle.promises.proofs.Broken as broken-kept
+use Rattle.promises.proofs.Broken.{seven}
 use Rattle.promises.proofs.Archive.Agreeing.{agreed-entry, filed-agrees}
 use Rattle.promises.proofs.Archive.Forming.{length-bytes}
 use Rattle.promises.proofs.Demand1.Reading as reading-kept
@@ -42,16 +52,19 @@ use Rattle.promises.proofs.Demand1.Reading as reading-kept
 abbrev archives : said.Promise
 archives = archive-kept.promise
 
+abbrev broken : breaking.Promise
+broken = broken-kept.promise
+
 -- ---- a PDU that is not filed
 
 module _ (b s : List ℕ) (n room : ℕ) where
-  pdu-refused : {k : ℕ} → isArchive b ≡ true → readIs s n .answer ≡ reader.Refused k → captureIs b s n room ≡ Refused k
+  pdu-refused : {f : pdu.Refusal} → IsArchive b → readIs s n .answer ≡ reader.Refused f → captureIs b s n room ≡ Refused (ofPdu f)
   unfolding captureIs
-  pdu-refused e f = rw (e, f)
+  pdu-refused k f = rw (broken.passes b .1 k, f)
 
-  may-not : isArchive b ≡ true → readIs s n .answer ≡ reader.Accepted → mayHold (readIs s n .found) ≡ false → captureIs b s n room ≡ Refused 6
+  may-not : IsArchive b → readIs s n .answer ≡ reader.Accepted → mayHold (readIs s n .found) ≡ false → captureIs b s n room ≡ Refused (plain 6)
   unfolding captureIs
-  may-not e f g = rw (e, f, g)
+  may-not k f g = rw (broken.passes b .1 k, f, g)
 
 is-none : (l : Option Held) → isNone l ≡ true → l ≡ none
 is-none none e = refl
@@ -68,8 +81,8 @@ module _ (b s : List ℕ) (n room : ℕ) where
   abbrev isFull : Bool
   isFull = fullFor b filed
 
-  abbrev Both : ℕ → Type 0
-  Both k = Given b s n room k × OneOf (read.numbers ++ (7 ∷ 6 ∷ 8 ∷ [])) k
+  abbrev Both : Refusal → Type 0
+  Both f = Given b s n room f × OneOf (read.numbers ++ (7 ∷ 6 ∷ 8 ∷ [])) (f .number)
 
   archive : IsArchive b → isArchive b ≡ true
   archive k = archives.is-archive b .1 k
@@ -129,14 +142,14 @@ module _ (b s : List ℕ) (n room : ℕ) where
         both⁻¹ (ap isNone (archives.not-found b (archive (o .archive)) (y .key) ranged .1 new))
         (eq-eqb _ _ (subst (λ (a : Archive). length (a .held) ≡ 512) same (f .count)))
 
-    placed : captureIs b s n room ≡ pick (isFull || (ltb 65536 size || ltb room size)) (Refused 8) (Bytes size)
+    placed : captureIs b s n room ≡ pick (isFull || (ltb 65536 size || ltb room size)) (Refused (plain 8)) (Bytes size)
     placed = eight b s n room (archive (o .archive)) (o .accepted) may
 
-    offered : Both (number b s n room)
-    offered = subst Both (sym (ap storedNumber placed)) (go isFull refl (ltb 65536 size) refl (ltb room size) refl)
+    offered : Both (answer b s n room)
+    offered = subst Both (sym (ap storedRefusal placed)) (go isFull refl (ltb 65536 size) refl (ltb room size) refl)
       where
         go : (p : Bool) → isFull ≡ p → (q : Bool) → ltb 65536 size ≡ q → (t : Bool) → ltb room size ≡ t
-            → Both (storedNumber (pick (p || (q || t)) (Refused 8) (Bytes size)))
+            → Both (storedRefusal (pick (p || (q || t)) (Refused (plain 8)) (Bytes size)))
         go true e q f t g = (full o (is-full e), refl)
         go false e true f t g = (too-long o (omega (arith, long, ltb-true 65536 size f)), refl)
         go false e false f true g = (no-room o (omega (arith, long, ltb-true room size g)), refl)
@@ -145,71 +158,76 @@ module _ (b s : List ℕ) (n room : ℕ) where
             let h : length (result b s n) ≤ room = omega (arith, long, ltb-false room size g) in
             (success o (λ x. differ (sym (full-is x) ∙ e)) l h, refl)
 
-    over : isFull || (ltb 65536 size || ltb room size) ≡ true → number b s n room ≡ 8
-    over e = ap storedNumber (placed ∙ ap (λ (t : Bool). pick t (Refused 8) (Bytes size)) e)
+    over : isFull || (ltb 65536 size || ltb room size) ≡ true → answer b s n room ≡ plain 8
+    over e = ap storedRefusal (placed ∙ ap (λ (t : Bool). pick t (Refused (plain 8)) (Bytes size)) e)
 
     fits : (Full b s n (o .archive) → ⊥) → length (result b s n) ≤ 65536 → length (result b s n) ≤ room → captureIs b s n room ≡ Bytes size
     fits f l h =
         let none = false-unless isFull (λ t. f (is-full t)) in
         let short = le-ltb 65536 size (omega (arith, long, l)) in
         let room-for = le-ltb room size (omega (arith, long, h)) in
-        placed ∙ (λ i. pick (none i || (short i || room-for i)) (Refused 8) (Bytes size))
+        placed ∙ (λ i. pick (none i || (short i || room-for i)) (Refused (plain 8)) (Bytes size))
 
   -- ---- the table
 
   -- no PDU is refused with 0
-  accepted-not : readIs s n .answer ≡ reader.Refused 0 → ⊥
+  accepted-not : {p : BitPlace} → readIs s n .answer ≡ reader.Refused (read.told 0 p) → ⊥
   accepted-not f =
-      let a : readIs s n .answer ≡ reader.Accepted = reading-kept.promise .success s n (ap refusalOf f) .0 in
+      let a : readIs s n .answer ≡ reader.Accepted = reading-kept.promise .success s n (ap (λ (x : Answer). refusalOf x .number) f) .0 in
       never cc
 
-  row : Both (number b s n room)
-  row = go (isArchive b) refl (readIs s n .answer) refl (mayHold (readIs s n .found)) refl
+  row : Both (answer b s n room)
+  row = go (checkIs b) refl (readIs s n .answer) refl (mayHold (readIs s n .found)) refl
     where
-      to : {k : ℕ} → captureIs b s n room ≡ Refused k → Both k → Both (number b s n room)
-      to e h = subst Both (sym (ap storedNumber e)) h
+      to : {f : Refusal} → captureIs b s n room ≡ Refused f → Both f → Both (answer b s n room)
+      to e h = subst Both (sym (ap storedRefusal e)) h
 
-      go : (p : Bool) → isArchive b ≡ p → (a : Answer) → readIs s n .answer ≡ a → (q : Bool) → mayHold (readIs s n .found) ≡ q
-          → Both (number b s n room)
-      go false e a f q g = to (no-archive b s n room e) (damaged (λ k. differ (sym (archive k) ∙ e)), refl)
-      go true e (reader.Refused zero) f q g = absurd (accepted-not f)
-      go true e (reader.Refused (suc k)) f q g =
-          let listed = subst (λ (a : Answer). OneOf read.numbers (refusalOf a)) f (reading-kept.promise .table s n .listed) in
-          to (pdu-refused b s n room e f) (unread k (archives.is-archive b .0 e) f, wider read.numbers (7 ∷ 6 ∷ 8 ∷ []) (suc k) listed)
-      go true e reader.Accepted f false g =
-          to (may-not b s n room e f g)
-          (not-kept (archives.is-archive b .0 e) f (λ m. differ (sym (may-be-held (readIs s n .found) .1 m) ∙ g)), refl)
-      go true e reader.Accepted f true g =
-          offered (record { archive = archives.is-archive b .0 e; accepted = f; may = may-be-held (readIs s n .found) .0 g })
+      unread-row : IsArchive b → (k : ℕ) (p : BitPlace) → readIs s n .answer ≡ reader.Refused (read.told k p) → Both (answer b s n room)
+      unread-row a zero p f = absurd (accepted-not f)
+      unread-row a (suc k) p f =
+          let listed = subst (λ (x : Answer). OneOf read.numbers (refusalOf x .number)) f (reading-kept.promise .table s n .listed) in
+          to (pdu-refused b s n room a f) (unread k p a f, wider read.numbers (7 ∷ 6 ∷ 8 ∷ []) (suc k) listed)
+
+      go : (c : Checked) → checkIs b ≡ c → (a : Answer) → readIs s n .answer ≡ a → (q : Bool) → mayHold (readIs s n .found) ≡ q
+          → Both (answer b s n room)
+      go (checked.Refused x) e a f q g =
+          let k = broken.refuses b x .0 e in
+          to (no-archive b s n room e) (damaged x k, subst (OneOf (read.numbers ++ (7 ∷ 6 ∷ 8 ∷ []))) (sym (seven k)) refl)
+      go checked.Archive e (reader.Refused x) f q g = unread-row (broken.passes b .0 e) (x .number) (x .place) f
+      go checked.Archive e reader.Accepted f false g =
+          let k = broken.passes b .0 e in
+          to (may-not b s n room k f g) (not-kept k f (λ m. differ (sym (may-be-held (readIs s n .found) .1 m) ∙ g)), refl)
+      go checked.Archive e reader.Accepted f true g =
+          offered (record { archive = broken.passes b .0 e; accepted = f; may = may-be-held (readIs s n .found) .0 g })
 
   or-true : (p : Bool) {q : Bool} → q ≡ true → p || q ≡ true
   or-true true e = refl
   or-true false e = e
 
-  back : (k : ℕ) → Given b s n room k → number b s n room ≡ k
-  back k (success o f l h) = ap storedNumber (fits o f l h)
-  back k (damaged e) = ap storedNumber (no-archive b s n room (false-unless _ (λ t. e (archives.is-archive b .0 t))))
-  back k (unread m e f) = ap storedNumber (pdu-refused b s n room (archive e) f)
-  back k (not-kept e f g) =
-      ap storedNumber (may-not b s n room (archive e) f (false-unless _ (λ t. g (may-be-held (readIs s n .found) .0 t))))
-  back k (full o f) = over o (ap (λ (p : Bool). p || (ltb 65536 size || ltb room size)) (full-is o f))
-  back k (too-long o h) = over o (or-true isFull (ap (λ (q : Bool). q || ltb room size) (lt-ltb 65536 size (omega (arith, long o, h)))))
-  back k (no-room o h) = over o (or-true isFull (or-true (ltb 65536 size) (lt-ltb room size (omega (arith, long o, h)))))
+  back : (x : Refusal) → Given b s n room x → answer b s n room ≡ x
+  back x (success o f l h) = ap storedRefusal (fits o f l h)
+  back x (damaged y k) = ap storedRefusal (no-archive b s n room (broken.refuses b y .1 k))
+  back x (unread m p e f) = ap storedRefusal (pdu-refused b s n room e f)
+  back x (not-kept e f g) =
+      ap storedRefusal (may-not b s n room e f (false-unless _ (λ t. g (may-be-held (readIs s n .found) .0 t))))
+  back x (full o f) = over o (ap (λ (p : Bool). p || (ltb 65536 size || ltb room size)) (full-is o f))
+  back x (too-long o h) = over o (or-true isFull (ap (λ (q : Bool). q || ltb room size) (lt-ltb 65536 size (omega (arith, long o, h)))))
+  back x (no-room o h) = over o (or-true isFull (or-true (ltb 65536 size) (lt-ltb room size (omega (arith, long o, h)))))
 
-  written : (k : ℕ) → Given b s n room k → k ≡ 0 → (captureIs b s n room ≡ Bytes size) × (length (result b s n) ≡ size)
-  written k (success o f l h) z = (fits o f l h, long o)
-  written k (damaged e) z = absurd (omega arith)
-  written k (unread m e f) z = absurd (omega arith)
-  written k (not-kept e f g) z = absurd (omega arith)
-  written k (full o f) z = absurd (omega arith)
-  written k (too-long o h) z = absurd (omega arith)
-  written k (no-room o h) z = absurd (omega arith)
+  written : (x : Refusal) → Given b s n room x → x .number ≡ 0 → (captureIs b s n room ≡ Bytes size) × (length (result b s n) ≡ size)
+  written x (success o f l h) z = (fits o f l h, long o)
+  written x (damaged y k) z = absurd (omega (arith, seven k, z))
+  written x (unread m p e f) z = absurd (omega arith)
+  written x (not-kept e f g) z = absurd (omega arith)
+  written x (full o f) z = absurd (omega arith)
+  written x (too-long o h) z = absurd (omega arith)
+  written x (no-room o h) z = absurd (omega arith)
 
 pub promise : Promise
 promise = record {
   table = λ b s n room. exactly (Given b s n room) (row b s n room .0) (row b s n room .1) (back b s n room);
   success = λ b s n out e.
-      let w = written b s n (length out) (number b s n (length out)) (row b s n (length out) .0) e in
+      let w = written b s n (length out) (answer b s n (length out)) (row b s n (length out) .0) e in
       (w .0 ∙ ap Bytes (sym (w .1)), capture-leaves b s n out (w .0));
   refusal = λ b s n out k e. capture-leaves b s n out e;
 }

@@ -16,27 +16,33 @@ use Rattle.rules.specs.Matching.{covered}
 use Rattle.rules.specs.declared.request.Request.{Request}
 use Rattle.rules.specs.declared.Ruling.the-variants.{Allowed, Barred}
 use Rattle.archive.specs.Model.{Held}
-use Rattle.archive.specs.Reading.{reading, isArchive}
+use Rattle.archive.specs.Reading.{reading}
+use Rattle.archive.specs.Refusals.{plain}
+use Rattle.archive.specs.Checking.{checkIs, ifArchive}
+use Rattle.archive.specs.declared.refusal.Refusal.{Refusal}
+use Rattle.archive.specs.declared.checking.Checked.{Checked}
+use Rattle.archive.specs.declared.checking.Checked.the-variants as checked
 use Rattle.barring.specs.Decide.{judgedBy, partIn, decideIs}
-use Rattle.barring.specs.Decision.{decisionOf, decidedNumber, verdictOf}
+use Rattle.barring.specs.Decision.{decisionOf, decidedRefusal, verdictOf}
 use Rattle.barring.specs.declared.Decision.{Decision}
 use Rattle.barring.specs.declared.Decision.the-variants.{Refused}
 use Rattle.promises.specs.Answers.{OneOf}
-use Rattle.promises.specs.Demand1.Decision.{number, Ranged, Given, success, unranged, damaged, Promise}
+use Rattle.promises.specs.Demand1.Decision.{answer, Ranged, Given, success, unranged, damaged, Promise}
 use Rattle.promises.specs.Demand1.Decision.{Verdict, outside-group, restricted-service, restricted-address, allowed, not-held}
 use Rattle.promises.proofs.Tables.{exactly}
 use Rattle.promises.proofs.Requests.{test, in-range, passes, ranged}
-use Rattle.promises.specs.Archive as said
-use Rattle.promises.proofs.Archive as archive-kept
+use Rattle.promises.specs.Broken as breaking
+use Rattle.promises.proofs.Broken as broken-kept
+use Rattle.promises.proofs.Broken.{seven}
 
-abbrev archives : said.Promise
-archives = archive-kept.promise
+abbrev broken : breaking.Promise
+broken = broken-kept.promise
 
 -- a decision, with its number
 abbrev Decided : Decision → Type 0
 Decided d = Verdict (verdictOf d) d
 
-verdict-number : {n : ℕ} {d : Decision} → Verdict n d → decidedNumber d ≡ 0
+verdict-number : {n : ℕ} {d : Decision} → Verdict n d → decidedRefusal d ≡ plain 0
 verdict-number outside-group = refl
 verdict-number restricted-service = refl
 verdict-number restricted-address = refl
@@ -70,46 +76,47 @@ module _ (q : Request) where
   -- ---- the answer
 
   module _ (b : List ℕ) where
-    abbrev answerBy : Bool → Bool → Decision
-    answerBy ranged archive =
-        pick (eqb (pick ranged 0 9) 0) (pick archive (judgedBy (reading b .home) q (partIn b q)) (Refused 7)) (Refused (pick ranged 0 9))
+    abbrev answerBy : Bool → Checked → Decision
+    answerBy ranged c =
+        pick (eqb (pick ranged 0 9) 0) (ifArchive c Refused (judgedBy (reading b .home) q (partIn b q))) (Refused (plain (pick ranged 0 9)))
 
-    answer : (t a : Bool) → test q ≡ t → isArchive b ≡ a → decideIs b q ≡ answerBy t a
+    by : (t : Bool) (c : Checked) → test q ≡ t → checkIs b ≡ c → decideIs b q ≡ answerBy t c
     unfolding decideIs requestRefusal
-    answer t a e f = rw (e, f)
+    by t c e f = rw (e, f)
 
-    decided : Decided (answerBy true true)
+    decided : Decided (answerBy true checked.Archive)
     decided = judged (reading b .home) (partIn b q)
 
-    abbrev Both : ℕ → Type 0
-    Both k = Given b q k × OneOf (0 ∷ 9 ∷ 7 ∷ []) k
+    abbrev Both : Refusal → Type 0
+    Both f = Given b q f × OneOf (0 ∷ 9 ∷ 7 ∷ []) (f .number)
 
-    row : Both (number b q)
-    row = go (test q) refl (isArchive b) refl
+    row : Both (answer b q)
+    row = go (test q) refl (checkIs b) refl
       where
-        to : {k : ℕ} → number b q ≡ k → Both k → Both (number b q)
+        to : {f : Refusal} → answer b q ≡ f → Both f → Both (answer b q)
         to e h = subst Both (sym e) h
 
-        go : (t : Bool) → test q ≡ t → (a : Bool) → isArchive b ≡ a → Both (number b q)
-        go false e a f = to (ap decidedNumber (answer false a e f)) (unranged (λ r. differ (sym (passes q r) ∙ e)), refl)
-        go true e false f =
-            to (ap decidedNumber (answer true false e f)) (damaged (in-range q e) (λ k. differ (sym (archives.is-archive b .1 k) ∙ f)), refl)
-        go true e true f =
-            to (ap decidedNumber (answer true true e f) ∙ verdict-number decided) (success (in-range q e) (archives.is-archive b .0 f), refl)
+        go : (t : Bool) → test q ≡ t → (c : Checked) → checkIs b ≡ c → Both (answer b q)
+        go false e c f = to (ap decidedRefusal (by false c e f)) (unranged (λ r. differ (sym (passes q r) ∙ e)), refl)
+        go true e (checked.Refused x) f =
+            let k = broken.refuses b x .0 f in
+            to (ap decidedRefusal (by true (checked.Refused x) e f)) (damaged x (in-range q e) k, subst (OneOf (0 ∷ 9 ∷ 7 ∷ [])) (sym (seven k)) refl)
+        go true e checked.Archive f =
+            to (ap decidedRefusal (by true checked.Archive e f) ∙ verdict-number decided) (success (in-range q e) (broken.passes b .0 f), refl)
 
-    back : (k : ℕ) → Given b q k → number b q ≡ k
-    back k (success r a) = ap decidedNumber (answer true true (passes q r) (archives.is-archive b .1 a)) ∙ verdict-number decided
-    back k (unranged r) = ap decidedNumber (answer false (isArchive b) (false-unless (test q) (λ e. r (in-range q e))) refl)
-    back k (damaged r a) = ap decidedNumber (answer true false (passes q r) (false-unless _ (λ e. a (archives.is-archive b .0 e))))
+    back : (f : Refusal) → Given b q f → answer b q ≡ f
+    back f (success r a) = ap decidedRefusal (by true checked.Archive (passes q r) (broken.passes b .1 a)) ∙ verdict-number decided
+    back f (unranged r) = ap decidedRefusal (by false (checkIs b) (false-unless (test q) (λ e. r (in-range q e))) refl)
+    back f (damaged x r k) = ap decidedRefusal (by true (checked.Refused x) (passes q r) (broken.refuses b x .1 k))
 
     -- what is decided is in its range, and from an archive
-    pub accepted : (k : ℕ) → Given b q k → k ≡ 0 → Ranged q × (isArchive b ≡ true)
-    accepted k (success r a) z = (r, archives.is-archive b .1 a)
-    accepted k (unranged r) z = absurd (omega arith)
-    accepted k (damaged r a) z = absurd (omega arith)
+    pub accepted : (f : Refusal) → Given b q f → f .number ≡ 0 → Ranged q × (checkIs b ≡ checked.Archive)
+    accepted f (success r a) z = (r, broken.passes b .1 a)
+    accepted f (unranged r) z = absurd (omega arith)
+    accepted f (damaged x r k) z = absurd (omega (arith, seven k, z))
 
-    succeeds : number b q ≡ 0 → Decided (decideIs b q)
-    succeeds e = let s = accepted (number b q) (row .0) e in subst Decided (sym (answer true true (passes q (s .0)) (s .1))) decided
+    succeeds : answer b q .number ≡ 0 → Decided (decideIs b q)
+    succeeds e = let s = accepted (answer b q) (row .0) e in subst Decided (sym (by true checked.Archive (passes q (s .0)) (s .1))) decided
 
 pub promise : Promise
 promise = record {

@@ -9,7 +9,8 @@ use lib.Dec.{ltb, leb}
 use borrow.Author.Tests.{ltb-true, ltb-false, leb-true, leb-false, lt-ltb, le-ltb, le-leb, lt-leb}
 use Rattle.bits.specs.Bits.{pick}
 use Rattle.archive.specs.Model.{headerWidth, headerBytes, bytesOf}
-use Rattle.archive.specs.Keeping.{storedNumber, leaves, emptyOf, emptyIs, emptyOut}
+use Rattle.archive.specs.Refusals.{plain}
+use Rattle.archive.specs.Keeping.{storedRefusal, leaves, emptyOf, emptyIs, emptyOut}
 use Rattle.archive.specs.declared.Stored.{Stored}
 use Rattle.archive.specs.declared.Stored.the-variants.{Bytes, Refused}
 use Rattle.promises.specs.Answers.{OneOf}
@@ -17,7 +18,7 @@ use Rattle.promises.specs.Demand1.Empty.{number, Given, success, unrange
 use Rattle.promises.proofs.Tables.{exactly}
 
 abbrev answerBy : Bool → Bool → Stored
-answerBy ranged room = pick ranged (pick room (Bytes headerWidth) (Refused 8)) (Refused 9)
+answerBy ranged room = pick ranged (pick room (Bytes headerWidth) (Refused (plain 8))) (Refused (plain 9))
 
 module _ (home room : ℕ) where
   abbrev Both : ℕ → Type 0
@@ -27,16 +28,20 @@ module _ (home room : ℕ) where
   unfolding emptyIs
   row = go (ltb home 16777216) refl (leb headerWidth room) refl
     where
-      go : (p : Bool) → ltb home 16777216 ≡ p → (q : Bool) → leb headerWidth room ≡ q → Both (storedNumber (answerBy p q))
+      go : (p : Bool) → ltb home 16777216 ≡ p → (q : Bool) → leb headerWidth room ≡ q → Both (storedRefusal (answerBy p q) .number)
       go true e true f = (success (ltb-true _ _ e) (leb-true _ _ f), refl)
       go true e false f = (no-room (ltb-true _ _ e) (leb-false _ _ f), refl)
       go false e q f = (unranged (ltb-false _ _ e), refl)
 
+  -- the number of an answer
+  numbered : {a : Stored} → emptyIs home room ≡ a → number home room ≡ storedRefusal a .number
+  numbered e = ap (λ (x : Stored). storedRefusal x .number) e
+
   back : (k : ℕ) → Given home room k → number home room ≡ k
   unfolding emptyIs
-  back k (success h l) = rw (lt-ltb _ _ h, le-leb _ _ l)
-  back k (unranged h) = rw (le-ltb _ _ h)
-  back k (no-room h l) = rw (lt-ltb _ _ h, lt-leb _ _ l)
+  back k (success h l) = numbered {a = Bytes headerWidth} (rw (lt-ltb _ _ h, le-leb _ _ l))
+  back k (unranged h) = numbered {a = Refused (plain 9)} (rw (le-ltb _ _ h))
+  back k (no-room h l) = numbered {a = Refused (plain 8)} (rw (lt-ltb _ _ h, lt-leb _ _ l))
 
   written : (k : ℕ) → Given home room k → k ≡ 0 → emptyIs home room ≡ Bytes headerWidth
   unfolding emptyIs

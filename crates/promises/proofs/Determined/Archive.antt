@@ -16,7 +16,7 @@ pub list-determined : Determined archive.listing.list.Kinds.ps archive.listing.l
 list-determined = by-equations (λ κs a x v p. (p .0, λ i. (tt, (p .1 i, tt))))
 
 pub report-determined : Determined archive.listing.report.Kinds.ps archive.listing.report.Kinds.r archive.listing.report.Reads.Learnt
-report-determined = by-equations (λ κs a x v p. (p .0, λ i. (tt, (p .1 i, tt))))
+report-determined = by-equations (λ κs a x v p. (p .0, λ i. (tt, (p .1 .0 i, (p .1 .1 i, tt)))))
 
 pub fetch-determined : Determined archive.fetch.Kinds.ps archive.fetch.Kinds.r archive.fetch.Reads.Learnt
 fetch-determined = by-equations (λ κs a x v p. (p, refl))

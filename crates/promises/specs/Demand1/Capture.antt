@@ -1,4 +1,4 @@
--- Demand 1, capture: "7, the PDU's 1 to 5 and 10, 6, 8. Each is given exactly then."
+-- Demand 1, capture: "7, the PDU's 1 to 5 and 10, 6, 8. Each is given exactly then." With 7 its entry and place, with the PDU's its place.
 use mathlib.Core.Path.{_≡_, refl}
 use mathlib.Core.List.{List, [], _∷_, _++_}
 use Prim.Native.Nat.{ℕ, suc, _≤_, _<_}
@@ -6,17 +6,24 @@ use lib.ListN.{length, replicate}
 use Rattle.reader.specs.Read.{readIs}
 use Rattle.reader.specs.declared.Answer.the-variants as reader
 use Rattle.archive.specs.Model.{Held, bytesOf}
-use Rattle.archive.specs.Keeping.{storedNumber, over, captured, captureIs, captureOut}
+use Rattle.archive.specs.Keeping.{storedRefusal, over, captured, captureIs, captureOut}
+use Rattle.archive.specs.Refusals.{plain, ofPdu, ofBody}
+use Rattle.archive.specs.Filing.{filingOf, bodyAgrees}
 use Rattle.archive.specs.Examples.{calls, profileA}
+use Rattle.walk.specs.declared.BitPlace.{BitPlace}
+use Rattle.walk.specs.declared.BitPlace.the-variants.{At}
+use Rattle.archive.specs.declared.refusal.EntryPlace.the-variants as entry
+use Rattle.archive.specs.declared.refusal.Refusal.{Refusal}
 use Rattle.archive.specs.declared.contents.Entry.{Entry}
 use Rattle.archive.specs.declared.Stored.the-variants.{Bytes, Refused}
 use Rattle.promises.specs.Answers.{Exactly}
 use Rattle.promises.specs.Held.{Holdable}
 use Rattle.promises.specs.Archive.{Agrees, IsArchive, HeldFor}
+use Rattle.promises.specs.Broken.{numberOf, Broken}
 use Rattle.promises.specs.Demand1.Reading as read
 
-abbrev pub number : List ℕ → List ℕ → ℕ → ℕ → ℕ
-number b s n room = storedNumber (captureIs b s n room)
+abbrev pub answer : List ℕ → List ℕ → ℕ → ℕ → Refusal
+answer b s n room = storedRefusal (captureIs b s n room)
 
 -- an archive, and a legal PDU that it may hold
 pub record Offered (b s : List ℕ) (n : ℕ) : Type 0 where
@@ -37,19 +44,20 @@ abbrev pub result : List ℕ → List ℕ → ℕ → List ℕ
 result b s n = bytesOf (captured b s n)
 
 -- the table of refusals, as far as capture goes
-pub data Given (b s : List ℕ) (n room : ℕ) : ℕ → Type 0 where
+pub data Given (b s : List ℕ) (n room : ℕ) : Refusal → Type 0 where
   success : (o : Offered b s n) → (Full b s n (o .archive) → ⊥) → length (result b s n) ≤ 65536 → length (result b s n) ≤ room
-      → Given b s n room 0
+      → Given b s n room (plain 0)
   -- 7: the archive breaks a rule
-  damaged : (IsArchive b → ⊥) → Given b s n room 7
+  damaged : (f : Refusal) → Broken b f → Given b s n room f
   -- 1 to 5 and 10: those of reading
-  unread : (k : ℕ) → IsArchive b → readIs s n .answer ≡ reader.Refused (suc k) → Given b s n room (suc k)
+  unread : (k : ℕ) (p : BitPlace) → IsArchive b → readIs s n .answer ≡ reader.Refused (read.told (suc k) p)
+      → Given b s n room (record { number = suc k; entry = entry.Nowhere; place = p })
   -- 6: a legal PDU that no archive entry may hold
-  not-kept : IsArchive b → readIs s n .answer ≡ reader.Accepted → (Holdable (readIs s n .found) → ⊥) → Given b s n room 6
+  not-kept : IsArchive b → readIs s n .answer ≡ reader.Accepted → (Holdable (readIs s n .found) → ⊥) → Given b s n room (plain 6)
   -- 8: a new key with 512 held, or the result exceeds 65,536 bytes or the lent buffer
-  full : (o : Offered b s n) → Full b s n (o .archive) → Given b s n room 8
-  too-long : Offered b s n → 65536 < length (result b s n) → Given b s n room 8
-  no-room : Offered b s n → room < length (result b s n) → Given b s n room 8
+  full : (o : Offered b s n) → Full b s n (o .archive) → Given b s n room (plain 8)
+  too-long : Offered b s n → 65536 < length (result b s n) → Given b s n room (plain 8)
+  no-room : Offered b s n → room < length (result b s n) → Given b s n room (plain 8)
 
 -- an archive that holds nothing, and an INTERROGATE
 abbrev nothing : List ℕ
@@ -58,25 +66,30 @@ nothing = replicate 5 0
 abbrev asking : List ℕ
 asking = 0x49 ∷ 0x62 ∷ 0x00 ∷ 0x00 ∷ 0x0a ∷ 0x40 ∷ []
 
--- each number is met
-met : (number nothing profileA 138 32 ≡ 0)
-    × (number [] [] 0 0 ≡ 7)
-    × (number nothing [] 1 0 ≡ 1)
-    × (number nothing [] 0 0 ≡ 2)
-    × (number nothing (0x00 ∷ []) 6 0 ≡ 3)
-    × (number nothing (0x49 ∷ 0x72 ∷ 0x00 ∷ 0x01 ∷ 0x90 ∷ 0x00 ∷ 0x00 ∷ 0xc7 ∷ 0x00 ∷ []) 65 0 ≡ 4)
-    × (number nothing asking 43 0 ≡ 5)
-    × (number nothing (0x48 ∷ 0x00 ∷ []) 11 0 ≡ 10)
-    × (number nothing asking 42 0 ≡ 6)
-    × (number nothing profileA 138 31 ≡ 8)
-unfolding calls
-met = (refl, refl, refl, refl, refl, refl, refl, refl, refl, refl)
+-- an entry for user 0/0, part 1, whose body has no bits
+abbrev emptyBody : List ℕ
+emptyBody = replicate 4 0 ++ (0x01 ∷ replicate 6 0 ++ (0x01 ∷ 0x00 ∷ 0x00 ∷ []))
+
+-- each is met
+met : (answer nothing profileA 138 32 ≡ plain 0)
+    × (answer [] [] 0 0 ≡ plain 7)
+    × (answer emptyBody [] 0 0 ≡ ofBody 0 (At 0))
+    × (answer nothing [] 1 0 ≡ plain 1)
+    × (answer nothing [] 0 0 ≡ ofPdu (read.told 2 (At 0)))
+    × (answer nothing (0x00 ∷ []) 6 0 ≡ ofPdu (read.told 3 (At 0)))
+    × (answer nothing (0x49 ∷ 0x72 ∷ 0x00 ∷ 0x01 ∷ 0x90 ∷ 0x00 ∷ 0x00 ∷ 0xc7 ∷ 0x00 ∷ []) 65 0 ≡ ofPdu (read.told 4 (At 40)))
+    × (answer nothing asking 43 0 ≡ ofPdu (read.told 5 (At 42)))
+    × (answer nothing (0x48 ∷ 0x00 ∷ []) 11 0 ≡ ofPdu (read.told 10 (At 6)))
+    × (answer nothing asking 42 0 ≡ plain 6)
+    × (answer nothing profileA 138 31 ≡ plain 8)
+unfolding calls bodyAgrees filingOf
+met = (refl, refl, refl, refl, refl, refl, refl, refl, refl, refl, refl)
 
 -- Proved in proofs/Demand1/Capture.antt.
 pub record Promise : Type 0 where
-  pub table : (b s : List ℕ) (n room : ℕ) → Exactly (number b s n room) (read.numbers ++ (7 ∷ 6 ∷ 8 ∷ [])) (Given b s n room)
+  pub table : (b s : List ℕ) (n room : ℕ) → Exactly numberOf (answer b s n room) (read.numbers ++ (7 ∷ 6 ∷ 8 ∷ [])) (Given b s n room)
   -- "Success returns the length written; output bytes after those that hold that length stay."
-  pub success : (b s : List ℕ) (n : ℕ) (out : List ℕ) → number b s n (length out) ≡ 0
+  pub success : (b s : List ℕ) (n : ℕ) (out : List ℕ) → answer b s n (length out) .number ≡ 0
       → (captureIs b s n (length out) ≡ Bytes (length (result b s n))) × (captureOut b s n out ≡ over (result b s n) out)
-  -- "A refusal returns its number only and changes no byte."
-  pub refusal : (b s : List ℕ) (n : ℕ) (out : List ℕ) (k : ℕ) → captureIs b s n (length out) ≡ Refused k → captureOut b s n out ≡ out
+  -- a refusal changes no byte
+  pub refusal : (b s : List ℕ) (n : ℕ) (out : List ℕ) (f : Refusal) → captureIs b s n (length out) ≡ Refused f → captureOut b s n out ≡ out

@@ -1,4 +1,4 @@
--- Demand 1, the decision: "9, 7. Each is given exactly then." It is lent nothing to change.
+-- Demand 1, the decision: "9, 7. Each is given exactly then." With 7 its entry and place. It is lent nothing to change.
 use mathlib.Core.Path.{_≡_, refl}
 use mathlib.Core.Logic.{_↔_}
 use mathlib.Core.Bool.{true}
@@ -14,16 +14,19 @@ use Rattle.rules.specs.declared.request.Destination.the-variants.{Identity, Num
 use Rattle.rules.specs.declared.request.Group.{Group}
 use Rattle.rules.specs.declared.request.Group.the-variants.{Of, NoGroup}
 use Rattle.rules.specs.declared.request.Request.{Request}
+use Rattle.archive.specs.Refusals.{plain}
 use Rattle.archive.specs.Examples.{calls}
+use Rattle.archive.specs.declared.refusal.Refusal.{Refusal}
 use Rattle.barring.specs.Decide.{decideIs}
-use Rattle.barring.specs.Decision.{decidedNumber, verdictOf}
+use Rattle.barring.specs.Decision.{decidedRefusal, verdictOf}
 use Rattle.barring.specs.declared.Decision.{Decision}
 use Rattle.barring.specs.declared.Decision.the-variants.{Allowed, Barred, NotHeld}
 use Rattle.promises.specs.Answers.{Exactly}
 use Rattle.promises.specs.Archive.{IsArchive}
+use Rattle.promises.specs.Broken.{numberOf, Broken}
 
-abbrev pub number : List ℕ → Request → ℕ
-number b q = decidedNumber (decideIs b q)
+abbrev pub answer : List ℕ → Request → Refusal
+answer b q = decidedRefusal (decideIs b q)
 
 -- ---- a request in its range
 
@@ -58,15 +61,15 @@ pub record Ranged (q : Request) : Type 0 where
 
 -- ---- the table of refusals, as far as the decision goes
 
-pub data Given (b : List ℕ) (q : Request) : ℕ → Type 0 where
-  success : Ranged q → IsArchive b → Given b q 0
+pub data Given (b : List ℕ) (q : Request) : Refusal → Type 0 where
+  success : Ranged q → IsArchive b → Given b q (plain 0)
   -- 9: a request out of its range
-  unranged : (Ranged q → ⊥) → Given b q 9
+  unranged : (Ranged q → ⊥) → Given b q (plain 9)
   -- 7: the archive breaks a rule
-  damaged : Ranged q → (IsArchive b → ⊥) → Given b q 7
+  damaged : (f : Refusal) → Ranged q → Broken b f → Given b q f
 
--- each number is met
-met : (number (replicate 5 0) (speech 1 100 NoGroup) ≡ 0) × (number [] (speech 16777216 100 NoGroup) ≡ 9) × (number [] (speech 1 100 NoGroup) ≡ 7)
+-- each is met
+met : (answer (replicate 5 0) (speech 1 100 NoGroup) ≡ plain 0) × (answer [] (speech 16777216 100 NoGroup) ≡ plain 9) × (answer [] (speech 1 100 NoGroup) ≡ plain 7)
 unfolding calls requests decideIs
 met = (refl, refl, refl)
 
@@ -82,6 +85,6 @@ pub data Verdict : ℕ → Decision → Type 0 where
 pub record Promise : Type 0 where
   -- a request is not refused exactly if it is in its range
   pub ranged : (q : Request) → (requestRefusal q ≡ 0) ↔ Ranged q
-  pub table : (b : List ℕ) (q : Request) → Exactly (number b q) (0 ∷ 9 ∷ 7 ∷ []) (Given b q)
+  pub table : (b : List ℕ) (q : Request) → Exactly numberOf (answer b q) (0 ∷ 9 ∷ 7 ∷ []) (Given b q)
   -- "Success returns the decision."
-  pub success : (b : List ℕ) (q : Request) → number b q ≡ 0 → Verdict (verdictOf (decideIs b q)) (decideIs b q)
+  pub success : (b : List ℕ) (q : Request) → answer b q .number ≡ 0 → Verdict (verdictOf (decideIs b q)) (decideIs b q)

@@ -3,12 +3,13 @@ use mathlib.Core.Path.{_≡_, refl}
 use mathlib.Core.List.{List, [], _∷_}
 use Prim.Native.Nat.{ℕ, _/_, _%_, _≤_, _<_}
 use lib.ListN.{length}
-use Rattle.archive.specs.Keeping.{storedNumber, over, emptyIs, emptyOut}
+use Rattle.archive.specs.Keeping.{storedRefusal, over, emptyIs, emptyOut}
+use Rattle.archive.specs.declared.refusal.Refusal.{Refusal}
 use Rattle.archive.specs.declared.Stored.the-variants.{Bytes, Refused}
 use Rattle.promises.specs.Answers.{Exactly}
 
 abbrev pub number : ℕ → ℕ → ℕ
-number home room = storedNumber (emptyIs home room)
+number home room = storedRefusal (emptyIs home room) .number
 
 -- the home network in three bytes, the most significant first, and the entry count 0 in two
 abbrev pub header : ℕ → List ℕ
@@ -29,9 +30,9 @@ met = (refl, refl, refl, refl)
 
 -- Proved in proofs/Demand1/Empty.antt.
 pub record Promise : Type 0 where
-  pub table : (home room : ℕ) → Exactly (number home room) (0 ∷ 9 ∷ 8 ∷ []) (Given home room)
+  pub table : (home room : ℕ) → Exactly (λ k. k) (number home room) (0 ∷ 9 ∷ 8 ∷ []) (Given home room)
   -- "Success returns the length written; output bytes after those that hold that length stay."
   pub success : (home : ℕ) (out : List ℕ) → number home (length out) ≡ 0
       → (emptyIs home (length out) ≡ Bytes 5) × (emptyOut home out ≡ over (header home) out)
   -- "A refusal returns its number only and changes no byte."
-  pub refusal : (home : ℕ) (out : List ℕ) (k : ℕ) → emptyIs home (length out) ≡ Refused k → emptyOut home out ≡ out
+  pub refusal : (home : ℕ) (out : List ℕ) (f : Refusal) → emptyIs home (length out) ≡ Refused f → emptyOut home out ≡ out

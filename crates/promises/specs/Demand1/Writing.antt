@@ -51,7 +51,7 @@ met = (refl, refl, refl, refl)
 
 -- Proved in proofs/Demand1/Writing.antt.
 pub record Promise : Type 1 where
-  pub table : (r : Record) (out : List ℕ) → Exactly (number r out) (0 ∷ 3 ∷ 4 ∷ 8 ∷ []) (Given r out)
+  pub table : (r : Record) (out : List ℕ) → Exactly (λ k. k) (number r out) (0 ∷ 3 ∷ 4 ∷ 8 ∷ []) (Given r out)
   -- "Success returns the length written; output bytes after those that hold that length stay."
   pub success : (r : Record) (out : List ℕ) → number r out ≡ 0
       → (writeIs r out ≡ Bits (record { 0 = lengthOf r })) × (outIs r out ≡ pack (pdu .print r) ++ drop (bytesFor (lengthOf r)) out)
