@@ -7,7 +7,6 @@ use native.Mathlib.Nat.{add-zero}
 use native.Mathlib.Omega.{arith}
 use borrow.Author.Tests.{le-leb}
 use Rattle.bits.specs.Frame.{bitsIn}
-use Rattle.bits.specs.declared.Cursor.{Cursor}
 use Rattle.bits.proofs.Tests.{never}
 use Rattle.codec.specs.Codec.{Codec}
 use Rattle.codec.specs.Parts.{first-none, numberFault, number, tested, element}

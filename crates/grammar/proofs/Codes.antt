@@ -1,18 +1,15 @@
 -- Laws of the site sheet's codes and of the ends of a range. Assumes nothing.
 use mathlib.Core.Path.{_≡_, refl, ap}
 use mathlib.Core.Bool.{Bool, true, false, _&&_}
-use mathlib.Core.List.{List, [], _++_}
+use mathlib.Core.List.{List}
 use Prim.Native.Nat.{ℕ, zero, suc, _≤_, _<_}
 use native.Mathlib.Omega.{arith}
-use borrow.Author.Tests.{eqb-true, eqb-false, leb-true, leb-false, eq-eqb, ne-eqb, le-leb, lt-leb}
-use lib.ListN.{length, length-append}
+use borrow.Author.Tests.{eqb-false, leb-true, leb-false, eq-eqb, ne-eqb, le-leb, lt-leb}
 use lib.Dec.{eqb, leb}
-use Rattle.bits.specs.Bits.{pick, bitsOf}
+use Rattle.bits.specs.Bits.{pick}
 use Rattle.bits.proofs.Tests.{both, picked, by-test}
-use Rattle.bits.proofs.Numbers.{length-bitsOf}
-use Rattle.codec.specs.Parts.{number, absent, seq, shaped}
 use Rattle.grammar.specs.SiteSheet.{rangeType, rowOfType, rowOf, entriesOf, refusalIn, rangeRefusal, digitOf, digitRefusal, between}
-use Rattle.grammar.specs.Grammar.{extension, identity, endsRefusal, rangeEnds}
+use Rattle.grammar.specs.Grammar.{rangeEnds}
 use Rattle.grammar.specs.declared.record.Identity.{Identity}
 use Rattle.grammar.specs.declared.site.RangeType.{RangeType}
 use Rattle.grammar.specs.declared.site.RangeType.the-variants.{Empty, Single, FirstAndLast, NoRangeType}

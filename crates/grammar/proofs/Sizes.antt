@@ -1,12 +1,10 @@
 -- How long a part of a PDU can be: the sum of what its elements can be. Assumes nothing.
 use mathlib.Core.Path.{_≡_}
-use mathlib.Core.Bool.{Bool}
 use mathlib.Core.List.{_++_}
 use Prim.Native.Nat.{ℕ, _+_, _≤_}
 use native.Mathlib.Omega.{arith}
 use lib.ListN.{length, length-append}
 use lib.Dec.{eqb}
-use Rattle.bits.specs.Bits.{pick}
 use Rattle.bits.proofs.Tests.{by-test}
 use Rattle.codec.specs.Codec.{Codec}
 use Rattle.codec.specs.Parts.{absent, element, seq, shaped, mark, only}

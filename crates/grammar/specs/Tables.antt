@@ -22,7 +22,6 @@ use Rattle.grammar.specs.declared.site.Digit.the-variants.{Decimal, Star
 use Rattle.grammar.specs.declared.site.Service.the-variants.{All, Speech, CircuitData, ShortData, NoService}
 use Rattle.grammar.specs.declared.record.Identity.{Identity}
 use Rattle.grammar.specs.declared.record.Identities.{Identities}
-use Rattle.grammar.specs.declared.record.Number.{Number}
 use Rattle.grammar.specs.declared.record.Numbers.{Numbers}
 use Rattle.grammar.specs.declared.record.Services.{Services}
 use Rattle.grammar.specs.declared.record.Lists.{Lists}

@@ -26,7 +26,6 @@ use Rattle.archive.specs.Checking.{inOrder, hasShape, bodyPlace, bodiesFrom, ch
 use Rattle.archive.specs.Inner.{KeyFits}
 use Rattle.archive.specs.declared.contents.Key.{Key}
 use Rattle.archive.specs.declared.refusal.Refusal.{Refusal}
-use Rattle.archive.specs.declared.checking.Checked.{Checked}
 use Rattle.archive.specs.declared.checking.Checked.the-variants as checked
 use Rattle.archive.proofs.Model.Bodies as bodies
 use Rattle.archive.proofs.Model.Checked.{archive-checked, checked-archive}

@@ -9,7 +9,6 @@ use lib.ListN.{length, drop}
 use Rattle.bits.specs.Frame.{bytesFor, bitsIn, pack}
 use Rattle.codec.specs.Codec.{Legal}
 use Rattle.grammar.specs.Grammar.{pdu}
-use Rattle.grammar.specs.declared.record.Record.{Record}
 use Rattle.walk.specs.declared.BitPlace.the-variants as bit
 use Rattle.reader.specs.Read.{refusalOf, readIs}
 use Rattle.reader.specs.Words.{readWordsIs, readWords}

@@ -9,7 +9,7 @@ use lib.ListN.{length, take, drop, replicate}
 use lib.Dec.{leb, eqb}
 use borrow.Author.Tests.{leb-true, leb-false, eqb-true, le-leb, eq-eqb}
 use Rattle.bits.specs.Bits.{pick}
-use Rattle.bits.proofs.Tests.{never, false-unless, both, both⁻¹, by-test}
+use Rattle.bits.proofs.Tests.{false-unless, both, both⁻¹, by-test}
 use Rattle.grammar.specs.declared.record.Record.{Record}
 use Rattle.reader.specs.Read.{readIs}
 use Rattle.reader.specs.declared.Answer.the-variants as reader

@@ -8,7 +8,6 @@ use Rattle.rules.specs.Request.{requestRefusal, requests}
 use Rattle.rules.specs.Matching.{isNumber}
 use Rattle.rules.specs.Rule.{rules}
 use Rattle.rules.specs.declared.request.User.{User}
-use Rattle.rules.specs.declared.request.Destination.{Destination}
 use Rattle.rules.specs.declared.request.Destination.the-variants.{Identity, Number}
 use Rattle.rules.specs.declared.request.Group.{Group}
 use Rattle.rules.specs.declared.request.Group.the-variants.{Of, NoGroup}

@@ -8,14 +8,12 @@ use grammar::record::Identity;
 use grammar::site;
 use grammar::site::ListKind;
 ghost use mathlib.Core.Path.{_≡_};
-ghost use Prim.Native.Nat.{_≤_};
 ghost use Rattle.bits.specs.Frame.{bitsIn};
 ghost use Rattle.codec.specs.Parts.{element};
-ghost use Rattle.codec.specs.Places.{places};
 ghost use Rattle.codec.specs.Reading.{resume, readAt};
 ghost use Rattle.codec.proofs.Onward.{placed};
 ghost use Rattle.grammar.specs.SiteSheet.{digitRefusal, serviceRefusal};
-ghost use Rattle.grammar.specs.Grammar.{identity, noIdentity, identities, external, externals, services, interrogate, interrogateAck, partOf};
+ghost use Rattle.grammar.specs.Grammar.{identity, identities, external, externals, services, interrogate, interrogateAck, partOf};
 ghost use Rattle.walk.specs.Inner.{pass, steps, range, resultFrom, resultIn};
 
 // An identity, and where reading then stands; it says nothing beside a refusal.

@@ -1,6 +1,5 @@
 -- Each ruling is the definition's own case. Assumes nothing.
 use borrow.Author.Needs.{needs}
-use Rattle.barring.specs.Decision.{decisionOf}
 use Rattle.barring.proofs.decision_of.Statement.{statement}
 use Rattle.barring.proofs.decision_of.Tie as tie
 

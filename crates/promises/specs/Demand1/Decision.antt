@@ -1,7 +1,6 @@
 -- Demand 1, the decision: "9, 7. Each is given exactly then." With 7 its entry and place. It is lent nothing to change.
 use mathlib.Core.Path.{_≡_, refl}
 use mathlib.Core.Logic.{_↔_}
-use mathlib.Core.Bool.{true}
 use mathlib.Core.List.{List, [], _∷_}
 use Prim.Native.Nat.{ℕ, _≤_, _<_}
 use lib.ListN.{take, drop, replicate}

@@ -14,13 +14,11 @@ use Rattle.bits.specs.Bits.{guard}
 use Rattle.bits.specs.Frame.{bytesFor}
 use Rattle.bits.proofs.Tests.{both, said-no, said-yes}
 use Rattle.archive.specs.Model.{Held, rankOf, rank, entryWidth, bodySize, withinLimits}
-use Rattle.archive.specs.Filing.{bodyAgrees}
-use Rattle.archive.specs.Reading.{number3, entryAt, sizeAt, heldAt}
+use Rattle.archive.specs.Reading.{number3, entryAt, heldAt}
 use Rattle.archive.specs.Refusals.{plain, ofBody}
-use Rattle.archive.specs.Checking.{bodyPlace, checkIs}
+use Rattle.archive.specs.Checking.{checkIs}
 use Rattle.archive.specs.Inner.{agreementIs, mayFollow, restShape}
 use Rattle.archive.specs.declared.contents.Entry.{Entry}
-use Rattle.archive.specs.declared.checking.Checked.{Checked}
 use Rattle.archive.specs.declared.checking.Checked.the-variants.{Archive, Refused}
 use Rattle.archive.proofs.Bytes.Walking.{home-is}
 use Rattle.archive.proofs.Bytes.Checking.{too-short, over-limits, begins, follows-not, room-for, restIs, rest-shapeless, rest-none, rest-bad, rest-next}
