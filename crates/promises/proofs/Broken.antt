@@ -1,138 +1,35 @@
 -- What the check says of bytes that are no archive is what document 02 says. Assumes nothing.
 use mathlib.Core.Path.{_≡_, refl, sym, ap, _∙_, subst}
-use mathlib.Core.Logic.{⊎-elim}
-use mathlib.Core.Bool.{Bool, true, false, _&&_}
+use mathlib.Core.Bool.{Bool, true, false}
 use mathlib.Core.List.{List, [], _∷_, _++_}
-use Prim.Native.Nat.{ℕ, suc, _+_, _*_, _<_}
+use Prim.Native.Nat.{ℕ, suc, _+_}
 use native.Mathlib.Nat.{add-zero, zero-add}
 use native.Mathlib.Omega.{arith}
 use lib.ListN.{length}
-use lib.Dec.{ltb, leb, eqb}
-use borrow.Author.Tests.{ltb-true, leb-true, eqb-true, lt-ltb, le-leb, eq-eqb}
 use Rattle.bits.specs.Bits.{pick}
 use Rattle.bits.specs.Lists.{Each}
-use Rattle.bits.proofs.Tests.{differ, never, false-unless, both, both⁻¹}
+use Rattle.bits.proofs.Tests.{differ, never, false-unless}
 use Rattle.grammar.specs.declared.record.Record.{Record}
 use Rattle.walk.specs.declared.BitPlace.{BitPlace}
 use Rattle.reader.specs.Read.{refusalOf, readIs}
 use Rattle.reader.specs.declared.Answer.{Answer}
 use Rattle.reader.specs.declared.Answer.the-variants as reader
 use Rattle.reader.specs.declared.Reading.{Reading}
-use Rattle.archive.specs.Model.{Held, Archive, rank, inRange, lengthOf, withinLimits}
+use Rattle.archive.specs.Model.{Held, Archive}
 use Rattle.archive.specs.Filing.{bodyAgrees}
-use Rattle.archive.specs.Reading.{countOf, bodiesAt, heldIn, reading}
+use Rattle.archive.specs.Reading.{reading}
 use Rattle.archive.specs.Refusals.{plain, ofBody}
-use Rattle.archive.specs.Checking.{inOrder, hasShape, bodyPlace, bodiesFrom, checkIs}
-use Rattle.archive.specs.Inner.{KeyFits}
-use Rattle.archive.specs.declared.contents.Key.{Key}
+use Rattle.archive.specs.Checking.{hasShape, bodyPlace, bodiesFrom, checkIs}
 use Rattle.archive.specs.declared.refusal.Refusal.{Refusal}
 use Rattle.archive.specs.declared.checking.Checked.the-variants as checked
 use Rattle.archive.proofs.Model.Bodies as bodies
 use Rattle.archive.proofs.Model.Checked.{archive-checked, checked-archive}
-use Rattle.archive.proofs.Bytes.Walking.{length-heldFrom}
-use Rattle.promises.specs.Archive.{Rising, Ranged, Agrees, Laid}
-use Rattle.promises.specs.Broken.{numberOf, HasShape, AtFault, refused, unfit, FirstFault, Broken, shape, body, Promise}
+use Rattle.promises.specs.Archive.{Agrees}
+use Rattle.promises.specs.Broken.{numberOf, AtFault, refused, unfit, FirstFault, Broken, shape, body, Promise}
 use Rattle.promises.proofs.Archive.Agreeing.{legal-read, read-legal, agrees-says, agrees-is}
-use Rattle.promises.proofs.Archive.Forming.{before, above}
-use Rattle.promises.proofs.Archive.Laying.{laid-size, reads-laid, read-as, archive-says, archive-is}
-use Rattle.promises.proofs.Archive.Finding.{ranged-says, ranged-is}
-
--- ---- the shape
-
-key-fits : (k : Key) → Ranged k → KeyFits k
-key-fits k r = record { network = r .network; ssi = r .ssi; part = ⊎-elim (λ e. omega (arith, e)) (λ e. omega (arith, e)) (r .part) }
-
-abbrev Keys : List Held → Type 0
-Keys hs = Each (λ h. Ranged (h .entry .key)) hs
-
--- the first of an order: it is above the rank, in range, and before the others
-record Ordered (last : ℕ) (h : Held) (hs : List Held) : Type 0 where
-  pub rises : last < rank h
-  pub ranged : inRange (h .entry .key) ≡ true
-  pub others : inOrder (rank h) hs ≡ true
-
-ordered : (last : ℕ) (h : Held) (hs : List Held) → inOrder last (h ∷ hs) ≡ true → Ordered last h hs
-unfolding inOrder
-ordered last h hs e =
-    let p = both (ltb last (rank h)) (inRange (h .entry .key) && inOrder (rank h) hs) e in
-    let q = both (inRange (h .entry .key)) (inOrder (rank h) hs) (p .1) in
-    record { rises = ltb-true _ _ (p .0); ranged = q .0; others = q .1 }
-
-is-ordered : (last : ℕ) (h : Held) (hs : List Held) → Ordered last h hs → inOrder last (h ∷ hs) ≡ true
-unfolding inOrder
-is-ordered last h hs o = both⁻¹ (lt-ltb _ _ (o .rises)) (both⁻¹ (o .ranged) (o .others))
-
-keys-ranged : (last : ℕ) (hs : List Held) → inOrder last hs ≡ true → Keys hs
-keys-ranged last [] e = tt
-keys-ranged last (h ∷ hs) e =
-    let o = ordered last h hs e in
-    (ranged-says (h .entry .key) (o .ranged), keys-ranged (rank h) hs (o .others))
-
-keys-rise : (last : ℕ) (hs : List Held) → inOrder last hs ≡ true → Rising hs
-keys-rise last [] e = tt
-keys-rise last (h ∷ []) e = tt
-keys-rise last (h ∷ g ∷ hs) e =
-    let o = ordered last h (g ∷ hs) e in
-    let p = ordered (rank h) g hs (o .others) in
-    let first = key-fits (h .entry .key) (ranged-says _ (o .ranged)) in
-    let second = key-fits (g .entry .key) (ranged-says _ (p .ranged)) in
-    (before (h .entry .key) (g .entry .key) first second (p .rises), keys-rise (rank h) (g ∷ hs) (o .others))
-
-abbrev Above : ℕ → List Held → Type 0
-Above last [] = Unit
-Above last (h ∷ hs) = last < rank h
-
-in-order : (last : ℕ) (hs : List Held) → Keys hs → Rising hs → Above last hs → inOrder last hs ≡ true
-unfolding inOrder
-in-order last [] k r a = refl
-in-order last (h ∷ []) k r a = is-ordered last h [] (record { rises = a; ranged = ranged-is _ (k .0); others = refl })
-in-order last (h ∷ g ∷ hs) k r a =
-    let l = above (h .entry .key) (g .entry .key) (key-fits _ (k .0)) (key-fits _ (k .1 .0)) (r .0) in
-    is-ordered last h (g ∷ hs) (record { rises = a; ranged = ranged-is _ (k .0); others = in-order (rank h) (g ∷ hs) (k .1) (r .1) l })
-
-above-zero : (hs : List Held) → Keys hs → Above 0 hs
-above-zero [] k = tt
-above-zero (h ∷ hs) k = ⊎-elim (λ e. omega (arith, e)) (λ e. omega (arith, e)) (k .0 .part)
-
-module _ (b : List ℕ) where
-  abbrev a : Archive
-  a = reading b
-
-  shape-says : hasShape b ≡ true → HasShape b
-  unfolding hasShape reading
-  shape-says e =
-      let whole = eqb (lengthOf a) (length b) in
-      let limits = withinLimits (length (a .held)) (lengthOf a) in
-      let p = both (ltb (a .home) 16777216) (limits && (inOrder 0 (a .held) && whole)) e in
-      let q = both limits (inOrder 0 (a .held) && whole) (p .1) in
-      let o = both (inOrder 0 (a .held)) whole (q .1) in
-      let l = both (leb (length (a .held)) 512) (leb (lengthOf a) 65536) (q .0) in
-      let size = eqb-true (lengthOf a) (length b) (o .1) in
-      let n : length (heldIn b) ≡ countOf b = length-heldFrom b (countOf b) 5 (bodiesAt b) in
-      record {
-        archive = a;
-        network = ltb-true _ _ (p .0);
-        few = leb-true _ _ (l .0);
-        small = omega (arith, size, leb-true (lengthOf a) 65536 (l .1));
-        keys = keys-ranged 0 (a .held) (o .0);
-        rising = keys-rise 0 (a .held) (o .0);
-        home = refl;
-        count = n;
-        laid = subst (λ (k : ℕ). Laid b 5 (5 + 9 * k) (heldIn b)) (sym n) (reads-laid b (countOf b) 5 (bodiesAt b) (omega (arith, size, n)));
-      }
-
-  same-archive : (k : HasShape b) → k .archive ≡ a
-  same-archive k = read-as b (k .archive) (k .home) (k .count) (k .laid)
-
-  shape-is : HasShape b → hasShape b ≡ true
-  unfolding hasShape
-  shape-is k =
-      let hs = k .archive .held in
-      let size = laid-size b 5 (5 + 9 * length hs) hs (k .laid) in
-      rw (sym (same-archive k))
-      (both⁻¹ (lt-ltb _ _ (k .network))
-      (both⁻¹ (both⁻¹ (le-leb (length hs) 512 (k .few)) (le-leb (lengthOf (k .archive)) 65536 (omega (arith, size, k .small))))
-      (both⁻¹ (in-order 0 hs (k .keys) (k .rising) (above-zero hs (k .keys))) (eq-eqb (lengthOf (k .archive)) (length b) (omega (arith, size))))))
+use Rattle.promises.proofs.Archive.Laying.{archive-says, archive-is}
+use Rattle.promises.proofs.Broken.Shape.{shape-says, same-archive, shape-is}
+pub mod Shape
 
 -- ---- the bodies
 

@@ -22,7 +22,8 @@ use Rattle.archive.specs.declared.contents.Entry.{Entry}
 use Rattle.archive.specs.declared.refusal.Refusal.{Refusal}
 use Rattle.archive.proofs.Model.Bodies.{fits, Fits}
 use Rattle.archive.proofs.Model.Checked.{checked-archive}
-use Rattle.archive.proofs.Calls.Capture.{home-read, home-fits, filed-under, offered-agrees, no-archive, pdu-refused, not-held, as-placed, capture-leaves}
+use Rattle.archive.proofs.Calls.Capture.{home-read, home-fits, filed-under, offered-agrees}
+use Rattle.archive.proofs.Calls.Capture.{no-archive, pdu-refused, not-held, as-placed, capture-leaves}
 use Rattle.archive.proofs.capture.Statement.{statement}
 use Rattle.archive.proofs.capture.Tie as tie
 
@@ -82,7 +83,8 @@ returns-3 c =
     let told = c .before in
     let f = told .before .before in
     let w = walk-of f in
-    let e = not-held (b-of w) (s-of w) (n-of w) (length (out-of w)) (reading (b-of w) .home) (ok w) (accepted f) (sym (filed f) ∙ told .enum-told3 .given .1) in
+    let nowhere = sym (filed f) ∙ told .enum-told3 .given .1 in
+    let e = not-held (b-of w) (s-of w) (n-of w) (length (out-of w)) (reading (b-of w) .home) (ok w) (accepted f) nowhere in
     (ap (λ (x : Refusal). Refused x) (c .plain .ensures) ∙ sym e, sym (capture-leaves _ _ _ (out-of w) e))
 
 -- the entry is the one that the PDU is held under

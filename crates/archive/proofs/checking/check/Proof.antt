@@ -21,7 +21,8 @@ use Rattle.archive.specs.Inner.{agreementIs, mayFollow, restShape}
 use Rattle.archive.specs.declared.contents.Entry.{Entry}
 use Rattle.archive.specs.declared.checking.Checked.the-variants.{Archive, Refused}
 use Rattle.archive.proofs.Bytes.Walking.{home-is}
-use Rattle.archive.proofs.Bytes.Checking.{too-short, over-limits, begins, follows-not, room-for, restIs, rest-shapeless, rest-none, rest-bad, rest-next}
+use Rattle.archive.proofs.Bytes.Checking.{too-short, over-limits, begins, follows-not, room-for}
+use Rattle.archive.proofs.Bytes.Checking.{restIs, rest-shapeless, rest-none, rest-bad, rest-next}
 use Rattle.archive.proofs.Model.Checked.{agreed, faulty}
 use Rattle.archive.proofs.checking.check.Statement.{statement}
 use Rattle.archive.proofs.checking.check.Tie as tie
