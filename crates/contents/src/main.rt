@@ -1,4 +1,5 @@
-// Prints what the archive on standard input holds, or `refused 7` where there is none: reads, has the library report, and writes that.
+// Prints what the archive on standard input holds, or `refused 7` where there is none, and tells on standard error which body is at fault, if that
+// is what is wrong: reads, has the library report, and writes that.
 use archive::listing;
 ghost use mathlib.Core.Path.{_≡_};
 ghost use Prim.Native.Nat.{_≤_};
@@ -10,10 +11,13 @@ fn main() {
     let mut input = [0u8; 65537];
     // no report is longer: 26 bytes, and 35 for each of at most 512 entries
     let mut text = [0u8; 17946];
+    // nothing told is longer: 12 bytes, and two numbers of at most 20 digits
+    let mut fault = [0u8; 52];
     let got = read_all(&mut input);
     let count = archive_length(got);
-    let size = listing::report(&input[..count], &mut text);
-    io::write_all(1, &text[..size]);
+    let report = listing::report(&input[..count], &mut text, &mut fault);
+    io::write_all(1, &text[..report.printed]);
+    io::write_all(2, &fault[..report.told]);
 }
 
 // How many bytes reading brought, and whether it failed: if not, it ended, or the buffer is full.
