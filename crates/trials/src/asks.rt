@@ -2,6 +2,7 @@
 use crate::held::Held;
 use crate::input;
 use crate::show;
+use crate::show::Answer;
 use bits::BitCount;
 
 pub(crate) fn ask(line: &[u8], held: Held) {
@@ -33,18 +34,37 @@ fn restore(line: &[u8], archive: &[u8]) {
 fn restore_to(archive: &[u8], network: u32, ssi: u32, part: u32, room: usize) {
     let mut out = show::full();
     let mut count: usize = 0;
+    let mut entry = show::FULL_PLACE;
+    let mut place = show::FULL_PLACE;
     let end = bits::least(room, 70000);
-    let number = boc::boc_restore(archive, network, ssi, part, &mut out[0..end], &mut count);
-    restored(number, BitCount(count), out);
+    let number = boc::boc_restore(
+        archive,
+        network,
+        ssi,
+        part,
+        &mut out[0..end],
+        &mut count,
+        &mut entry,
+        &mut place,
+    );
+    restored(
+        Answer {
+            number,
+            entry,
+            place,
+        },
+        BitCount(count),
+        out,
+    );
 }
 
-fn restored(number: u32, n: BitCount, out: [u8; 70000]) {
-    if number == 0 {
+fn restored(answer: Answer, n: BitCount, out: [u8; 70000]) {
+    if answer.number == 0 {
         show::labelled(b"bits ", n.0 as u64);
         io::write_all(1, b" ");
         show::span(&out, 0, n.bytes());
     } else {
-        show::labelled(b"refused ", number as u64);
+        show::refused(answer);
     }
     show::rest(&out, n.bytes());
 }
@@ -52,16 +72,35 @@ fn restored(number: u32, n: BitCount, out: [u8; 70000]) {
 fn verify(archive: &[u8]) {
     let mut out = show::full();
     let mut size: usize = 0;
-    let number = boc::boc_contents(archive, &mut out, &mut size);
-    show::written(number, size, out);
+    let mut entry = show::FULL_PLACE;
+    let mut place = show::FULL_PLACE;
+    let number = boc::boc_contents(archive, &mut out, &mut size, &mut entry, &mut place);
+    show::written(
+        Answer {
+            number,
+            entry,
+            place,
+        },
+        size,
+        out,
+    );
 }
 
 fn decide(line: &[u8], archive: &[u8]) {
     let mut words = [0u32; 34];
     let mut verdict: u32 = 0;
+    let mut entry = show::FULL_PLACE;
+    let mut place = show::FULL_PLACE;
     input::numbers_at(line, 7, &mut words);
-    let number = boc::boc_decide(archive, &words, &mut verdict);
-    show::decision(number, verdict);
+    let number = boc::boc_decide(archive, &words, &mut verdict, &mut entry, &mut place);
+    show::decision(
+        Answer {
+            number,
+            entry,
+            place,
+        },
+        verdict,
+    );
 }
 
 fn print(line: &[u8], bytes: &[u8]) {

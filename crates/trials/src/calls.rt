@@ -1,26 +1,33 @@
 // A PDU read and a record written, on buffers that are full of one byte before.
 use crate::show;
+use crate::show::Answer;
 use bits::BitCount;
 
 const FULL_WORD: u32 = 0xa5a5a5a5;
 
-// The refusal number, 0 for none, and the record.
+// The answer, and the record.
 pub struct Reading {
-    pub number: u32,
+    pub answer: Answer,
     pub words: [u32; 514],
 }
 
 // Reads the PDU of n bits in the first `count` bytes.
 pub(crate) fn read(bytes: [u8; 520], count: usize, n: usize) -> Reading {
     let mut words = [FULL_WORD; 514];
+    let mut place = show::FULL_PLACE;
     let end = bits::least(count, 520);
-    let number = boc::boc_read(&bytes[0..end], n, &mut words);
+    let number = boc::boc_read(&bytes[0..end], n, &mut words, &mut place);
+    let answer = Answer {
+        number,
+        entry: show::NOWHERE,
+        place,
+    };
     if number == 0 {
-        return Reading { number, words };
+        return Reading { answer, words };
     }
     show::words(&words, FULL_WORD);
     Reading {
-        number,
+        answer,
         words: [0u32; 514],
     }
 }

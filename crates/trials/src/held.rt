@@ -1,6 +1,7 @@
 // The lines that give another archive.
 use crate::input;
 use crate::show;
+use crate::show::Answer;
 
 // A buffer, and the length of the archive in it.
 pub struct Held {
@@ -26,9 +27,9 @@ pub(crate) fn after(line: &[u8], held: Held) -> Held {
 }
 
 // Prints an answer, and gives back the archive after it.
-fn answered(number: u32, size: usize, bytes: [u8; 70000], held: Held) -> Held {
-    show::written(number, size, bytes);
-    if number != 0 {
+fn answered(answer: Answer, size: usize, bytes: [u8; 70000], held: Held) -> Held {
+    show::written(answer, size, bytes);
+    if answer.number != 0 {
         return held;
     }
     Held {
@@ -44,7 +45,12 @@ fn empty(line: &[u8], held: Held) -> Held {
     let mut size: usize = 0;
     let end = bits::least(room.value as usize, 70000);
     let number = boc::boc_empty(home.value, &mut out[0..end], &mut size);
-    answered(number, size, out, held)
+    let answer = Answer {
+        number,
+        entry: show::NOWHERE,
+        place: show::NOWHERE,
+    };
+    answered(answer, size, out, held)
 }
 
 // The PDU given at a place of a line: its bit length in decimal, its bytes in hexadecimal.
@@ -75,6 +81,8 @@ fn capture_in(held: Held, pdu: Pdu, room: usize) -> Held {
     let bytes = pdu.bytes;
     let mut out = show::full();
     let mut size: usize = 0;
+    let mut entry = show::FULL_PLACE;
+    let mut place = show::FULL_PLACE;
     let end = bits::least(room, 70000);
     let number = boc::boc_capture(
         input::first(&archive, held.length),
@@ -82,8 +90,19 @@ fn capture_in(held: Held, pdu: Pdu, room: usize) -> Held {
         pdu.bits,
         &mut out[0..end],
         &mut size,
+        &mut entry,
+        &mut place,
     );
-    answered(number, size, out, held)
+    answered(
+        Answer {
+            number,
+            entry,
+            place,
+        },
+        size,
+        out,
+        held,
+    )
 }
 
 // Captures a PDU under each SSI from one up to another; a line for each.

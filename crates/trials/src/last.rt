@@ -26,13 +26,14 @@ pub(crate) fn pdu(line: &[u8]) -> Last {
     let mut bytes = [0u8; 520];
     let count = input::bytes_at(line, length.next, &mut bytes);
     let reading = calls::read(bytes, count, bits);
+    let answer = reading.answer;
     let words = reading.words;
-    if reading.number == 0 {
+    if answer.number == 0 {
         io::write_all(1, b"read");
         show::words(&words, 0);
         tell(calls::write(words, 512));
     } else {
-        show::labelled(b"refused ", reading.number as u64);
+        show::refused(answer);
     }
     Last { bits, bytes, words }
 }
@@ -124,7 +125,8 @@ fn with_element(last: Last, n: usize, at: usize, width: usize, value: u32) -> u3
     bits::put(&mut bytes, at, width, value as u64);
     let length = BitCount(n);
     let reading = calls::read(bytes, length.bytes(), n);
-    reading.number
+    let answer = reading.answer;
+    answer.number
 }
 
 // The answer to the record with one word changed.

@@ -1,7 +1,7 @@
 // Runs cases through the seven calls, a line of standard input each, and prints a line for each.
 //
-// `BITS HEX` is the PDU of so many bits in these bytes: its refusal number; or its record, each word that is not zero as `INDEX:VALUE`, and the PDU
-// that is written of it. These speak of the PDU given last and of its record, which is zero after a refusal:
+// `BITS HEX` is the PDU of so many bits in these bytes: its refusal; or its record, each word that is not zero as `INDEX:VALUE`, and the PDU that
+// is written of it. These speak of the PDU given last and of its record, which is zero after a refusal:
 //   truncate COUNT                   its first I bits, for each I below COUNT: the answers
 //   field COUNT AT WIDTH             with each I below COUNT in the WIDTH bits at AT: the answers
 //   across COUNT WIDTH VALUE         with this value in as many bits at each I below COUNT: the answers
@@ -19,6 +19,8 @@
 //   print FROM TO                    the bytes of the held archive's buffer from FROM up to TO
 //   overwrite AT HEX                 other bytes in that buffer
 //   length N                         another length for the held archive
+//
+// A refusal is printed as `refused NUMBER`, with ` entry I` and ` bit P` after it where it says that it stopped there.
 //
 // Before each call the buffer that is lent is full of one byte. What a refusal changed of a record is printed as words, and ` changed` where a
 // byte that is not of what was written has another value. A line of any other kind is printed as it is.

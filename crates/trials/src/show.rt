@@ -1,7 +1,19 @@
 // Prints numbers, words, bytes and answers, and looks through a buffer that was lent.
 
-// What a lent buffer is full of before a call.
+// What a lent buffer is full of before a call, and what an entry and a bit place are.
 pub(crate) const FULL_BYTE: u8 = 0xa5;
+
+pub(crate) const FULL_PLACE: usize = 0xa5a5a5a5;
+
+// No entry, or no bit place: BOC_NOWHERE.
+pub(crate) const NOWHERE: usize = 18446744073709551615;
+
+// The refusal number of a call, 0 for none, and where a refusal stopped.
+pub struct Answer {
+    pub number: u32,
+    pub entry: usize,
+    pub place: usize,
+}
 
 // A buffer to be lent.
 pub(crate) fn full() -> [u8; 70000] {
@@ -47,13 +59,26 @@ fn byte(value: u8) {
     io::print_hex(1, value as u64, 2);
 }
 
-// Prints the length and the sum of what was written, or the refusal number.
-pub(crate) fn written(number: u32, size: usize, out: [u8; 70000]) {
-    if number == 0 {
+// Prints a refusal: its number, then the entry and the bit place that it has.
+pub(crate) fn refused(answer: Answer) {
+    labelled(b"refused ", answer.number as u64);
+    stopped(b" entry ", answer.entry);
+    stopped(b" bit ", answer.place);
+}
+
+fn stopped(label: &[u8], at: usize) {
+    if at != NOWHERE {
+        labelled(label, at as u64);
+    }
+}
+
+// Prints the length and the sum of what was written, or the refusal.
+pub(crate) fn written(answer: Answer, size: usize, out: [u8; 70000]) {
+    if answer.number == 0 {
         labelled(b"bytes ", size as u64);
         labelled(b" sum ", sum(&out, size));
     } else {
-        labelled(b"refused ", number as u64);
+        refused(answer);
     }
     rest(&out, size);
 }
@@ -86,9 +111,9 @@ fn and_byte(total: u64, byte: u8) -> u64 {
     (total % 16777213 * 257 + byte as u64) % 16777213
 }
 
-pub(crate) fn decision(number: u32, verdict: u32) {
-    if number != 0 {
-        labelled(b"refused ", number as u64);
+pub(crate) fn decision(answer: Answer, verdict: u32) {
+    if answer.number != 0 {
+        refused(answer);
         return;
     }
     match verdict {

@@ -3,7 +3,7 @@
 use reference::layout::REQUEST_WORDS;
 use reference::{Decision, Refused};
 
-use crate::line::{hex, put, rest, Words, FULL};
+use crate::line::{hex, put, rest, told, Words, FULL};
 
 /// Bytes of a buffer.
 const ROOM: usize = 70_000;
@@ -65,11 +65,11 @@ impl Held {
     fn replace(&mut self, room: usize, call: impl Fn(&[u8], &mut [u8]) -> Result<usize, Refused>) -> String {
         let mut out = vec![FULL; ROOM];
         let answer = call(self.archive(), &mut out[..room.min(ROOM)]);
-        let told = written(answer, &out);
+        let text = written(answer, &out);
         if let Ok(length) = answer {
             *self = Held { length, bytes: out };
         }
-        told
+        text
     }
 
     fn capture(&mut self, pdu: &[u8], bits: usize, room: usize) -> String {
@@ -96,7 +96,7 @@ impl Held {
                 let (pdu, after) = out.split_at(bits.div_ceil(8));
                 format!("bits {bits} {}{}", hex(pdu), rest(after))
             }
-            Err(refused) => format!("refused {}{}", refused.number(), rest(&out)),
+            Err(refused) => told(refused) + rest(&out),
         }
     }
 
@@ -106,7 +106,7 @@ impl Held {
             Ok(Decision::Allowed) => "allowed".into(),
             Ok(Decision::NotHeld) => "not held".into(),
             Ok(barred) => format!("barred {}", barred.number()),
-            Err(refused) => format!("refused {}", refused.number()),
+            Err(refused) => told(refused),
         }
     }
 }
@@ -115,7 +115,7 @@ impl Held {
 fn written(answer: Result<usize, Refused>, out: &[u8]) -> String {
     match answer {
         Ok(length) => format!("bytes {length} sum {}{}", sum(&out[..length]), rest(&out[length..])),
-        Err(refused) => format!("refused {}{}", refused.number(), rest(out)),
+        Err(refused) => told(refused) + rest(out),
     }
 }
 

@@ -74,6 +74,13 @@ pub fn number<T>(answer: Result<T, impl Into<Refused>>) -> u32 {
     answer.map_or_else(|refused| refused.into().number(), |_| 0)
 }
 
+/// A refusal: its number, then the entry and the bit place that it has.
+pub fn told(refused: Refused) -> String {
+    let stopped = |word, at: Option<usize>| at.map_or_else(String::new, |at| format!(" {word} {at}"));
+    let (entry, bit) = (stopped("entry", refused.entry), stopped("bit", refused.place));
+    format!("refused {}{entry}{bit}", refused.number())
+}
+
 /// Says so where a byte of a lent buffer is not as it was.
 pub fn rest(bytes: &[u8]) -> &'static str {
     if bytes.iter().all(|byte| *byte == FULL) {

@@ -2,7 +2,7 @@
 
 use reference::layout::RECORD_WORDS;
 
-use crate::line::{hex, number, put, rest, Words, FULL};
+use crate::line::{hex, number, put, rest, told, Words, FULL};
 
 /// Bytes that a record is written to unless its case says otherwise.
 const ROOM: usize = 512;
@@ -31,7 +31,7 @@ impl Last {
         self.bytes[..count].copy_from_slice(&bytes[..count]);
         match reference::read(&self.bytes[..count], self.bits, &mut self.words) {
             Ok(()) => format!("read{}{}", nonzero(&self.words), written(&self.words, ROOM)),
-            Err(refused) => format!("refused {}", refused.number()),
+            Err(refused) => told(refused),
         }
     }
 
