@@ -1,5 +1,6 @@
 // What identities among the words come to: one, the entries of a list, and a range type with its entries.
 use crate::Tally;
+use crate::elements::entries_of;
 use crate::elements::first_refusal;
 use crate::elements::tally_element;
 use crate::elements::tally_unused;
@@ -7,7 +8,6 @@ use grammar::record::Identity;
 use grammar::site::ListKind;
 use grammar::site::ends_refusal;
 use grammar::site::range_refusal;
-use grammar::site::row_of;
 ghost use mathlib.Core.Path.{_≡_};
 ghost use Prim.Native.Nat.{_+_, _≤_};
 ghost use lib.ListN.{length, drop};
@@ -79,9 +79,9 @@ pub(crate) fn tally_identities(start: Tally, list: ListKind, words: &[u32], at: 
     ensures { λ r. ⌜ Tallies (identities list) (identitiesFrom (drop at (now (words .entry)))) start r ⌝ }
 {
     let code = words[at];
-    let row = row_of(code);
+    let count = entries_of(code);
     let after_code = tally_element(start, 4, code, range_refusal(list, code));
-    let after_entries = tally_identity_entries(after_code, words, at + 1, row.entries as usize);
+    let after_entries = tally_identity_entries(after_code, words, at + 1, count);
     Tally {
         clean: after_entries.clean,
         refusal: first_refusal(after_entries.refusal, range_ends(code, words, at + 1)),

@@ -1,6 +1,7 @@
 // What external numbers among the words come to: their digits, one, the entries of a list, and a range type with its numbers.
 use crate::Tally;
 use crate::elements::both;
+use crate::elements::entries_of;
 use crate::elements::first_refusal;
 use crate::elements::none_above;
 use crate::elements::refusal_unless;
@@ -10,7 +11,6 @@ use bits::DigitCount;
 use grammar::site::ListKind;
 use grammar::site::between_refusal;
 use grammar::site::range_refusal;
-use grammar::site::row_of;
 ghost use Prim.Native.Nat.{_+_, _≤_};
 ghost use lib.ListN.{length, take, drop};
 ghost use Rattle.codec.specs.Parts.{absent, element};
@@ -69,7 +69,7 @@ pub(crate) fn tally_numbers(start: Tally, words: &[u32], at: usize) -> Tally
     ensures { λ r. ⌜ Tallies externals (numbersFrom (drop at (now (words .entry)))) start r ⌝ }
 {
     let code = words[at];
-    let row = row_of(code);
+    let count = entries_of(code);
     let after_code = tally_element(start, 4, code, range_refusal(ListKind::Numbers, code));
-    tally_number_entries(after_code, words, at + 1, row.entries as usize)
+    tally_number_entries(after_code, words, at + 1, count)
 }

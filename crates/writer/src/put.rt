@@ -1,14 +1,17 @@
 // A record that is not refused, put into the lent buffer part by part, each element straight from its words into its place.
 use bits::DigitCount;
+use grammar::site::RangeType;
 use grammar::site::SS_TYPE;
-use grammar::site::row_of;
+use grammar::site::range_type;
 ghost use mathlib.Core.Path.{_≡_};
 ghost use Prim.Native.Nat.{ℕ, _+_, _^_, _≤_, _<_};
 ghost use lib.ListN.{length, take, drop};
 ghost use Rattle.bits.specs.Lists.{Each};
 ghost use Rattle.codec.specs.Parts.{number};
 ghost use Rattle.codec.specs.Places.{places};
-ghost use Rattle.grammar.specs.Grammar.{identity, noIdentity, identities, external, noExternal, externals, services, identityPart, numberPart, partOf, interrogateAck, restOf, fromRecord, pdu};
+ghost use Rattle.grammar.specs.SiteSheet.{entriesOf};
+ghost use Rattle.grammar.specs.Grammar.{identity, noIdentity, identities, external, noExternal, externals, services};
+ghost use Rattle.grammar.specs.Grammar.{identityPart, numberPart, partOf, interrogateAck, fromRecord, pdu};
 ghost use Rattle.grammar.specs.declared.site.ListKind.the-variants as of;
 ghost use Rattle.words.specs.RecordWords.{entriesFrom, identityFrom, identitiesFrom, numberFrom, numbersFrom, servicesFrom, listsFrom, recordFrom};
 ghost use Rattle.words.proofs.LegalRecords.{SmallNumber};
@@ -43,6 +46,18 @@ fn with_codes(start: u64, words: &[u32], from: usize, count: usize, scale: u64) 
         i += 1;
     }
     run
+}
+
+// The entries that follow a range type, by its meaning.
+fn entries_of(code: u32) -> usize
+    ensures { λ r. ⌜ r ≡ entriesOf code ⌝ }
+{
+    match range_type(code) {
+        RangeType::Empty => 0,
+        RangeType::Single(count) => count as usize,
+        RangeType::FirstAndLast => 2,
+        RangeType::NoRangeType => 0,
+    }
 }
 
 // ---- identities
@@ -84,9 +99,9 @@ fn put_identities(out: &mut [u8], at: usize, words: &[u32], from: usize) -> usiz
     ensures { λ r. ⌜ Puts (identities of.Identities) (identitiesFrom (drop from (now (words .entry)))) (now (out .entry)) (now (out .exit)) at r ⌝ }
 {
     let code = words[from];
-    let row = row_of(code);
+    let count = entries_of(code);
     let after_code = put_element(out, at, 4, code);
-    put_identity_entries(out, after_code, words, from + 1, row.entries as usize)
+    put_identity_entries(out, after_code, words, from + 1, count)
 }
 
 // ---- external numbers
@@ -129,9 +144,9 @@ fn put_numbers(out: &mut [u8], at: usize, words: &[u32], from: usize) -> usize
     ensures { λ r. ⌜ Puts externals (numbersFrom (drop from (now (words .entry)))) (now (out .entry)) (now (out .exit)) at r ⌝ }
 {
     let code = words[from];
-    let row = row_of(code);
+    let count = entries_of(code);
     let after_code = put_element(out, at, 4, code);
-    put_number_entries(out, after_code, words, from + 1, row.entries as usize)
+    put_number_entries(out, after_code, words, from + 1, count)
 }
 
 // ---- services

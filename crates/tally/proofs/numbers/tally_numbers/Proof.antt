@@ -1,8 +1,7 @@
 -- The range type, and as many numbers as it says. Assumes nothing.
-use mathlib.Core.Path.{_≡_, sym, ap}
-use Rattle.grammar.specs.SiteSheet.{entriesOf, rangeRefusal}
+use mathlib.Core.Path.{ap}
+use Rattle.grammar.specs.SiteSheet.{rangeRefusal}
 use Rattle.grammar.specs.Grammar.{external, noExternal, externals}
-use Rattle.grammar.specs.declared.site.Row.{Row}
 use Rattle.grammar.specs.declared.site.ListKind.the-variants.{Numbers}
 use Rattle.grammar.proofs.Codes.{entriesOf-le}
 use Rattle.words.specs.RecordWords.{word}
@@ -19,35 +18,30 @@ use Rattle.tally.proofs.numbers.tally_numbers.Tie as tie
 fits : (c : tie.Start) → Fits (externals) (numbersAt (now (c .args .words)) (c .args .at)) (c .args .start)
 fits c = rw numbers-at at (c .pre .1)
 
-entries : (c : tie.After-row-of) → let a = c .before .before .before .args in c .row-of .result .entries ≡ entriesOf
-    (word (now (a .words)) (a .at))
-entries c = ap (λ (row : Row). row .entries) (c .row-of .ensures)
-
 tally-element-requires : tie.Need-tally-element-requires
 unfolding externals
 tally-element-requires c κs =
-    let p = c .before .before .before .before in
-    let b = p in (omega arith, fits-element 4 (rangeRefusal (Numbers)) (fits-first _ (fits-shape _ _ _ _ (fits b))))
+    let b = c .before .before .before .before in (omega arith, fits-element 4 (rangeRefusal Numbers) (fits-first _ (fits-shape _ _ _ _ (fits b))))
 
 tally-number-entries-requires : tie.Need-tally-number-entries-requires
 unfolding externals
 tally-number-entries-requires c κs =
-    let b = c .before .before .before .before .before .before in
-    let r = c .before .before .before in
-    let e = refusing 4 (rangeRefusal (Numbers)) (c .before .tally-element .ensures) (c .before .before .range-refusal .ensures) in (
+    let b = c .before .before .before .before .before in
+    let r = c .before .before in
+    let e = refusing 4 (rangeRefusal Numbers) (c .tally-element .ensures) (c .before .range-refusal .ensures) in (
       omega (arith, b .pre .0),
-      omega (arith, entries r, entriesOf-le (word (now (b .args .words)) (b .args .at))),
-      fits-as (ap (places external noExternal 8) (entries r)) (fits-next _ (fits-shape _ _ _ _ (fits b)) e),
+      omega (arith, r .entries-of .ensures, entriesOf-le (word (now (b .args .words)) (b .args .at))),
+      fits-as (ap (places external noExternal 8) (r .entries-of .ensures)) (fits-next _ (fits-shape _ _ _ _ (fits b)) e),
     )
 
 returns : tie.Need-returns
 unfolding externals
 returns c =
-    let p = c .before .before .before in
+    let p = c .before .before in
     let q = p .before in
     let b = q .before .before .before in
-    let e = refusing 4 (rangeRefusal (Numbers)) (c .before .before .tally-element .ensures) (p .range-refusal .ensures) in
-    let l = tallies-as (ap (places external noExternal 8) (entries q)) (c .tally-number-entries .ensures) in
+    let e = refusing 4 (rangeRefusal Numbers) (c .before .tally-element .ensures) (p .range-refusal .ensures) in
+    let l = tallies-as (ap (places external noExternal 8) (q .entries-of .ensures)) (c .tally-number-entries .ensures) in
     rw numbers-at (shape _ _ _ _ (then _ e l))
 
 pub tally-numbers-spec : {M : Type 1} → statement M
@@ -55,4 +49,4 @@ tally-numbers-spec =
     tie.close
     (tie.spec
     (λ c. search needs) (λ c. search needs) (λ c κs. search needs) (λ c κs. search needs) tally-element-requires (λ c. search needs)
-    (λ c. search needs) tally-number-entries-requires returns)
+    tally-number-entries-requires returns)

@@ -1,10 +1,8 @@
 -- The range type, and as many numbers as it says. Assumes nothing.
-use mathlib.Core.Path.{_≡_, ap}
 use Rattle.bits.specs.Lists.{Each}
-use Rattle.grammar.specs.SiteSheet.{entriesOf, rangeRefusal}
+use Rattle.grammar.specs.SiteSheet.{rangeRefusal}
 use Rattle.grammar.specs.Grammar.{external, noExternal, externals}
 use Rattle.grammar.specs.declared.site.ListKind.the-variants.{Numbers}
-use Rattle.grammar.specs.declared.site.Row.{Row}
 use Rattle.grammar.proofs.Codes.{entriesOf-le}
 use Rattle.words.specs.RecordWords.{word}
 use Rattle.words.proofs.LegalRecords.{SmallNumber}
@@ -24,10 +22,6 @@ room c = rw numbers-at at (c .pre .2)
 small : (c : tie.Start) → Each SmallNumber (numbersAt (now (c .args .words)) (c .args .from) .entries)
 small c = rw numbers-at at (c .pre .1)
 
-entries : (c : tie.After-row-of) → let a = c .before .before .before .before .args in c .row-of .result .entries ≡ entriesOf
-    (word (now (a .words)) (a .from))
-entries c = ap (λ (row : Row). row .entries) (c .row-of .ensures)
-
 put-element-requires : tie.Need-put-element-requires
 unfolding externals
 put-element-requires c κs =
@@ -37,28 +31,28 @@ put-element-requires c κs =
 put-number-entries-requires : tie.Need-put-number-entries-requires
 unfolding externals
 put-number-entries-requires c κs =
-    let b = c .before .before .before .before .before .before .before .before .before .before in
-    let r = c .before .before .before .before .before .before in
-    let code = put-element 4 (rangeRefusal Numbers) (c .before .before .before .before .put-element .ensures) in (
+    let b = c .before .before .before .before .before .before .before .before .before in
+    let r = c .before .before .before .before .before in
+    let code = put-element 4 (rangeRefusal Numbers) (c .before .before .before .put-element .ensures) in (
       omega (arith, b .pre .0),
-      omega (arith, entries r, entriesOf-le (word (now (b .args .words)) (b .args .from))),
+      omega (arith, r .entries-of .ensures, entriesOf-le (word (now (b .args .words)) (b .args .from))),
       small b,
-      room-used external noExternal 8 (entries r) (room-next _ (room-shape _ _ _ _ (room b)) code),
+      room-used external noExternal 8 (r .entries-of .ensures) (room-next _ (room-shape _ _ _ _ (room b)) code),
     )
 
 returns : tie.Need-returns
 unfolding externals
 returns c =
-    let p = c .before .before .before .before .before .before .before in
+    let p = c .before .before .before .before .before .before in
     let q = p .before .before in
     let r = q .before .before .before .before in
     let code = put-element 4 (rangeRefusal Numbers) (p .put-element .ensures) in
     rw numbers-at (put-shape _ _ _ _ (put-then _ (room-shape _ _ _ _ (room r)) code
-    (λ h. put-used external noExternal 8 (entries q) (c .before .before .put-number-entries .ensures))))
+    (λ h. put-used external noExternal 8 (q .entries-of .ensures) (c .before .before .put-number-entries .ensures))))
 
 pub put-numbers-spec : {M : Type 1} → statement M
 put-numbers-spec =
     tie.close
     (tie.spec
-    (λ c. search needs) (λ c. search needs) (λ c κs. search needs) put-element-requires (λ c. search needs) (λ c. search needs)
+    (λ c. search needs) (λ c. search needs) (λ c κs. search needs) put-element-requires (λ c. search needs)
     put-number-entries-requires (λ c. search needs) returns)
