@@ -2,7 +2,7 @@
 use mathlib.Core.Path.{_≡_, refl, sym, ap, ap₂, _∙_}
 use mathlib.Core.Bool.{Bool, true, false, _&&_}
 use mathlib.Core.List.{List, [], _∷_, _++_}
-use Prim.Native.Nat.{ℕ, zero, suc, _+_, _-_, _*_, _≤_, _<_, min}
+use Prim.Native.Nat.{ℕ, zero, suc, _+_, _-_, _*_, _≤_, min}
 use native.Mathlib.Omega.{arith}
 use lib.ListN.{length, take, drop, length-append, length-drop}
 use lib.Seq.{take-nil, drop-nil, take-add, take-take, drop-at, drop-drop, length-take-le}
@@ -14,7 +14,7 @@ use Rattle.bits.proofs.Numbers.{length-bitsOf}
 use Rattle.bits.proofs.Lists.{take-min, drop-min}
 use Rattle.bits.specs.Lists.{every}
 use Rattle.codec.specs.Codec.{first}
-use Rattle.codec.specs.Parts.{isZero, numberFault, number, absent, element, tested}
+use Rattle.codec.specs.Parts.{numberFault, number, absent, element, tested}
 use Rattle.codec.specs.Places.{nil, cons, places}
 use Rattle.grammar.specs.SiteSheet.{digitRefusal}
 use Rattle.grammar.proofs.Codes.{digit-refusal}

@@ -10,10 +10,10 @@ use lib.Seq.{take-add, drop-drop, getD-drop}
 use lib.Dec.{leb}
 use Rattle.bits.specs.Lists.{every}
 use Rattle.codec.specs.Codec.{Codec, first}
-use Rattle.codec.specs.Parts.{isZero, absent, seq, shaped}
+use Rattle.codec.specs.Parts.{absent, seq, shaped}
 use Rattle.codec.specs.Places.{nil, cons, places}
 use Rattle.grammar.specs.Grammar.{noIdentity, noIdentities, noExternal, noExternals, noServices, noPart}
-use Rattle.words.specs.RecordWords.{word, narrow, narrowed, entriesFrom, identityFrom}
+use Rattle.words.specs.RecordWords.{word, narrow, entriesFrom, identityFrom}
 use Rattle.words.specs.RecordWords.{identitiesFrom, numberFrom, numbersFrom, servicesFrom, listsFrom}
 use Rattle.words.proofs.Filling.{words-taken, words-narrowed}
 use Rattle.tally.specs.Tally.{Tallies}

@@ -3,17 +3,17 @@ use mathlib.Core.Path.{_≡_, refl, sym, ap, ap₂, _∙_, subst}
 use mathlib.Core.Bool.{Bool, true, false}
 use mathlib.Core.List.{List, [], _∷_, _++_, append-nil, append-assoc}
 use Prim.Native.Nat.{ℕ, zero, suc, _+_, _-_, _*_, _/_, _%_, _^_, _≤_, _<_, min}
-use native.Mathlib.Nat.{zero-add, add-zero}
+use native.Mathlib.Nat.{zero-add}
 use native.Mathlib.Numerals.{add-one}
 use native.Mathlib.Omega.{arith}
-use lib.ListN.{length, take, drop, getD, length-append, length-drop, take-append-drop}
+use lib.ListN.{length, take, drop, getD, length-append, length-drop}
 use lib.Seq.{take-nil, take-at, take-add, take-suc, take-take, drop-drop, length-take-le}
 use lib.Dec.{leb}
 use borrow.Author.Tests.{leb-true, leb-false}
 use Rattle.bits.specs.Bits.{bitsOf}
 use Rattle.bits.specs.Lists.{Each}
 use Rattle.bits.proofs.Numbers.{length-bitsOf, bitsOf-add, bitsOf-mod, bitsOf-join}
-use Rattle.bits.proofs.Lists.{take-min, take-used}
+use Rattle.bits.proofs.Lists.{take-used}
 use Rattle.codec.specs.Parts.{number, absent, element, seq, tested, shaped}
 use Rattle.codec.specs.Places.{nil, cons, places}
 use Rattle.grammar.specs.Grammar.{external, services}

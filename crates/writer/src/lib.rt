@@ -12,7 +12,7 @@ use words::record::RECORD_WORDS;
 ghost use mathlib.Core.Path.{_≡_};
 ghost use mathlib.Core.List.{_++_};
 ghost use Prim.Native.Nat.{_≤_};
-ghost use lib.ListN.{length, take, drop};
+ghost use lib.ListN.{length, drop};
 ghost use lib.Dec.{leb};
 ghost use Rattle.bits.specs.Bits.{pick};
 ghost use Rattle.bits.specs.Frame.{bytesFor, pack};

@@ -15,7 +15,6 @@ use Rattle.writer.specs.Write.{lengthOf, writeRefusal, written}
 use Rattle.writer.specs.declared.Written.the-variants.{Bits}
 use Rattle.writer.proofs.Writes.{other-kind, not-clean, then-fault, written-first, written-some}
 use borrow.Author.Needs.{needs}
-use native.Mathlib.Omega.{arith}
 use denote.Ref.{now}
 use Rattle.writer.proofs.checked.Statement.{statement}
 use Rattle.writer.proofs.checked.Tie as tie

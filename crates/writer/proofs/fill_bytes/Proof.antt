@@ -5,7 +5,7 @@ use mathlib.Core.List.{List, _++_}
 use Prim.Native.Nat.{ℕ, _+_, _-_, _*_, _≤_}
 use native.Mathlib.Nat.{zero-add}
 use lib.ListN.{length, take}
-use Rattle.bits.specs.Bits.{bits, bitsOf}
+use Rattle.bits.specs.Bits.{bitsOf}
 use Rattle.bits.specs.Frame.{bytesFor}
 use Rattle.bits.proofs.Lays.{lay-front}
 use Rattle.grammar.specs.Grammar.{pdu}

@@ -1,6 +1,5 @@
 -- Only code 9 is a range, of the first two entries. Assumes nothing.
 use mathlib.Core.Path.{sym, ap₂, _∙_}
-use lib.ListN.{drop}
 use lib.Seq.{drop-drop}
 use borrow.Author.Tests.{eq-eqb}
 use Rattle.grammar.specs.Grammar.{endsRefusal, rangeEnds}
