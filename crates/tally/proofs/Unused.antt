@@ -2,13 +2,14 @@
 use mathlib.Core.Path.{_≡_, refl, sym, ap, ap₂, _∙_, subst}
 use mathlib.Core.Bool.{Bool, true, _&&_, and-true, and-assoc}
 use mathlib.Core.List.{List, [], _∷_, _++_}
-use Prim.Native.Nat.{ℕ, zero, suc, _+_, _*_, _≤_}
+use Prim.Native.Nat.{ℕ, zero, suc, _+_, _-_, _*_, _≤_}
 use native.Mathlib.Nat.{add-zero}
 use native.Mathlib.Omega.{arith}
 use lib.ListN.{length, take, drop, length-drop}
 use lib.Seq.{take-add, drop-drop, getD-drop}
 use lib.Dec.{leb}
 use Rattle.bits.specs.Lists.{every}
+use Rattle.bits.proofs.Tests.{both}
 use Rattle.codec.specs.Codec.{Codec, first}
 use Rattle.codec.specs.Parts.{absent, seq, shaped}
 use Rattle.codec.specs.Places.{nil, cons, places}
@@ -27,6 +28,14 @@ unfolding noneAbove every
 none-append most [] b = refl
 none-append most (x ∷ a) b = ap (λ (t : Bool). leb x most && t) (none-append most a b) ∙ sym
     (and-assoc (leb x most) (noneAbove most a) (noneAbove most b))
+
+-- where none of the first n is above, none of the first m of them is
+pub none-front : (most m n : ℕ) (l : List ℕ) → m ≤ n → noneAbove most (take n l) ≡ true → noneAbove most (take m l) ≡ true
+none-front most m n l few none =
+    let all : m + (n - m) ≡ n = omega arith in
+    both (noneAbove most (take m l)) (noneAbove most (take (n - m) (drop m l)))
+    (sym (ap (noneAbove most) (ap (λ (k : ℕ). take k l) (sym all) ∙ take-add m (n - m) l)
+    ∙ none-append most (take m l) (take (n - m) (drop m l))) ∙ none) .0
 
 -- of the value a the PDU carries nothing, and its words are all zero or it is not clean
 pub record Absent {A : Type 0} (c : Codec A) (a : A) (words : List ℕ) : Type 0 where

@@ -11,6 +11,7 @@ use bits::DigitCount;
 use grammar::site::ListKind;
 use grammar::site::between_refusal;
 use grammar::site::range_refusal;
+ghost use mathlib.Core.Path.{_≡_};
 ghost use Prim.Native.Nat.{_+_, _≤_};
 ghost use lib.ListN.{length, take, drop};
 ghost use Rattle.codec.specs.Parts.{absent, element};
@@ -19,7 +20,18 @@ ghost use Rattle.grammar.specs.SiteSheet.{digitRefusal};
 ghost use Rattle.grammar.specs.Grammar.{external, noExternal, externals};
 ghost use Rattle.words.specs.RecordWords.{entriesFrom, narrow, narrowed, numberFrom, numbersFrom};
 ghost use Rattle.tally.specs.Tally.{Tallies};
-ghost use Rattle.tally.specs.Inner.{Fits};
+ghost use Rattle.tally.specs.Inner.{Fits, noneAbove};
+
+// Whether none of the first `used` of 24 digits is above 12. All are tested first: a fixed number of turns is quicker, and zeros pass too.
+fn are_legal(words: &[u32], from: usize, used: usize) -> bool
+    requires { ⌜ (from + 24 ≤ length (now words)) × (used ≤ 24) ⌝ }
+    ensures { λ r. ⌜ r ≡ noneAbove 12 (take used (drop from (now (words .entry)))) ⌝ }
+{
+    if none_above(words, from, 24, 12) {
+        return true;
+    }
+    none_above(words, from, used, 12)
+}
 
 // The first n of 24 digits are used: none is above 12, and zeros stand after them.
 fn tally_digits(start: Tally, words: &[u32], from: usize, n: usize) -> Tally
@@ -27,7 +39,7 @@ fn tally_digits(start: Tally, words: &[u32], from: usize, n: usize) -> Tally
     ensures { λ r. ⌜ Tallies (places (element 4 digitRefusal) absent 24 (narrow n)) (narrowed (take 24 (drop from (now (words .entry))))) start r ⌝ }
 {
     let used = bits::least(n, 24);
-    let legal = none_above(words, from, used, 12);
+    let legal = are_legal(words, from, used);
     let unused = none_above(words, from + used, 24 - used, 0);
     Tally {
         clean: both(start.clean, unused),

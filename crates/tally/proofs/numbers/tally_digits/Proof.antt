@@ -36,7 +36,7 @@ returns c =
     let a = b .args in
     let u = t .before in
     digits-tallied (now (a .words)) (narrow (a .n)) (a .from) (u .least .result) (b .pre .0) (few u)
-    (t .none-above .ensures) (s .none-above2 .ensures) (r .both .ensures)
+    (t .are-legal .ensures) (s .none-above .ensures) (r .both .ensures)
     (p .first-refusal .ensures ∙ ap (first (a .start .refusal)) (q .refusal-unless .ensures))
     (ap (_+_ (a .start .bits)) (c .before .before .bits .ensures))
 
