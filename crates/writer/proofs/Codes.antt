@@ -3,7 +3,6 @@ use mathlib.Core.Path.{_≡_, refl, sym, ap, ap₂, _∙_, subst}
 use mathlib.Core.Bool.{Bool, true, false}
 use mathlib.Core.List.{List, [], _∷_, _++_, append-nil, append-assoc}
 use Prim.Native.Nat.{ℕ, zero, suc, _+_, _-_, _*_, _/_, _%_, _^_, _≤_, _<_, min}
-use native.Mathlib.Nat.{zero-add}
 use native.Mathlib.Numerals.{add-one}
 use native.Mathlib.Omega.{arith}
 use lib.ListN.{length, take, drop, getD, length-append, length-drop}
@@ -12,7 +11,7 @@ use lib.Dec.{leb}
 use borrow.Author.Tests.{leb-true, leb-false}
 use Rattle.bits.specs.Bits.{bitsOf}
 use Rattle.bits.specs.Lists.{Each}
-use Rattle.bits.proofs.Numbers.{length-bitsOf, bitsOf-add, bitsOf-mod, bitsOf-join}
+use Rattle.bits.proofs.Numbers.{length-bitsOf, bitsOf-add, bitsOf-join}
 use Rattle.bits.proofs.Lists.{take-used}
 use Rattle.codec.specs.Parts.{number, absent, element, seq, tested, shaped}
 use Rattle.codec.specs.Places.{nil, cons, places}
@@ -21,6 +20,7 @@ use Rattle.words.specs.RecordWords.{word, narrow, narrowed}
 use Rattle.words.proofs.LegalRecords.{Small, SmallNumber}
 use Rattle.tally.proofs.Words.{numberAt, servicesAt}
 use Rattle.writer.specs.Inner.{codeBits, CodesAfter}
+use Rattle.writer.proofs.Runs.{low-bits}
 
 -- ---- codes of w bits
 
@@ -125,12 +125,12 @@ module _ (s : List ℕ) (at : ℕ) (long : at + 25 ≤ length s) (small : SmallN
   pub length-small : word s at < 255
   length-small = omega (arith, small .small .0)
 
-  pub number-runs : (early late x y : ℕ) → early ≡ min (word s at) 12 → early + late ≡ min (word s at) 24
-      → CodesAfter 4 12 (word s at) (take 12 (drop (at + 1) s)) x → CodesAfter 4 12 0 (take 12 (drop (at + 13) s)) y
-      → external .print (numberAt s at) ≡ number (5 + 4 * early) .print (x / 2 ^ (48 - 4 * early)) ++ number (4 * late) .print
-      (y / 2 ^ (48 - 4 * late))
+  -- its length and the digits that stand with it, and the others
+  pub number-front : (early late x : ℕ) → early ≡ min (word s at) 12 → early + late ≡ min (word s at) 24
+      → CodesAfter 4 12 (word s at) (take 12 (drop (at + 1) s)) x
+      → external .print (numberAt s at) ≡ bitsOf (5 + 4 * early) (x / 2 ^ (48 - 4 * early)) ++ codeBits 4 (take late (drop (at + 13) s))
   unfolding external shaped seq element tested number bitsOf
-  number-runs early late x y he hl hx hy =
+  number-front early late x he hl hx =
       let n : ℕ = word s at in
       let v : List ℕ = drop (at + 1) s in
       let w : List ℕ = drop (at + 13) s in
@@ -141,29 +141,37 @@ module _ (s : List ℕ) (at : ℕ) (long : at + 25 ≤ length s) (small : SmallN
       let early-bits : bitsOf (5 + 4 * early) (x / 2 ^ (48 - 4 * early)) ≡ bitsOf 5 n ++ codeBits 4 (take early v) =
       first-codes 4 12 (48 - 4 * early) v early n x (omega arith) (omega (arith, length-drop (at + 1) s)) (omega arith) hx 5
       in
-      let late-bits : bitsOf (4 * late) (y / 2 ^ (48 - 4 * late)) ≡ codeBits 4 (take late w) =
-      ap (λ (k : ℕ). bitsOf k (y / 2 ^ (48 - 4 * late))) (sym (zero-add (4 * late)))
-      ∙ first-codes 4 12 (48 - 4 * late) w late 0 y (omega arith) (omega (arith, length-drop (at + 13) s)) (omega arith) hy 0
-      in
       ap₂ (λ (a b : List Bool). a ++ b) (ap (bitsOf 5) same)
       (print-codes 4 _ 24 (narrow n) (narrowed (take 24 v)) (small .digits)
       ∙ ap (codeBits 4) (ap₂ (λ (k : ℕ) (l : List ℕ). take k l) same plain
       ∙ halves n early late v (omega (arith, length-drop (at + 1) s)) he hl ∙ ap (λ (l : List ℕ). take early v ++ take late l) later)
       ∙ codeBits-append 4 (take early v) (take late w))
       ∙ sym (append-assoc (bitsOf 5 n) (codeBits 4 (take early v)) (codeBits 4 (take late w)))
-      ∙ ap₂ (λ (a b : List Bool). a ++ b) (sym early-bits) (sym late-bits)
+      ∙ ap (λ (l : List Bool). l ++ codeBits 4 (take late w)) (sym early-bits)
+
+  -- the others, after k bits that stand before them
+  pub number-rest : (k late x y : ℕ) → k ≤ 8 → late ≤ 12 → CodesAfter 4 12 (x % 256) (take 12 (drop (at + 13) s)) y
+      → bitsOf (k + 4 * late) (y / 2 ^ (48 - 4 * late)) ≡ bitsOf k x ++ codeBits 4 (take late (drop (at + 13) s))
+  number-rest k late x y few twelve hy =
+      let w : List ℕ = drop (at + 13) s in
+      first-codes 4 12 (48 - 4 * late) w late (x % 256) y twelve (omega (arith, length-drop (at + 13) s)) (omega arith) hy k
+      ∙ ap (λ (l : List Bool). l ++ codeBits 4 (take late w)) (low-bits k 8 x few)
 
 -- ---- services
 
-pub services-run : (s : List ℕ) (at used x : ℕ) → at + 8 ≤ length s → used ≡ min (word s at) 7
-    → CodesAfter 3 7 (word s at % 8) (take 7 (drop (at + 1) s)) x → services .print (servicesAt s at) ≡ bitsOf (3 + 3 * used)
-    (x / 2 ^ (21 - 3 * used))
+-- five bits, the number of services, and as many of them
+pub services-run : (s : List ℕ) (at used lead x : ℕ) → at + 8 ≤ length s → used ≡ min (word s at) 7
+    → CodesAfter 3 7 (lead * 8 + word s at % 8) (take 7 (drop (at + 1) s)) x
+    → seq (number 5) (λ v. services) .print (lead, servicesAt s at) ≡ bitsOf (8 + 3 * used) (x / 2 ^ (21 - 3 * used))
 unfolding services shaped seq element tested number
-services-run s at used x long few hx =
+services-run s at used lead x long few hx =
     let n : ℕ = word s at in
     let v : List ℕ = drop (at + 1) s in
+    let codes : List Bool = codeBits 3 (take used v) in
     let full : length (take 7 v) ≡ 7 = length-take-le 7 v (omega (arith, length-drop (at + 1) s)) in
-    ap₂ (λ (a b : List Bool). a ++ b) (sym (bitsOf-mod 3 n))
+    ap (λ (l : List Bool). bitsOf 5 lead ++ (bitsOf 3 n ++ l))
     (print-codes 3 _ 7 n (take 7 v) full
     ∙ ap (codeBits 3) (sym (take-used (take 7 v) n full few) ∙ take-take used 7 v (omega arith)))
-    ∙ sym (first-codes 3 7 (21 - 3 * used) v used (n % 8) x (omega arith) (omega (arith, length-drop (at + 1) s)) (omega arith) hx 3)
+    ∙ sym (append-assoc (bitsOf 5 lead) (bitsOf 3 n) codes)
+    ∙ ap (λ (l : List Bool). l ++ codes) (sym (bitsOf-join 5 3 lead n))
+    ∙ sym (first-codes 3 7 (21 - 3 * used) v used (lead * 8 + n % 8) x (omega arith) (omega (arith, length-drop (at + 1) s)) (omega arith) hx 8)

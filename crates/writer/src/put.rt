@@ -7,7 +7,7 @@ ghost use mathlib.Core.Path.{_≡_};
 ghost use Prim.Native.Nat.{ℕ, _+_, _^_, _≤_, _<_};
 ghost use lib.ListN.{length, take, drop};
 ghost use Rattle.bits.specs.Lists.{Each};
-ghost use Rattle.codec.specs.Parts.{number};
+ghost use Rattle.codec.specs.Parts.{number, seq};
 ghost use Rattle.codec.specs.Places.{places};
 ghost use Rattle.grammar.specs.SiteSheet.{entriesOf};
 ghost use Rattle.grammar.specs.Grammar.{identity, noIdentity, identities, external, noExternal, externals, services};
@@ -106,20 +106,25 @@ fn put_identities(out: &mut [u8], at: usize, words: &[u32], from: usize) -> usiz
 
 // ---- external numbers
 
-// The length, and as many digits: up to twelve with it, and up to twelve more.
+// The length, and as many digits: up to twelve with it, and up to twelve more. Those begin at the byte in which the first run ends: its last
+// bits are put again, so that no byte is read back that was just stored.
 fn put_number(out: &mut [u8], at: usize, words: &[u32], from: usize) -> usize
     requires { ⌜ (from + 25 ≤ length (now words)) × SmallNumber (numberFrom (drop from (now words))) × Room external (numberFrom (drop from (now words))) (now out) at ⌝ }
     ensures { λ r. ⌜ Puts external (numberFrom (drop from (now (words .entry)))) (now (out .entry)) (now (out .exit)) at r ⌝ }
 {
     let count = words[from];
     let early = bits::least(count as usize, 12);
-    let late = bits::least(count as usize, 24) - early;
     let early_bits = DigitCount(early as u8).bits().0;
-    let late_bits = DigitCount(late as u8).bits().0;
     let first = with_codes(count as u64, words, from + 1, 12, 16) >> (48 - early_bits);
-    let second = with_codes(0, words, from + 13, 12, 16) >> (48 - late_bits);
     let middle = put_run(out, at, 5 + early_bits, first);
-    put_run(out, middle, late_bits, second)
+    if count < 13 {
+        return middle;
+    }
+    let late = bits::least(count as usize, 24) - 12;
+    let late_bits = DigitCount(late as u8).bits().0;
+    let again = middle % 8;
+    let second = with_codes(first % 256, words, from + 13, 12, 16) >> (48 - late_bits);
+    put_run(out, middle - again, again + late_bits, second)
 }
 
 // The first n of eight entries.
@@ -151,15 +156,16 @@ fn put_numbers(out: &mut [u8], at: usize, words: &[u32], from: usize) -> usize
 
 // ---- services
 
-// The number of services, and as many services, as one run.
-fn put_services(out: &mut [u8], at: usize, words: &[u32], from: usize) -> usize
-    requires { ⌜ (from + 8 ≤ length (now words)) × Room services (servicesFrom (drop from (now words))) (now out) at ⌝ }
-    ensures { λ r. ⌜ Puts services (servicesFrom (drop from (now (words .entry)))) (now (out .entry)) (now (out .exit)) at r ⌝ }
+// Five bits, the number of services, and as many services, as one run.
+fn put_services(out: &mut [u8], at: usize, lead: u32, words: &[u32], from: usize) -> usize
+    requires { ⌜ (lead < 32) × (from + 8 ≤ length (now words)) × Room (seq (number 5) (λ x. services)) (lead, servicesFrom (drop from (now words))) (now out) at ⌝ }
+    ensures { λ r. ⌜ Puts (seq (number 5) (λ x. services)) (lead, servicesFrom (drop from (now (words .entry)))) (now (out .entry)) (now (out .exit)) at r ⌝ }
 {
     let count = words[from];
     let used_bits = 3 * bits::least(count as usize, 7);
-    let run = with_codes((count % 8) as u64, words, from + 1, 7, 8) >> (21 - used_bits);
-    put_run(out, at, 3 + used_bits, run)
+    let start = (lead * 8 + count % 8) as u64;
+    let run = with_codes(start, words, from + 1, 7, 8) >> (21 - used_bits);
+    put_run(out, at, 8 + used_bits, run)
 }
 
 // ---- the lists, by the interrogation result
@@ -200,15 +206,14 @@ fn put_part(out: &mut [u8], at: usize, result: u32, words: &[u32], from: usize) 
 
 // ---- the two PDUs
 
-// What follows the affected users in an INTERROGATE ACK.
+// What follows the affected users in an INTERROGATE ACK; result, delivery status and services are one run.
 fn put_interrogate_ack(out: &mut [u8], at: usize, words: &[u32]) -> usize
     requires { ⌜ (length (now words) ≡ 514) × Small (recordFrom (now words) .lists) × Room interrogateAck (fromRecord (recordFrom (now words)) .1 .1) (now out) at ⌝ }
     ensures { λ r. ⌜ Puts interrogateAck (fromRecord (recordFrom (now (words .entry))) .1 .1) (now (out .entry)) (now (out .exit)) at r ⌝ }
 {
     let result = words[27];
-    let after_result = put_element(out, at, 3, result);
-    let after_delivery = put_element(out, after_result, 2, words[28]);
-    let after_services = put_services(out, after_delivery, words, 29);
+    let lead = (result % 8) * 4 + words[28] % 4;
+    let after_services = put_services(out, at, lead, words, 29);
     put_part(out, after_services, result, words, 37)
 }
 

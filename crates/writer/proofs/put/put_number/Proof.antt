@@ -1,15 +1,17 @@
--- An external number is two runs. Assumes nothing.
-use mathlib.Core.Path.{_≡_, refl, sym, _∙_}
-use mathlib.Core.List.{_++_}
-use Prim.Native.Nat.{_+_, _-_, _/_, _^_, _<_}
-use Rattle.codec.specs.Parts.{number}
+-- An external number is one run, or two of which the second puts the last bits of the first again. Assumes nothing.
+use mathlib.Core.Path.{_≡_, refl, sym, ap, _∙_}
+use mathlib.Core.Bool.{Bool}
+use mathlib.Core.List.{List, _++_, append-nil}
+use Prim.Native.Nat.{ℕ, _+_, _-_, _*_, _/_, _%_, _^_, _≤_, _<_, min}
+use lib.ListN.{take, drop}
+use Rattle.bits.specs.Bits.{bitsOf}
 use Rattle.grammar.specs.Grammar.{external}
 use Rattle.words.specs.RecordWords.{word}
 use Rattle.words.proofs.LegalRecords.{SmallNumber}
 use Rattle.tally.proofs.Words.{numberAt, number-at}
-use Rattle.writer.specs.Inner.{Room}
-use Rattle.writer.proofs.Puts.{left, right, join}
-use Rattle.writer.proofs.Codes.{length-small, number-runs}
+use Rattle.writer.specs.Inner.{Room, codeBits}
+use Rattle.writer.proofs.Runs.{put-as-run, room-front, room-over, put-over}
+use Rattle.writer.proofs.Codes.{length-small, number-front, number-rest}
 use borrow.Author.Needs.{needs}
 use native.Mathlib.Omega.{arith}
 use denote.Ref.{now}
@@ -25,59 +27,96 @@ small c = rw number-at at (c .pre .1)
 few : (c : tie.Start) → word (now (c .args .words)) (c .args .from) < 255
 few c = length-small (now (c .args .words)) (c .args .from) (omega (arith, c .pre .0)) (small c)
 
-whole : (c : tie.After-with-codes2) → let late = c .before .before in let early = late .before in
-    let a = c .before .before .before .before .before .before .before .before .before .args in
-    external .print (numberAt (now (a .words)) (a .from))
-    ≡ number (5 + early .bits .result .0) .print (c .before .with-codes .result / 2 ^ (48 - early .bits .result .0))
-    ++ number (late .bits2 .result .0) .print (c .with-codes2 .result / 2 ^ (48 - late .bits2 .result .0))
-whole c =
-    let late = c .before .before in
-    let early = c .before .before .before in
-    let u = c .before .before .before .before in
-    let v = c .before .before .before .before .before in
-    let b = c .before .before .before .before .before .before .before .before .before in
-    let p = sym (early .bits .ensures) in
-    let q = sym (late .bits2 .ensures) in
-    number-runs (now (b .args .words)) (b .args .from) (omega (arith, b .pre .0)) (small b) _ _ _ _
-    (omega (arith, v .least .ensures)) (omega (arith, v .least .ensures, u .least2 .ensures)) (c .before .with-codes .ensures 4 refl)
-    (c .with-codes2 .ensures 4 refl)
-    ∙ (λ i. number (5 + p i) .print (c .before .with-codes .result / 2 ^ (48 - p i)) ++ number (q i) .print
-    (c .with-codes2 .result / 2 ^ (48 - q i)))
+-- the digits that the first run does not have
+abbrev others : (c : tie.Start) → ℕ → List Bool
+others c late = codeBits 4 (take late (drop (c .args .from + 13) (now (c .args .words))))
+
+front : (c : tie.After-with-codes) (late : ℕ) → let b = c .before .before .before .before .before .before in
+    let early = c .before .bits .result .0 in
+    c .before .before .least .result + late ≡ min (word (now (b .args .words)) (b .args .from)) 24
+    → external .print (numberAt (now (b .args .words)) (b .args .from)) ≡ bitsOf (5 + early) (c .with-codes .result / 2 ^ (48 - early)) ++ others b late
+front c late all =
+    let b = c .before .before .before .before .before .before in
+    let p = sym (c .before .bits .ensures) in
+    number-front (now (b .args .words)) (b .args .from) (omega (arith, b .pre .0)) (small b) _ late _ (omega (arith, c .before .before .least .ensures))
+    all (c .with-codes .ensures 4 refl)
+    ∙ (λ i. bitsOf (5 + p i) (c .with-codes .result / 2 ^ (48 - p i)) ++ others b late)
 
 with-codes-requires : tie.Need-with-codes-requires
 with-codes-requires c κs =
-    let p = c .before .before .before .before .before .before .before in
-    let b = p in (omega (arith, few b), omega arith, omega arith, omega arith, omega (arith, b .pre .0))
-
-with-codes-requires-2 : tie.Need-with-codes-requires-2
-with-codes-requires-2 c κs =
-    let p = c .before .before .before .before .before .before .before .before in
-    (omega arith, omega arith, omega arith, omega arith, omega (arith, p .pre .0))
+    let b = c .before .before .before .before .before in
+    (omega (arith, few b), omega arith, omega arith, omega arith, omega (arith, b .pre .0))
 
 put-run-requires : tie.Need-put-run-requires
 put-run-requires c κs =
-    let p = c .before .before .before .before in
-    let q = p .before .before in
-    let r = q .before .before .before .before in
-    (omega (arith, p .bits .ensures, q .least .ensures), left (number _) _ (whole (c .before)) (room r))
-
-put-run-requires-2 : tie.Need-put-run-requires-2
-put-run-requires-2 c κs =
-    let p = c .before .before .before in
-    let q = p .before .before in
-    let r = q .before .before in
-    let s = r .before .before in
-    let t = s .before in
-    let u = t .before .before .before .before in (
-      omega (arith, r .bits2 .ensures, s .least2 .ensures, t .least .ensures),
-      right (whole q) (room u) (p .put-run .ensures),
+    let p = c .before in
+    let l = p .before .before in
+    let b = l .before .before .before .before in (
+      omega (arith, p .before .bits .ensures, l .least .ensures),
+      room-front _ _ _ (front p (min (word (now (b .args .words)) (b .args .from)) 24 - l .least .result) (omega (arith, l .least .ensures))) (room b),
     )
 
 returns : tie.Need-returns
+unfolding codeBits
 returns c =
-    let p = c .before .before .before .before .before .before in
+    let p = c .before .before .before in
     let q = p .before .before in
-    rw number-at (join (whole q) (p .put-run .ensures) (c .before .before .put-run2 .ensures))
+    rw number-at
+    (put-as-run _ _ (front q 0 (omega (arith, q .before .before .least .ensures, c .if1 .taken)) ∙ append-nil _) (p .put-run .ensures))
+
+with-codes-requires-2 : tie.Need-with-codes-requires-2
+with-codes-requires-2 c κs =
+    let b = c .before .before .before .before .before .before .before .before .before .before .before .before .before in
+    (omega arith, omega arith, omega arith, omega arith, omega (arith, b .pre .0))
+
+-- the whole number by the first run, where there is a second
+both : (c : tie.After-least2) → let q = c .before .before .before .before .before .before in
+    let b = q .before .before .before .before .before .before in
+    let early = q .before .bits .result .0 in
+    external .print (numberAt (now (b .args .words)) (b .args .from))
+    ≡ bitsOf (5 + early) (q .with-codes .result / 2 ^ (48 - early)) ++ others b (c .least2 .result - 12)
+both c =
+    let q = c .before .before .before .before .before .before in
+    front q (c .least2 .result - 12) (omega (arith, q .before .before .least .ensures, c .least2 .ensures, c .before .if1 .left))
+
+over : (c : tie.After-with-codes2) → let l = c .before .before in let p = l .before .before .before .before in let q = p .before .before in
+    let b = q .before .before .before .before .before .before in
+    let late = c .before .bits2 .result .0 in
+    bitsOf (p .put-run .result % 8 + late) (c .with-codes2 .result / 2 ^ (48 - late))
+    ≡ bitsOf (p .put-run .result % 8) (q .with-codes .result / 2 ^ (48 - q .before .bits .result .0)) ++ others b (l .least2 .result - 12)
+over c =
+    let l = c .before .before in
+    let p = l .before .before .before .before in
+    let q = p .before .before in
+    let b = q .before .before .before .before .before .before in
+    let n = c .before .bits2 .ensures in
+    (λ i. bitsOf (p .put-run .result % 8 + n i) (c .with-codes2 .result / 2 ^ (48 - n i)))
+    ∙ number-rest (now (b .args .words)) (b .args .from) (omega (arith, b .pre .0)) (small b) _ (l .least2 .result - 12) _ _ (omega arith)
+    (omega (arith, l .least2 .ensures)) (c .with-codes2 .ensures 4 refl)
+
+wide : (c : tie.After-least2) → let p = c .before .before .before .before in
+    p .put-run .result % 8 ≤ 5 + p .before .before .before .bits .result .0
+wide c =
+    let q = c .before .before .before .before .before .before in
+    omega (arith, q .before .bits .ensures, q .before .before .least .ensures, c .before .if1 .left)
+
+put-run-requires-2 : tie.Need-put-run-requires-2
+put-run-requires-2 c κs =
+    let w = c .before in
+    let l = w .before .before in
+    let p = l .before .before .before .before in
+    let b = p .before .before .before .before .before .before .before .before in (
+      omega (arith, w .before .bits2 .ensures, l .least2 .ensures),
+      room-over _ _ _ (both l) (room b) (p .put-run .ensures) _ _ _ (wide l) (over w),
+    )
+
+returns-2 : tie.Need-returns-2
+returns-2 c =
+    let w = c .before .before .before .before in
+    let l = w .before .before in
+    let p = l .before .before .before .before in
+    let b = p .before .before .before .before .before .before .before .before in
+    rw number-at (put-over _ _ _ (both l) (room b) (p .put-run .ensures) _ _ _ (wide l) (over w) (c .before .before .put-run2 .ensures))
 
 pub put-number-spec : {M : Type 1} → statement M
 put-number-spec =
@@ -85,12 +124,11 @@ put-number-spec =
     (tie.spec
     (λ c. search needs) (λ c. search needs)
     (λ c. omega (arith, c .shared-slice-known2 .given (c .before .before .before .args .from) .fits)) (λ c κs. search needs)
-    (λ c. omega (arith, c .before .shared-slice-known2 .given (c .before .before .before .before .args .from) .fits))
-    (λ c κs. search needs) (λ c. search needs) (λ c. search needs) (λ c κs. search needs) (λ c. search needs) (λ c κs. search needs)
-    (λ c. omega (
-      arith,
-      c .before .before .before .before .shared-slice-known2 .given
-          (c .before .before .before .before .before .before .before .args .from) .fits,
-    ))
-    (λ c. search needs) with-codes-requires (λ c. search needs) (λ c. search needs) (λ c. search needs) with-codes-requires-2
-    (λ c. search needs) (λ c. search needs) (λ c. search needs) put-run-requires put-run-requires-2 (λ c. search needs) returns)
+    (λ c. search needs) (λ c κs. search needs)
+    (λ c. omega (arith, c .before .before .shared-slice-known2 .given (c .before .before .before .before .before .args .from) .fits))
+    (λ c. search needs) with-codes-requires
+    (λ c. search needs) (λ c. search needs) (λ c. search needs) put-run-requires (λ c. search needs) returns
+    (λ c. let l = c .before .before .before .before .before .before .before in
+    omega (arith, l .before .shared-slice-known2 .given (l .before .before .before .before .args .from) .fits)) (λ c κs. search needs) (λ c. search needs) (λ c. search needs) (λ c κs. search needs)
+    (λ c. search needs) with-codes-requires-2 (λ c. search needs) (λ c. search needs) (λ c. search needs) (λ c. search needs)
+    put-run-requires-2 (λ c. search needs) returns-2)
