@@ -2,7 +2,7 @@
 use mathlib.Core.Path.{_≡_}
 use mathlib.Core.Bool.{Bool}
 use mathlib.Core.List.{List, [], _∷_, _++_}
-use Prim.Native.Nat.{ℕ, _+_, _*_, _≤_}
+use Prim.Native.Nat.{ℕ, _+_, _-_, _*_, _≤_}
 use lib.ListN.{length, take}
 use Rattle.bits.specs.Bits.{bits, bitsOf}
 use Rattle.bits.specs.Lists.{Each}
@@ -33,3 +33,11 @@ codeBits w (d ∷ l) = bitsOf w d ++ codeBits w l
 -- a number that is another with n codes of w bits after it, whatever the width of that one
 abbrev pub CodesAfter : ℕ → ℕ → ℕ → List ℕ → ℕ → Type 0
 CodesAfter w n start codes run = (v : ℕ) → bitsOf (v + w * n) run ≡ bitsOf v start ++ codeBits w codes
+
+-- a number of w bits that is the part a of c, after another number, whatever the width of that one
+abbrev pub RunAfter : {A : Type 0} → Codec A → A → ℕ → ℕ → ℕ → Type 0
+RunAfter c a lead w run = (k : ℕ) → bitsOf (k + w) run ≡ bitsOf k lead ++ c .print a
+
+-- up to eight bits before a place are the last of a number
+abbrev pub Ended : List ℕ → ℕ → ℕ → Type 0
+Ended out at last = (k : ℕ) → k ≤ 8 → take at (bits out) ≡ take (at - k) (bits out) ++ bitsOf k last

@@ -15,7 +15,7 @@ ghost use Rattle.grammar.specs.Grammar.{identityPart, numberPart, partOf, inter
 ghost use Rattle.grammar.specs.declared.site.ListKind.the-variants as of;
 ghost use Rattle.words.specs.RecordWords.{entriesFrom, identityFrom, identitiesFrom, numberFrom, numbersFrom, servicesFrom, listsFrom, recordFrom};
 ghost use Rattle.words.proofs.LegalRecords.{SmallNumber};
-ghost use Rattle.writer.specs.Inner.{Room, Puts, Small, CodesAfter};
+ghost use Rattle.writer.specs.Inner.{Room, Puts, Small, CodesAfter, RunAfter, Ended};
 
 // Puts a run of up to 57 bits, the low ones of a number, at a place, and gives the next place, as each function below does. Of the bits after it
 // nothing is said.
@@ -62,19 +62,77 @@ fn entries_of(code: u32) -> usize
 
 // ---- identities
 
+// An identity as a run of bits, after a lead.
+struct Run {
+    width: usize,
+    bits: u64,
+}
+
+// A place, and a number that ends in the bits before it.
+struct Step {
+    at: usize,
+    last: u64,
+}
+
 // SSI, extension present, and the extension exactly if that is 1.
-fn put_identity(out: &mut [u8], at: usize, words: &[u32], from: usize) -> usize
-    requires { ⌜ (from + 3 ≤ length (now words)) × Room identity (identityFrom (drop from (now words))) (now out) at ⌝ }
-    ensures { λ r. ⌜ Puts identity (identityFrom (drop from (now (words .entry)))) (now (out .entry)) (now (out .exit)) at r ⌝ }
+fn identity_run(lead: u64, words: &[u32], from: usize) -> Run
+    requires { ⌜ (lead < 256) × (from + 3 ≤ length (now words)) ⌝ }
+    ensures { λ r. ⌜ (8 ≤ r .width) × (r .width ≤ 49) × RunAfter identity (identityFrom (drop from (now (words .entry)))) lead (r .width) (r .bits) ⌝ }
 {
     let ssi = words[from];
     let present = words[from + 1];
     let extension = words[from + 2];
-    let head = (ssi as u64) * 2 + (present % 2) as u64;
+    let head = (lead * 16777216 + (ssi % 16777216) as u64) * 2 + (present % 2) as u64;
     if present == 1 {
-        return put_run(out, at, 49, head * 16777216 + (extension % 16777216) as u64);
+        return Run {
+            width: 49,
+            bits: head * 16777216 + (extension % 16777216) as u64,
+        };
     }
-    put_run(out, at, 25, head)
+    Run {
+        width: 25,
+        bits: head,
+    }
+}
+
+// The first identity of a list.
+fn put_identity(out: &mut [u8], at: usize, words: &[u32], from: usize) -> Step
+    requires { ⌜ (from + 3 ≤ length (now words)) × Room identity (identityFrom (drop from (now words))) (now out) at ⌝ }
+    ensures { λ r. ⌜ Puts identity (identityFrom (drop from (now (words .entry)))) (now (out .entry)) (now (out .exit)) at (r .at) × Ended (now (out .exit)) (r .at) (r .last) ⌝ }
+{
+    let run = identity_run(0, words, from);
+    let last = run.bits;
+    let end = put_run(out, at, run.width, last);
+    Step { at: end, last }
+}
+
+// Another: from the byte on in which the one before it ends, whose last bits are put again. So no byte is read back that was just stored.
+fn put_next_identity(out: &mut [u8], step: Step, words: &[u32], from: usize) -> Step
+    requires { ⌜ (from + 3 ≤ length (now words)) × Ended (now out) (step .at) (step .last) × Room identity (identityFrom (drop from (now words))) (now out) (step .at) ⌝ }
+    ensures { λ r. ⌜ Puts identity (identityFrom (drop from (now (words .entry)))) (now (out .entry)) (now (out .exit)) (step .at) (r .at) × Ended (now (out .exit)) (r .at) (r .last) ⌝ }
+{
+    let at = step.at;
+    let again = at % 8;
+    let run = identity_run(step.last % 256, words, from);
+    let last = run.bits;
+    let end = put_run(out, at - again, again + run.width, last);
+    Step { at: end, last }
+}
+
+// The first n of seven entries that follow another.
+fn put_next_identities(out: &mut [u8], step: Step, words: &[u32], from: usize, n: usize) -> usize
+    requires { ⌜ (from + 21 ≤ length (now words)) × (n ≤ 7) × Ended (now out) (step .at) (step .last) × Room (places identity noIdentity 7 n) (entriesFrom identityFrom 3 7 (drop from (now words))) (now out) (step .at) ⌝ }
+    ensures { λ r. ⌜ Puts (places identity noIdentity 7 n) (entriesFrom identityFrom 3 7 (drop from (now (words .entry)))) (now (out .entry)) (now (out .exit)) (step .at) r ⌝ }
+{
+    let mut next = step;
+    let mut place = from;
+    let mut i: usize = 0;
+    while i < n {
+        next = put_next_identity(out, next, words, place);
+        place += 3;
+        i += 1;
+    }
+    next.at
 }
 
 // The first n of eight entries.
@@ -82,15 +140,11 @@ fn put_identity_entries(out: &mut [u8], at: usize, words: &[u32], from: usize, n
     requires { ⌜ (from + 24 ≤ length (now words)) × (n ≤ 8) × Room (places identity noIdentity 8 n) (entriesFrom identityFrom 3 8 (drop from (now words))) (now out) at ⌝ }
     ensures { λ r. ⌜ Puts (places identity noIdentity 8 n) (entriesFrom identityFrom 3 8 (drop from (now (words .entry)))) (now (out .entry)) (now (out .exit)) at r ⌝ }
 {
-    let mut next = at;
-    let mut place = from;
-    let mut i: usize = 0;
-    while i < n {
-        next = put_identity(out, next, words, place);
-        place += 3;
-        i += 1;
+    if n == 0 {
+        return at;
     }
-    next
+    let first = put_identity(out, at, words, from);
+    put_next_identities(out, first, words, from + 3, n - 1)
 }
 
 // The range type, and as many entries as it says.

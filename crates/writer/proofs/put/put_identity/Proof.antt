@@ -1,60 +1,31 @@
--- An identity is one run, of 25 bits or of 49. Assumes nothing.
+-- An identity is one run. Assumes nothing.
+use mathlib.Core.Path.{_≡_}
+use Rattle.bits.specs.Bits.{bitsOf}
 use Rattle.grammar.specs.Grammar.{identity}
-use Rattle.tally.proofs.Words.{identityAt, identity-at}
-use Rattle.writer.specs.Inner.{Room}
-use Rattle.writer.proofs.Runs.{room-run, put-as-run, plain-run, extended-run}
+use Rattle.words.specs.RecordWords.{identityFrom}
+use lib.ListN.{drop}
+use Rattle.writer.proofs.Runs.{room-run, put-as-run, alone, ended}
 use borrow.Author.Needs.{needs}
 use native.Mathlib.Omega.{arith}
 use denote.Ref.{now}
 use Rattle.writer.proofs.put.put_identity.Statement.{statement}
 use Rattle.writer.proofs.put.put_identity.Tie as tie
 
-room : (c : tie.Start) → Room identity (identityAt (now (c .args .words)) (c .args .from)) (now (c .args .out)) (c .args .at)
-room c = rw identity-at at (c .pre .1)
+whole : (c : tie.After-identity-run) → let a = c .before .before .before .args in
+    identity .print (identityFrom (drop (a .from) (now (a .words)))) ≡ bitsOf (c .identity-run .result .width) (c .identity-run .result .bits)
+whole c = alone identity _ 0 _ _ (c .identity-run .ensures .2)
 
 put-run-requires : tie.Need-put-run-requires
 put-run-requires c κs =
-    let b = c .before .before .before .before .before .before .before in
-    (omega arith, room-run 49 _ (extended-run (identityAt (now (b .args .words)) (b .args .from)) (c .before .if1 .taken)) (room b))
+    let r = c .before in
+    (omega (arith, r .identity-run .ensures .1), room-run _ _ (whole r) (r .before .before .before .pre .1))
 
 returns : tie.Need-returns
 returns c =
-    let p = c .before .before .before .before in
-    let b = p .before .before .before .before .before .before in
-    rw identity-at (put-as-run 49 _ (extended-run (identityAt (now (b .args .words)) (b .args .from)) (p .if1 .taken))
-    (c .before .before .put-run .ensures))
-
-put-run-requires-2 : tie.Need-put-run-requires-2
-put-run-requires-2 c κs =
-    let b = c .before .before .before .before .before .before .before in
-    (omega arith, room-run 25 _ (plain-run (identityAt (now (b .args .words)) (b .args .from)) (c .before .if1 .left)) (room b))
-
-returns-2 : tie.Need-returns-2
-returns-2 c =
-    let p = c .before .before .before .before in
-    let b = p .before .before .before .before .before .before in
-    rw identity-at (put-as-run 25 _ (plain-run (identityAt (now (b .args .words)) (b .args .from)) (p .if1 .left))
-    (c .before .before .put-run2 .ensures))
+    let p = c .before .before in
+    let r = p .before .before in
+    let put = put-as-run _ _ (whole r) (p .put-run .ensures) in
+    (put, ended _ _ (whole r) (r .identity-run .ensures .0) (r .before .before .before .pre .1) put)
 
 pub put-identity-spec : {M : Type 1} → statement M
-put-identity-spec =
-    tie.close
-    (tie.spec
-    (λ c. search needs) (λ c. search needs) (λ c. search needs) (λ c. search needs) (λ c. search needs) (λ c. search needs)
-    (λ c. search needs) (λ c. search needs)
-    (λ c. omega (arith, c .shared-slice-known4 .given (c .before .before .before .before .before .args .from) .fits))
-    (λ c. omega (arith, c .shared-slice-known4 .given (c .before .before .before .before .before .args .from) .fits))
-    (λ c. search needs)
-    (λ c. omega (arith, c .shared-slice-known4 .given (c .before .before .before .before .before .args .from) .fits))
-    (λ c. omega (
-      arith,
-      c .before .before .shared-slice-known4 .given
-          (c .before .before .before .before .before .before .before .args .from) .fits,
-    ))
-    (λ c. search needs)
-    (λ c. omega (
-      arith,
-      c .before .before .shared-slice-known4 .given
-          (c .before .before .before .before .before .before .before .args .from) .fits,
-    ))
-    put-run-requires (λ c. search needs) returns put-run-requires-2 (λ c. search needs) returns-2)
+put-identity-spec = tie.close (tie.spec (λ c κs. search needs) put-run-requires (λ c. search needs) returns)

@@ -94,8 +94,7 @@ over c =
     ∙ number-rest (now (b .args .words)) (b .args .from) (omega (arith, b .pre .0)) (small b) _ (l .least2 .result - 12) _ _ (omega arith)
     (omega (arith, l .least2 .ensures)) (c .with-codes2 .ensures 4 refl)
 
-wide : (c : tie.After-least2) → let p = c .before .before .before .before in
-    p .put-run .result % 8 ≤ 5 + p .before .before .before .bits .result .0
+wide : (c : tie.After-least2) → 8 ≤ 5 + c .before .before .before .before .before .before .before .bits .result .0
 wide c =
     let q = c .before .before .before .before .before .before in
     omega (arith, q .before .bits .ensures, q .before .before .least .ensures, c .before .if1 .left)
@@ -107,7 +106,7 @@ put-run-requires-2 c κs =
     let p = l .before .before .before .before in
     let b = p .before .before .before .before .before .before .before .before in (
       omega (arith, w .before .bits2 .ensures, l .least2 .ensures),
-      room-over _ _ _ (both l) (room b) (p .put-run .ensures) _ _ _ (wide l) (over w),
+      room-over _ _ _ (both l) (room b) (p .put-run .ensures) _ _ _ (wide l) (omega arith) (over w),
     )
 
 returns-2 : tie.Need-returns-2
@@ -116,7 +115,7 @@ returns-2 c =
     let l = w .before .before in
     let p = l .before .before .before .before in
     let b = p .before .before .before .before .before .before .before .before in
-    rw number-at (put-over _ _ _ (both l) (room b) (p .put-run .ensures) _ _ _ (wide l) (over w) (c .before .before .put-run2 .ensures))
+    rw number-at (put-over _ _ _ (both l) (room b) (p .put-run .ensures) _ _ _ (wide l) (omega arith) (over w) (c .before .before .put-run2 .ensures))
 
 pub put-number-spec : {M : Type 1} → statement M
 put-number-spec =
