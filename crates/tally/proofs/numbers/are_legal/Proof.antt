@@ -14,5 +14,8 @@ returns c =
     sym (none-front 12 (b .args .used) 24 (drop (b .args .from) (now (b .args .words))) (omega (arith, b .pre .1))
     (sym (c .before .none-above .ensures) ∙ c .if1 .taken))
 
+returns-2 : tie.Need-returns-2
+returns-2 c = c .none-above2 .ensures
+
 pub are-legal-spec : {M : Type 1} → statement M
-are-legal-spec = tie.close (tie.spec (λ c κs. search needs) returns (λ c κs. search needs) (λ c. search needs))
+are-legal-spec = tie.close (tie.spec (λ c κs. search needs) returns (λ c κs. search needs) returns-2)
