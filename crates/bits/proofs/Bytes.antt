@@ -5,7 +5,7 @@ use mathlib.Core.Bool.{Bool}
 use Prim.Native.Nat.{ℕ, zero, suc, _+_, _*_, _≤_, _<_}
 use native.Mathlib.Omega.{arith}
 use lib.ListN.{length, getD, take, drop, set, length-append, length-take, length-drop, take-append-drop}
-use lib.Seq.{getD-drop, getD-append-add, split-at, set-split, take-at, drop-at, length-take-le, take-append-le, drop-append-le}
+use lib.Seq.{getD-append-add, split-at, set-split, take-at, drop-at, length-take-le, take-append-le, drop-append-le}
 use Rattle.bits.specs.Bits.{value, bitsOf, Bytes, bits, splice}
 use Rattle.bits.proofs.Numbers.{length-bitsOf, value-of-bits}
 
@@ -64,9 +64,6 @@ pub bytes-append : (s t : List ℕ) → Bytes s → Bytes t → Bytes (s ++ t)
 bytes-append [] t hs ht i = ht i
 bytes-append (b ∷ s) t hs ht zero = hs 0
 bytes-append (b ∷ s) t hs ht (suc i) = bytes-append s t (λ k. hs (suc k)) ht i
-
-pub bytes-drop : (k : ℕ) (s : List ℕ) → Bytes s → Bytes (drop k s)
-bytes-drop k s h i = rw (getD-drop k s i 0) (h (k + i))
 
 bytes-front : (s t : List ℕ) → Bytes (s ++ t) → Bytes s
 bytes-front [] t b i = omega arith

@@ -1,5 +1,4 @@
 -- Each way out is the definition's. Assumes nothing.
-use Prim.Native.Nat.{_+_, _/_}
 use native.Mathlib.Omega.{arith}
 use borrow.Author.Tests.{le-leb, lt-leb}
 use borrow.Author.Needs.{needs}
