@@ -64,6 +64,11 @@ returns c =
     rw number-at
     (put-as-run _ _ (front q 0 (omega (arith, q .before .before .least .ensures, c .if1 .taken)) ∙ append-nil _) (p .put-run .ensures))
 
+cast-least-2 : tie.Need-cast-least-2
+cast-least-2 c =
+    let k = c .before .before .before .before .before .before .before .before in
+    omega (arith, k .shared-slice-known2 .given (k .before .before .before .args .from) .fits)
+
 with-codes-requires-2 : tie.Need-with-codes-requires-2
 with-codes-requires-2 c κs =
     let b = c .before .before .before .before .before .before .before .before .before .before .before .before .before in
@@ -127,7 +132,6 @@ put-number-spec =
     (λ c. omega (arith, c .before .before .shared-slice-known2 .given (c .before .before .before .before .before .args .from) .fits))
     (λ c. search needs) with-codes-requires
     (λ c. search needs) (λ c. search needs) (λ c. search needs) put-run-requires (λ c. search needs) returns
-    (λ c. let l = c .before .before .before .before .before .before .before in
-    omega (arith, l .before .shared-slice-known2 .given (l .before .before .before .before .args .from) .fits)) (λ c κs. search needs) (λ c. search needs) (λ c. search needs) (λ c κs. search needs)
+    cast-least-2 (λ c κs. search needs) (λ c. search needs) (λ c. search needs) (λ c κs. search needs)
     (λ c. search needs) with-codes-requires-2 (λ c. search needs) (λ c. search needs) (λ c. search needs) (λ c. search needs)
     put-run-requires-2 (λ c. search needs) returns-2)
