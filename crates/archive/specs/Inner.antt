@@ -5,16 +5,17 @@ use mathlib.Core.List.{List, [], _∷_, _++_}
 use Prim.Native.Nat.{ℕ, zero, suc, _+_, _-_, _*_, _≤_, _<_}
 use lib.ListN.{length, take, drop}
 use lib.Dec.{ltb, leb, eqb}
-use Rattle.bits.specs.Bits.{pick}
+use Rattle.bits.specs.Bits.{pick, guard}
 use Rattle.bits.specs.Frame.{bytesFor}
 use Rattle.grammar.specs.Grammar.{networkOf}
+use Rattle.walk.specs.declared.BitPlace.{BitPlace}
 use Rattle.walk.specs.declared.Head.{Head}
 use Rattle.walk.specs.declared.Walked.{Walked}
 use Rattle.walk.specs.declared.Walked.the-variants as walked
 use Rattle.judging.specs.Judge.{holdable}
 use Rattle.archive.specs.Model.{Held, Archive, rankOf, rank, inRange, headerWidth, entryWidth, headerBytes, entryBytes, bodySize, sizes}
 use Rattle.archive.specs.Reading.{homeOf, countOf, entryAt, heldFrom, reading}
-use Rattle.archive.specs.Refusals.{plain, ofPdu}
+use Rattle.archive.specs.Refusals.{plain, ofPdu, ofBody}
 use Rattle.archive.specs.Filing.{bodyAgrees}
 use Rattle.archive.specs.Checking.{bodyPlace, inOrder}
 use Rattle.archive.specs.Keeping.{with}
@@ -23,6 +24,8 @@ use Rattle.archive.specs.declared.contents.Key.{Key}
 use Rattle.archive.specs.declared.contents.Entry.{Entry}
 use Rattle.archive.specs.declared.checking.Place.{Place}
 use Rattle.archive.specs.declared.refusal.Refusal.{Refusal}
+use Rattle.archive.specs.declared.checking.Checked.{Checked}
+use Rattle.archive.specs.declared.checking.Checked.the-variants as checked
 use Rattle.archive.specs.declared.filing.Agreement.{Agreement}
 use Rattle.archive.specs.declared.filing.Agreement.the-variants.{Agrees, Fault}
 use Rattle.archive.specs.declared.filing.Filing.{Filing}
@@ -54,11 +57,16 @@ filedIn b e body = with (reading b) (record { entry = e; body = body })
 
 -- an entry may stand behind one of a rank, with so many bytes left for its body
 unfoldable pub mayFollow : Entry → ℕ → ℕ → Bool
-mayFollow e last room = ltb last (rankOf (e .key)) && (inRange (e .key) && leb (bytesFor (e .bits .0)) room)
+mayFollow e last room = ltb last (rankOf (e .key)) && leb (bytesFor (e .bits .0)) room
 
 -- the n entries from a place on are in order, and their bodies, from another place on, end with the bytes
 unfoldable pub restShape : List ℕ → ℕ → ℕ → ℕ → ℕ → Bool
 restShape b last n at off = inOrder last (heldFrom b n at off) && eqb (off + sizes (heldFrom b n at off)) (length b)
+
+-- what a body at fault comes to, for the entry of a key at an index, before the n entries from a place on
+unfoldable pub faultIs : List ℕ → Key → ℕ → ℕ → ℕ → ℕ → BitPlace → Checked
+faultIs b k n at off index place =
+    guard (inRange k && restShape b (rankOf k) n at off) (checked.Refused (plain 7)) (checked.Refused (ofBody index place))
 
 -- ---- the place of a key, by its rank
 

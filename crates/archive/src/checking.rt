@@ -10,6 +10,7 @@ use crate::refusal;
 use crate::refusal::EntryPlace;
 use crate::refusal::Refusal;
 use bits::BitCount;
+use walk::BitPlace;
 ghost use mathlib.Core.Path.{_≡_};
 ghost use mathlib.Core.Bool.{true};
 ghost use Prim.Native.Nat.{_+_, _*_, _≤_};
@@ -17,7 +18,7 @@ ghost use lib.ListN.{length};
 ghost use Rattle.archive.specs.Model.{rankOf, headerWidth, entryWidth};
 ghost use Rattle.archive.specs.Reading.{isArchive, bodiesAt, heldIn};
 ghost use Rattle.archive.specs.Checking.{checkIs};
-ghost use Rattle.archive.specs.Inner.{KeyFits, EntryFits, mayFollow, restShape, seek, nextAt, restAt};
+ghost use Rattle.archive.specs.Inner.{KeyFits, EntryFits, mayFollow, restShape, faultIs, seek, nextAt, restAt};
 
 // What a check says of bytes: an archive; or refusal 7, with the first entry whose body is at fault where all else is right.
 pub enum Checked {
@@ -53,19 +54,12 @@ pub fn check(archive: &[u8]) -> Checked
         let key = entry.key;
         let bits = entry.bits;
         let end = off + bits.bytes();
-        last = key.rank();
-        at += ENTRY;
         let agreement = filing::body_agreement(home, entry, &archive[off..end]);
+        at += ENTRY;
         if let Agreement::Fault(place) = agreement {
-            if !rest_has_shape(archive, left - 1, at, end, last) {
-                return Checked::Refused(refusal::plain(7));
-            }
-            return Checked::Refused(Refusal {
-                number: 7,
-                entry: EntryPlace::At(count - left),
-                place,
-            });
+            return at_fault(archive, key, left - 1, at, end, count - left, place);
         }
+        last = key.rank();
         off = end;
         left -= 1;
     }
@@ -75,16 +69,41 @@ pub fn check(archive: &[u8]) -> Checked
     Checked::Archive
 }
 
-// Whether an entry may stand here: its key is above a rank and in range, and there is room for its body.
+// Refusal 7 by the body at fault of the entry at an index, unless its key or what is left has not the shape of an archive's. A body that
+// agrees has a key in range.
+fn at_fault(
+    archive: &[u8],
+    key: Key,
+    entries: usize,
+    from: usize,
+    bodies: usize,
+    index: usize,
+    place: BitPlace,
+) -> Checked
+    requires { ⌜ (from + entryWidth * entries ≤ length (now archive)) × (bodies ≤ length (now archive)) × (length (now archive) ≤ 65536) ⌝ }
+    requires { ⌜ KeyFits key ⌝ }
+    ensures { λ r. ⌜ r ≡ faultIs (now (archive .entry)) key entries from bodies index place ⌝ }
+{
+    if !contents::in_range(key) {
+        return Checked::Refused(refusal::plain(7));
+    }
+    if !rest_has_shape(archive, entries, from, bodies, key.rank()) {
+        return Checked::Refused(refusal::plain(7));
+    }
+    Checked::Refused(Refusal {
+        number: 7,
+        entry: EntryPlace::At(index),
+        place,
+    })
+}
+
+// Whether an entry may stand here: its key is above a rank, and there is room for its body.
 fn may_follow(entry: Entry, last: u64, room: usize) -> bool
     requires { ⌜ EntryFits entry ⌝ }
     ensures { λ r. ⌜ r ≡ mayFollow entry last room ⌝ }
 {
     let key = entry.key;
     if key.rank() <= last {
-        return false;
-    }
-    if !contents::in_range(key) {
         return false;
     }
     let bits = entry.bits;
@@ -106,6 +125,9 @@ fn rest_has_shape(archive: &[u8], entries: usize, from: usize, bodies: usize, ra
             return false;
         }
         let key = entry.key;
+        if !contents::in_range(key) {
+            return false;
+        }
         let bits = entry.bits;
         last = key.rank();
         off += bits.bytes();

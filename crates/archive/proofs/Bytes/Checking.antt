@@ -10,17 +10,19 @@ use lib.Dec.{ltb, leb, eqb}
 use borrow.Author.Tests.{eqb-true, leb-true, lt-ltb, le-leb, ne-eqb}
 use Rattle.bits.specs.Bits.{guard, Bytes}
 use Rattle.bits.specs.Frame.{bytesFor}
+use Rattle.walk.specs.declared.BitPlace.{BitPlace}
 use Rattle.bits.proofs.Tests.{differ, false-unless, and-false, both, both⁻¹}
 use Rattle.archive.specs.Model.{Held, rankOf, rank, inRange, headerWidth, entryWidth, sizes, lengthOf, withinLimits}
 use Rattle.archive.specs.Filing.{bodyAgrees, keepsRules, wellFormed}
 use Rattle.archive.specs.Reading.{number3, countOf, entryAt, sizeAt, heldAt, heldFrom, bodiesAt, heldIn, reading, isArchive}
-use Rattle.archive.specs.Refusals.{plain, ofBody}
+use Rattle.archive.specs.Refusals.{plain}
 use Rattle.archive.specs.Checking.{inOrder, hasShape, bodyPlace, bodiesFrom, checkIs}
-use Rattle.archive.specs.Inner.{mayFollow, restShape}
+use Rattle.archive.specs.Inner.{mayFollow, restShape, faultIs}
 use Rattle.archive.specs.declared.contents.Entry.{Entry}
 use Rattle.archive.specs.declared.checking.Checked.{Checked}
 use Rattle.archive.specs.declared.checking.Checked.the-variants.{Archive, Refused}
 use Rattle.archive.proofs.Model.Rules.{archive-formed}
+use Rattle.archive.proofs.Model.Checked.{and-assoc, agrees-ranged}
 use Rattle.archive.proofs.Bytes.Walking.{number3-small, heldFrom-next, length-heldFrom}
 
 -- ---- entry by entry
@@ -41,26 +43,26 @@ module _ (b : List ℕ) (last n at off : ℕ) (h : 0 < n) where
       may t =
           let k = both (inOrder last (here ∷ rest)) (eqb (off + (sizeAt b at + sizes rest)) (length b)) (rw (heldFrom-next b n at off h) at t) in
           let p = both (ltb last (rank here)) (inRange (here .entry .key) && inOrder (rank here) rest) (k .0) in
-          let q = both (inRange (here .entry .key)) (inOrder (rank here) rest) (p .1) in
           let whole = eqb-true (off + (sizeAt b at + sizes rest)) (length b) (k .1) in
-          both⁻¹ (p .0) (both⁻¹ (q .0) (le-leb (sizeAt b at) (length b - off) (omega (arith, whole))))
+          both⁻¹ (p .0) (le-leb (sizeAt b at) (length b - off) (omega (arith, whole)))
 
-  -- behind one that may, what is left decides
+  -- behind one that may, its key's range and what is left decide
   pub follows : mayFollow (entryAt b at) last (length b - off) ≡ true
-      → restShape b last n at off ≡ restShape b (rank here) (n - 1) (at + entryWidth) (off + sizeAt b at)
+      → restShape b last n at off
+      ≡ inRange (here .entry .key) && restShape b (rank here) (n - 1) (at + entryWidth) (off + sizeAt b at)
   unfolding mayFollow restShape inOrder
   follows t =
-      let p = both (ltb last (rank here)) (inRange (here .entry .key) && leb (sizeAt b at) (length b - off)) t in
-      let q = both (inRange (here .entry .key)) (leb (sizeAt b at) (length b - off)) (p .1) in
+      let p = both (ltb last (rank here)) (leb (sizeAt b at) (length b - off)) t in
       let e : off + (sizeAt b at + sizes rest) ≡ off + sizeAt b at + sizes rest = omega arith in
-      rw (heldFrom-next b n at off h, p .0, q .0) (ap (λ (k : ℕ). inOrder (rank here) rest && eqb k (length b)) e)
+      rw (heldFrom-next b n at off h, p .0)
+      (ap (λ (k : ℕ). (inRange (here .entry .key) && inOrder (rank here) rest) && eqb k (length b)) e
+      ∙ sym (and-assoc (inRange (here .entry .key)) (inOrder (rank here) rest) (eqb (off + sizeAt b at + sizes rest) (length b))))
 
 -- an entry that may follow has room for its body
 pub room-for : (e : Entry) (last room : ℕ) → mayFollow e last room ≡ true → bytesFor (e .bits .0) ≤ room
 unfolding mayFollow
 room-for e last room t =
-    let p = both (ltb last (rankOf (e .key))) (inRange (e .key) && leb (bytesFor (e .bits .0)) room) t in
-    leb-true (bytesFor (e .bits .0)) room (both (inRange (e .key)) (leb (bytesFor (e .bits .0)) room) (p .1) .1)
+    leb-true (bytesFor (e .bits .0)) room (both (ltb last (rankOf (e .key))) (leb (bytesFor (e .bits .0)) room) t .1)
 
 pub shape-none : (b : List ℕ) (last n at off : ℕ) → n ≤ 0 → restShape b last n at off ≡ eqb off (length b)
 unfolding restShape inOrder heldFrom
@@ -85,18 +87,15 @@ module _ (b : List ℕ) (home i last n at off : ℕ) where
       go (suc m) k = absurd (not-suc-le-zero k)
 
   module _ (h : 0 < n) (m : mayFollow (entryAt b at) last (length b - off) ≡ true) where
-    abbrev shapeBehind : Bool
-    shapeBehind = restShape b (rank (heldAt b at off)) (n - 1) (at + entryWidth) (off + sizeAt b at)
+    pub rest-bad : {p : BitPlace} → bodyAgrees home (heldAt b at off) ≡ false → bodyPlace (heldAt b at off) ≡ p
+        → restIs b home i last n at off ≡ faultIs b (entryAt b at .key) (n - 1) (at + entryWidth) (off + sizeAt b at) i p
+    unfolding restIs bodiesFrom faultIs
+    rest-bad e f = rw (follows b last n at off h m, heldFrom-next b n at off h, e, f)
 
-    pub rest-bad : bodyAgrees home (heldAt b at off) ≡ false
-        → restIs b home i last n at off ≡ guard shapeBehind (Refused (plain 7)) (Refused (ofBody i (bodyPlace (heldAt b at off))))
-    unfolding restIs bodiesFrom
-    rest-bad e = rw (follows b last n at off h m, heldFrom-next b n at off h, e)
-
-    pub rest-next : bodyAgrees home (heldAt b at off) ≡ true
+    pub rest-next : home < 16777216 → bodyAgrees home (heldAt b at off) ≡ true
         → restIs b home i last n at off ≡ restIs b home (suc i) (rank (heldAt b at off)) (n - 1) (at + entryWidth) (off + sizeAt b at)
     unfolding restIs bodiesFrom
-    rest-next e = rw (follows b last n at off h m, heldFrom-next b n at off h, e)
+    rest-next k e = rw (follows b last n at off h m, agrees-ranged home (heldAt b at off) k e, heldFrom-next b n at off h, e)
 
 -- ---- the whole
 

@@ -67,7 +67,7 @@ module _ (home : ℕ) (h : Held) where
   agreement-filed w = rw (body-filed home h w, ap (λ (a : Answer). refusalOf a .place) (walk-accepted (h .body) (h .entry .bits .0) w))
 
   -- a body that agrees has a user and part in range
-  agrees-ranged : home < 16777216 → bodyAgrees home h ≡ true → inRange (h .entry .key) ≡ true
+  pub agrees-ranged : home < 16777216 → bodyAgrees home h ≡ true → inRange (h .entry .key) ≡ true
   agrees-ranged k e =
       let a = agrees-says home h e in
       let f = fits home h k a .entry .key in
@@ -77,7 +77,7 @@ module _ (home : ℕ) (h : Held) where
 
 -- ---- all of them
 
-and-assoc : (p q r : Bool) → p && (q && r) ≡ (p && q) && r
+pub and-assoc : (p q r : Bool) → p && (q && r) ≡ (p && q) && r
 and-assoc true q r = refl
 and-assoc false q r = refl
 

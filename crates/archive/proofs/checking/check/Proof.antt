@@ -2,7 +2,7 @@
 use mathlib.Core.Path.{_≡_, refl, sym, ap, _∙_}
 use mathlib.Core.Bool.{Bool, true, false}
 use mathlib.Core.List.{List}
-use Prim.Native.Nat.{ℕ, suc, _+_, _-_, _*_, _≤_}
+use Prim.Native.Nat.{ℕ, suc, _+_, _-_, _*_, _≤_, _<_}
 use native.Mathlib.Nat.{add-sub-cancel-left}
 use native.Mathlib.Omega.{arith}
 use borrow.Author.Needs.{needs}
@@ -13,14 +13,14 @@ use lib.Dec.{leb, eqb}
 use Rattle.bits.specs.Bits.{guard}
 use Rattle.bits.specs.Frame.{bytesFor}
 use Rattle.bits.proofs.Tests.{both, said-no, said-yes}
-use Rattle.archive.specs.Model.{Held, rankOf, rank, entryWidth, bodySize, withinLimits}
+use Rattle.archive.specs.Model.{Held, rankOf, entryWidth, bodySize, withinLimits}
 use Rattle.archive.specs.Reading.{number3, entryAt, heldAt}
-use Rattle.archive.specs.Refusals.{plain, ofBody}
+use Rattle.archive.specs.Refusals.{plain}
 use Rattle.archive.specs.Checking.{checkIs}
-use Rattle.archive.specs.Inner.{agreementIs, mayFollow, restShape}
+use Rattle.archive.specs.Inner.{agreementIs, mayFollow, faultIs}
 use Rattle.archive.specs.declared.contents.Entry.{Entry}
 use Rattle.archive.specs.declared.checking.Checked.the-variants.{Archive, Refused}
-use Rattle.archive.proofs.Bytes.Walking.{home-is}
+use Rattle.archive.proofs.Bytes.Walking.{home-is, home-small}
 use Rattle.archive.proofs.Bytes.Checking.{too-short, over-limits, begins, follows-not, room-for}
 use Rattle.archive.proofs.Bytes.Checking.{restIs, rest-shapeless, rest-none, rest-bad, rest-next}
 use Rattle.archive.proofs.Model.Checked.{agreed, faulty}
@@ -111,14 +111,11 @@ inside c =
     let size = c .bytes .ensures ∙ ap (λ (e : Entry). bytesFor (e .bits .0)) (entry .entry-at .ensures .0) in
     (size, omega (arith, size, room-for (entryAt (b-of l) (l .loop .at)) _ _ (followed passed), l .loop .inv .2))
 
-ranked : (c : tie.After-rank Inv-loop μ-loop) → c .rank .result ≡ rank (here (c .before .before .before .before .before .before .before .before))
-ranked c = c .rank .ensures ∙ ap (λ (e : Entry). rankOf (e .key)) (c .before .before .before .before .before .before .entry-at .ensures .0)
-
 agreement : (c : tie.After-body-agreement Inv-loop μ-loop) →
-    let l = c .before .before .before .before .before .before .before .before .before .before in
+    let l = c .before .before .before .before .before .before .before .before .before in
     c .body-agreement .result ≡ agreementIs (home-of l) (here l)
 agreement c =
-    let bytes = c .before .before .before in
+    let bytes = c .before .before in
     let entry = bytes .before .before .before .before .before in
     let l = entry .before .before in
     let off = l .loop .off in
@@ -126,59 +123,51 @@ agreement c =
     c .body-agreement .ensures
     ∙ (λ i. agreementIs (home-of l) (record { entry = entry .entry-at .ensures .0 i; body = take (n i) (drop off (b-of l)) }))
 
--- a body at fault: the shape of what is left decides
-at-fault : (c : tie.After-rest-has-shape Inv-loop μ-loop) {t : Bool} → c .rest-has-shape .result ≡ t →
-    let l = c .before .before .before .before .before .before .before .before .before .before .before .before .before .before in
-    checkIs (b-of l) ≡ guard t (Refused (plain 7)) (Refused (ofBody (index-of l) (c .before .before .agreement .given .0 .0)))
-at-fault c e =
-    let told = c .before .before in
-    let body = told .before .before in
-    let rank′ = body .before .before in
-    let passed = rank′ .before .before .before .before in
-    let test = passed .before .before .before in
-    let l = test .before in
-    let f = faulty (home-of l) (here l) (sym (agreement body) ∙ told .agreement .given .1) in
-    let behind : c .rest-has-shape .result
-    ≡ restShape (b-of l) (rank (here l)) (l .loop .left - 1) (l .loop .at + entryWidth) (l .loop .off + bodySize (here l)) =
-    c .rest-has-shape .ensures
-    ∙ (λ i. restShape (b-of l) (ranked rank′ i) (l .loop .left - 1) (l .loop .at + entryWidth) (l .loop .off + inside (rank′ .before) .0 i))
-    in
-    l .loop .inv .4
-    ∙ rest-bad (b-of l) (home-of l) (index-of l) _ _ _ _ (test .loop-test .taken) (followed passed) (f .0)
-    ∙ (λ i. guard ((sym behind ∙ e) i) (Refused (plain 7)) (Refused (ofBody (index-of l) (f .1 i))))
-
-rest-has-shape-requires : tie.Need-rest-has-shape-requires Inv-loop μ-loop
-rest-has-shape-requires c κs =
-    let bytes = c .before .before .before .before .before .before in
-    omega (arith, inside bytes .1, bytes .before .before .before .before .before .before .before .loop .inv)
+at-fault-requires : tie.Need-at-fault-requires Inv-loop μ-loop
+at-fault-requires c κs =
+    let bytes = c .before .before .before .before .before in
+    let entry = bytes .before .before .before .before .before in
+    let l = entry .before .before .loop in
+    ((omega (arith, l .inv, entry .before .loop-test .taken), inside bytes .1, l .inv .3), entry .entry-at .ensures .1 .key)
 
 returns-5 : tie.Need-returns-5 Inv-loop μ-loop
 returns-5 c =
-    let rest = c .before .before in
-    rw (c .plain5 .ensures) (sym (at-fault rest (said-no refl (c .before .if5 .taken))))
-
-returns-6 : tie.Need-returns-6 Inv-loop μ-loop
-returns-6 c = sym (at-fault (c .before) (said-yes refl (c .if5 .left)))
+    let told = c .before .before in
+    let body = told .before .before in
+    let bytes = body .before .before in
+    let passed = bytes .before .before .before in
+    let entry = passed .before .before in
+    let l = entry .before .before in
+    let f = faulty (home-of l) (here l) (sym (agreement body) ∙ told .agreement .given .1) in
+    sym
+    (l .loop .inv .4 ∙ rest-bad (b-of l) (home-of l) (index-of l) _ _ _ _ (entry .before .loop-test .taken) (followed passed) (f .0) (f .1)
+    ∙ (λ i. faultIs (b-of l) (sym (entry .entry-at .ensures .0) i .key) (l .loop .left - 1) (l .loop .at + entryWidth)
+    (l .loop .off + sym (inside bytes .0) i) (index-of l) (told .agreement .given .0 .0))
+    ∙ sym (c .at-fault .ensures))
 
 loop-again : tie.Need-loop-again Inv-loop μ-loop
 loop-again c =
-    let body = c .before .before in
-    let rank′ = body .before .before in
-    let bytes = rank′ .before in
+    let told = c .before in
+    let body = told .before .before in
+    let bytes = body .before .before in
     let passed = bytes .before .before .before in
-    let test = passed .before .before .before in
+    let entry = passed .before .before in
+    let test = entry .before in
     let l = test .before in
     let b = b-of l in
-    let yes = agreed (home-of l) (here l) (sym (agreement body) ∙ c .enum-told .given .1) in
+    let known = l .before .before .before .before .before .before .before in
+    let same = l .before .before .before .before .before .home .ensures in
+    let small : home-of l < 16777216 = omega (arith, same, home-small b (λ i. known .shared-slice-known .given i .fits)) in
+    let yes = agreed (home-of l) (here l) (sym (agreement body) ∙ told .enum-told .given .1) in
+    let rank′ = c .rank .ensures ∙ ap (λ (e : Entry). rankOf (e .key)) (entry .entry-at .ensures .0) in
     let next : suc (index-of l) ≡ l .before .before .before .before .count .result - (l .loop .left - 1) =
     omega (arith, l .loop .inv .0, test .loop-test .taken) in (
       omega (arith, l .loop .inv .0),
       omega (arith, l .loop .inv .1, test .loop-test .taken),
       inside bytes .1,
       l .loop .inv .3,
-      l .loop .inv .4 ∙ rest-next b (home-of l) (index-of l) _ _ _ _ (test .loop-test .taken) (followed passed) yes
-          ∙ (λ i. restIs b (home-of l) (next i) (sym (ranked rank′) i) (l .loop .left - 1) (l .loop .at + entryWidth)
-          (l .loop .off + sym (inside bytes .0) i)),
+      l .loop .inv .4 ∙ rest-next b (home-of l) (index-of l) _ _ _ _ (test .loop-test .taken) (followed passed) small yes
+          ∙ (λ i. restIs b (home-of l) (next i) (sym rank′ i) (l .loop .left - 1) (l .loop .at + entryWidth) (l .loop .off + sym (inside bytes .0) i)),
     )
 
 -- all are passed: the bodies end with the bytes, or not
@@ -186,13 +175,13 @@ ended : (c : tie.After-loop Inv-loop μ-loop) →
     let l = c .before in checkIs (b-of l) ≡ guard (eqb (l .loop .off) (length (b-of l))) (Refused (plain 7)) Archive
 ended c = c .before .loop .inv .4 ∙ rest-none _ _ _ _ _ _ _ (c .loop-test .left)
 
-returns-7 : tie.Need-returns-7 Inv-loop μ-loop
-returns-7 c =
-    rw (c .plain6 .ensures)
-    (sym (ended (c .before .before) ∙ ap (λ (t : Bool). guard t (Refused (plain 7)) Archive) (ne-eqb _ _ (c .before .if6 .taken))))
+returns-6 : tie.Need-returns-6 Inv-loop μ-loop
+returns-6 c =
+    rw (c .plain5 .ensures)
+    (sym (ended (c .before .before) ∙ ap (λ (t : Bool). guard t (Refused (plain 7)) Archive) (ne-eqb _ _ (c .before .if5 .taken))))
 
-returns-8 : tie.Need-returns-8 Inv-loop μ-loop
-returns-8 c = sym (ended (c .before) ∙ ap (λ (t : Bool). guard t (Refused (plain 7)) Archive) (eq-eqb _ _ (c .if6 .left)))
+returns-7 : tie.Need-returns-7 Inv-loop μ-loop
+returns-7 c = sym (ended (c .before) ∙ ap (λ (t : Bool). guard t (Refused (plain 7)) Archive) (eq-eqb _ _ (c .if5 .left)))
 
 pub check-spec : {M : Type 1} → statement M
 check-spec =
@@ -219,23 +208,21 @@ check-spec =
     returns-4
     (λ c κs. search needs)
     (λ c. omega (arith, inside c .1))
+    (λ c. omega arith)
+    (λ c. omega arith)
+    (λ c. omega (arith, inside c .1))
     (λ c κs. search needs)
     (λ c. omega arith)
-    (λ c. omega arith)
-    (λ c. omega arith)
-    (λ c. omega (arith, inside (c .before) .1))
-    (λ c κs. search needs)
     (λ c. search needs)
     (λ c. omega arith)
-    rest-has-shape-requires
-    (λ c κs. search needs)
+    (λ c. omega arith)
+    at-fault-requires
     returns-5
-    (λ c. omega arith)
-    returns-6
     (λ c. search needs)
+    (λ c κs. search needs)
     (λ c. omega arith)
     (λ c. omega arith)
     loop-again
     (λ c κs. search needs)
-    returns-7
-    returns-8)
+    returns-6
+    returns-7)

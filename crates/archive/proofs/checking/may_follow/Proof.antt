@@ -1,7 +1,6 @@
--- The key's rank, then its range, then the room. Assumes nothing.
+-- The key's rank, then the room. Assumes nothing.
 use borrow.Author.Needs.{needs}
 use borrow.Author.Tests.{le-ltb, lt-ltb}
-use Rattle.bits.proofs.Tests.{said-no, said-yes}
 use Rattle.archive.specs.Inner.{mayFollow}
 use Rattle.archive.proofs.checking.may_follow.Statement.{statement}
 use Rattle.archive.proofs.checking.may_follow.Tie as tie
@@ -13,18 +12,8 @@ returns c = rw (← c .before .rank .ensures, le-ltb _ _ (c .if1 .taken))
 returns-2 : tie.Need-returns-2
 unfolding mayFollow
 returns-2 c =
-    let range = c .before in
-    let above = range .before in
-    rw (← above .before .rank .ensures, lt-ltb _ _ (above .if1 .left), said-no (range .in-range .ensures) (c .if2 .taken))
-
-returns-3 : tie.Need-returns-3
-unfolding mayFollow
-returns-3 c =
-    let ranged = c .before .before in
-    let range = ranged .before in
-    let above = range .before in
-    rw (← above .before .rank .ensures, lt-ltb _ _ (above .if1 .left), said-yes (range .in-range .ensures) (ranged .if2 .left), c .bytes .ensures)
+    let above = c .before .before in
+    rw (← above .before .rank .ensures, lt-ltb _ _ (above .if1 .left), c .bytes .ensures)
 
 pub may-follow-spec : {M : Type 1} → statement M
-may-follow-spec =
-    tie.close (tie.spec (λ c κs. search needs) returns (λ c κs. search needs) returns-2 (λ c κs. search needs) returns-3)
+may-follow-spec = tie.close (tie.spec (λ c κs. search needs) returns (λ c κs. search needs) returns-2)

@@ -1,6 +1,6 @@
 -- Entry by entry, what is left decides about the shape. Assumes nothing.
 use mathlib.Core.Path.{_≡_, refl, sym, ap, _∙_}
-use mathlib.Core.Bool.{true}
+use mathlib.Core.Bool.{Bool, true, _&&_}
 use mathlib.Core.List.{List}
 use Prim.Native.Nat.{ℕ, _+_, _-_, _*_, _≤_}
 use native.Mathlib.Omega.{arith}
@@ -9,7 +9,7 @@ use denote.Ref.{now}
 use lib.ListN.{length}
 use Rattle.bits.specs.Frame.{bytesFor}
 use Rattle.bits.proofs.Tests.{said-no, said-yes}
-use Rattle.archive.specs.Model.{rankOf, entryWidth}
+use Rattle.archive.specs.Model.{rankOf, inRange, entryWidth}
 use Rattle.archive.specs.Reading.{entryAt, sizeAt}
 use Rattle.archive.specs.Inner.{mayFollow, restShape}
 use Rattle.archive.specs.declared.contents.Entry.{Entry}
@@ -49,31 +49,51 @@ followed : (c : tie.Else1 Inv-loop μ-loop) →
 followed c = said-yes (may (c .before)) (c .if1 .left)
 
 inside : (c : tie.After-bytes Inv-loop μ-loop) →
-    let l = c .before .before .before .before .before .before .before .before in
+    let l = c .before .before .before .before .before .before .before .before .before .before in
     (c .bytes .result ≡ sizeAt (b-of l) (l .loop .at)) × (l .loop .off + c .bytes .result ≤ length (b-of l))
 inside c =
-    let passed = c .before .before .before .before in
+    let passed = c .before .before .before .before .before .before in
     let entry = passed .before .before in
     let l = entry .before .before in
     let size = c .bytes .ensures ∙ ap (λ (e : Entry). bytesFor (e .bits .0)) (entry .entry-at .ensures .0) in
     (size, omega (arith, size, room-for (entryAt (b-of l) (l .loop .at)) _ _ (followed passed), l .loop .inv .1))
 
-loop-again : tie.Need-loop-again Inv-loop μ-loop
-loop-again c =
-    let passed = c .before .before .before .before in
+-- its key's range and what is left decide
+decided : (c : tie.After-in-range Inv-loop μ-loop) {t : Bool} → c .in-range .result ≡ t →
+    let a = c .before .before .before .before .before .before .before .before .args in
+    let l = c .before .before .before .before .before .before in
+    restShape (now (a .archive)) (a .rank) (a .entries) (a .from) (a .bodies)
+    ≡ t && restShape (b-of l) (rankOf (entryAt (b-of l) (l .loop .at) .key)) (l .loop .left - 1) (l .loop .at + entryWidth)
+    (l .loop .off + sizeAt (b-of l) (l .loop .at))
+decided c e =
+    let passed = c .before .before in
     let entry = passed .before .before in
     let l = entry .before .before in
-    let b = b-of l in
+    let range = ap (λ (x : Entry). inRange (x .key)) (sym (entry .entry-at .ensures .0)) ∙ sym (c .in-range .ensures) ∙ e in
+    l .loop .inv .3 ∙ follows (b-of l) _ _ _ _ (entry .before .loop-test .taken) (followed passed)
+    ∙ ap
+    (λ (t : Bool). t && restShape (b-of l) (rankOf (entryAt (b-of l) (l .loop .at) .key)) (l .loop .left - 1) (l .loop .at + entryWidth)
+    (l .loop .off + sizeAt (b-of l) (l .loop .at)))
+    range
+
+returns-2 : tie.Need-returns-2 Inv-loop μ-loop
+returns-2 c = sym (decided (c .before) (said-no refl (c .if2 .taken)))
+
+loop-again : tie.Need-loop-again Inv-loop μ-loop
+loop-again c =
+    let ranged = c .before .before .before in
+    let entry = ranged .before .before .before .before .before in
+    let l = entry .before .before in
     let rank = c .before .rank .ensures ∙ ap (λ (e : Entry). rankOf (e .key)) (entry .entry-at .ensures .0) in (
       omega arith,
       omega (arith, inside c .1),
       omega arith,
-      l .loop .inv .3 ∙ follows b _ _ _ _ (entry .before .loop-test .taken) (followed passed)
-          ∙ (λ i. restShape b (sym rank i) (l .loop .left - 1) (l .loop .at + entryWidth) (l .loop .off + sym (inside c .0) i)),
+      decided (ranged .before) (said-yes refl (ranged .if2 .left))
+          ∙ (λ i. restShape (b-of l) (sym rank i) (l .loop .left - 1) (l .loop .at + entryWidth) (l .loop .off + sym (inside c .0) i)),
     )
 
-returns-2 : tie.Need-returns-2 Inv-loop μ-loop
-returns-2 c = sym (c .before .loop .inv .3 ∙ shape-none _ _ _ _ _ (c .loop-test .left))
+returns-3 : tie.Need-returns-3 Inv-loop μ-loop
+returns-3 c = sym (c .before .loop .inv .3 ∙ shape-none _ _ _ _ _ (c .loop-test .left))
 
 pub rest-has-shape-spec : {M : Type 1} → statement M
 rest-has-shape-spec =
@@ -87,10 +107,12 @@ rest-has-shape-spec =
     (λ c κs. search needs)
     returns
     (λ c κs. search needs)
+    returns-2
+    (λ c κs. search needs)
     (λ c κs. search needs)
     (λ c. omega (arith, inside c .1))
     (λ c. omega arith)
     (λ c. omega arith)
     (λ c. omega arith)
     loop-again
-    returns-2)
+    returns-3)
