@@ -15,8 +15,8 @@ ghost use Rattle.walk.specs.Inner.{pass, steps, range, coded, passing, r
 // So far beyond its start that no PDU has it, a part ends that is not legal.
 const BEYOND: usize = 4097;
 
-// So many single entries: of each only the present bit matters.
-fn entries_ahead(s: &[u8], start: usize, count: u32) -> usize
+// So many single entries, whatever they are: of each only the present bit matters, and it says where the next begins.
+fn mixed_ahead(s: &[u8], start: usize, count: u32) -> usize
     requires { ⌜ (start ≤ 1000000) × (count ≤ 8) ⌝ }
     ensures { λ r. ⌜ Ends (λ l. steps (pass identity l) count) (now (s .entry)) start 392 r ⌝ }
 {
@@ -25,6 +25,27 @@ fn entries_ahead(s: &[u8], start: usize, count: u32) -> usize
     while done < count {
         at = at + 25 + 24 * bits::bit_at(s, at + 24);
         done += 1;
+    }
+    at
+}
+
+// So many single entries, first as if all had the first one's present bit, as most lists have: then no place waits for the bit before it.
+fn entries_ahead(s: &[u8], start: usize, count: u32) -> usize
+    requires { ⌜ (start ≤ 1000000) × (count ≤ 8) ⌝ }
+    ensures { λ r. ⌜ Ends (λ l. steps (pass identity l) count) (now (s .entry)) start 392 r ⌝ }
+{
+    let present = bits::bit_at(s, start + 24);
+    let width = 25 + 24 * present;
+    let mut at = start;
+    let mut other: usize = 0;
+    let mut done = 0u32;
+    while done < count {
+        other += (bits::bit_at(s, at + 24) + present) % 2;
+        at += width;
+        done += 1;
+    }
+    if other != 0 {
+        return mixed_ahead(s, start, count);
     }
     at
 }

@@ -1,6 +1,7 @@
--- The present bits say where the last entry ends. Assumes nothing.
-use mathlib.Core.Path.{refl}
-use Prim.Native.Nat.{_+_, _-_, _*_, _≤_, _<_}
+-- As long as no present bit is another than the first, each entry ends where it was expected to. Assumes nothing.
+use mathlib.Core.Path.{_≡_, refl, sym, ap, subst}
+use mathlib.Core.List.{List}
+use Prim.Native.Nat.{ℕ, _+_, _-_, _*_, _≤_, _<_}
 use native.Mathlib.Omega.{arith}
 use borrow.Author.Needs.{needs}
 use denote.Ref.{now}
@@ -13,22 +14,63 @@ use Rattle.walk.proofs.ahead.entries_ahead.Statement.{statement}
 use Rattle.walk.proofs.ahead.entries_ahead.Tie as tie
 
 abbrev Inv-loop : tie.InvT-loop
-Inv-loop s start count at₀ done₀ at done = (done ≤ count) × Ends (λ l. steps (pass identity l) done) s start (49 * done) at
+Inv-loop s start count present width at₀ other₀ done₀ at other done =
+    (done ≤ count) × (other ≤ done) × (at ≤ start + 49 * done) × (other ≡ 0 → Ends (λ l. steps (pass identity l) done) s start (49 * done) at)
 
 abbrev μ-loop : tie.MeasureT-loop
-μ-loop s start count at₀ done₀ at done = count - done
+μ-loop s start count present width at₀ other₀ done₀ at other done = count - done
 
-small : (c : tie.After-bit-at Inv-loop μ-loop) → c .bit-at .result < 2
-small c = let l = c .before .before in bit-lt (now (l .before .before .args .s)) (l .loop .at + 24) (c .bit-at .ensures)
+abbrev s-of : tie.At-loop Inv-loop μ-loop → List ℕ
+s-of l = now (l .before .before .before .args .s)
+
+-- present bits are 0 or 1
+first : (c : tie.After-bit-at Inv-loop μ-loop) → c .bit-at .result < 2
+first c = bit-lt (now (c .before .before .args .s)) (c .before .before .args .start + 24) (c .bit-at .ensures)
+
+next : (c : tie.After-bit-at2 Inv-loop μ-loop) → c .bit-at2 .result < 2
+next c = let l = c .before .before in bit-lt (s-of l) (l .loop .at + 24) (c .bit-at2 .ensures)
 
 loop-again : tie.Need-loop-again Inv-loop μ-loop
-loop-again c = (omega arith, ends-more _ _ refl (c .before .before .loop .inv .1) (identity-ends (c .bit-at .ensures)))
+loop-again c =
+    let l = c .before .before in
+    let p = l .before .bit-at .result in
+    let b = c .bit-at2 .result in
+    let one = first (l .before) in
+    let more = next c in (
+      omega arith,
+      omega arith,
+      omega (arith, l .loop .inv .2, one),
+      λ e.
+          let none : l .loop .other ≡ 0 = omega (arith, e) in
+          let same : b ≡ p = omega (arith, e, one, more) in
+          ends-more _ _ refl (l .loop .inv .3 none)
+          (subst (λ (q : ℕ). Ends (pass identity) (s-of l) (l .loop .at) 49 q) (omega (arith, same)) (identity-ends (c .bit-at2 .ensures))),
+    )
 
-returns : tie.Need-returns Inv-loop μ-loop
-returns c = let i = c .before .loop .inv in ends-as (λ l r. steps-count _ r (omega (arith, i .0))) (omega (arith, i .0)) (i .1)
+returns-2 : tie.Need-returns-2 Inv-loop μ-loop
+returns-2 c =
+    let i = c .before .before .loop .inv in
+    ends-as (λ l r. steps-count _ r (omega (arith, i .0, c .before .loop-test .left))) (omega (arith, i .0)) (i .3 (c .if1 .left))
 
 pub entries-ahead-spec : {M : Type 1} → statement M
 entries-ahead-spec =
-    tie.close (tie.spec Inv-loop μ-loop (λ c. (omega arith, ends-none (pass identity) _ _)) (λ c. omega (arith, c .before .loop .inv .1 .near))
-    (λ c. omega (arith, c .before .loop .inv .1 .near)) (λ c κs. search needs) (λ c. omega (arith, small c))
-    (λ c. omega (arith, small c, c .before .before .loop .inv .1 .near)) (λ c. search needs) (λ c. search needs) loop-again returns)
+    tie.close
+    (tie.spec
+    Inv-loop
+    μ-loop
+    (λ c. omega arith)
+    (λ c κs. search needs)
+    (λ c. omega (arith, first c))
+    (λ c. omega (arith, first c))
+    (λ c. (omega arith, omega arith, omega arith, λ e. ends-none (pass identity) _ _))
+    (λ c. omega (arith, c .before .loop .inv .2))
+    (λ c κs. search needs)
+    (λ c. omega (arith, next c, first (c .before .before .before)))
+    (λ c. omega arith)
+    (λ c. omega (arith, first (c .before .before .before), c .before .before .loop .inv .2))
+    (λ c. search needs)
+    (λ c. search needs)
+    loop-again
+    (λ c κs. search needs)
+    (λ c. c .mixed-ahead .ensures)
+    returns-2)
