@@ -29,16 +29,19 @@ fn mixed_ahead(s: &[u8], start: usize, count: u32) -> usize
     at
 }
 
-// So many single entries, first as if all had the first one's present bit, as most lists have: then no place waits for the bit before it.
+// So many single entries; several first as if all had the first one's present bit, as in most lists: then no place waits for the bit before it.
 fn entries_ahead(s: &[u8], start: usize, count: u32) -> usize
     requires { ⌜ (start ≤ 1000000) × (count ≤ 8) ⌝ }
     ensures { λ r. ⌜ Ends (λ l. steps (pass identity l) count) (now (s .entry)) start 392 r ⌝ }
 {
+    if count < 2 {
+        return mixed_ahead(s, start, count);
+    }
     let present = bits::bit_at(s, start + 24);
     let width = 25 + 24 * present;
-    let mut at = start;
+    let mut at = start + width;
     let mut other: usize = 0;
-    let mut done = 0u32;
+    let mut done = 1u32;
     while done < count {
         other += (bits::bit_at(s, at + 24) + present) % 2;
         at += width;
@@ -114,8 +117,8 @@ fn external_ahead(s: &[u8], start: usize) -> usize
     start + BEYOND
 }
 
-// So many external numbers.
-fn numbers_ahead(s: &[u8], start: usize, count: u32) -> usize
+// So many external numbers, of whatever lengths.
+fn mixed_numbers_ahead(s: &[u8], start: usize, count: u32) -> usize
     requires { ⌜ (start ≤ 800000) × (count ≤ 8) ⌝ }
     ensures { λ r. ⌜ Ends (λ l. steps (pass external l) count) (now (s .entry)) start 32776 r ⌝ }
 {
@@ -123,6 +126,28 @@ fn numbers_ahead(s: &[u8], start: usize, count: u32) -> usize
     let mut done = 0u32;
     while done < count {
         at = external_ahead(s, at);
+        done += 1;
+    }
+    at
+}
+
+// So many external numbers; several first as if all were as long as the first: then no place waits for the length before it.
+fn numbers_ahead(s: &[u8], start: usize, count: u32) -> usize
+    requires { ⌜ (start ≤ 800000) × (count ≤ 8) ⌝ }
+    ensures { λ r. ⌜ Ends (λ l. steps (pass external l) count) (now (s .entry)) start 32776 r ⌝ }
+{
+    if count < 2 {
+        return mixed_numbers_ahead(s, start, count);
+    }
+    let mut at = external_ahead(s, start);
+    let width = at - start;
+    let mut done = 1u32;
+    while done < count {
+        let end = at + width;
+        if external_ahead(s, at) != end {
+            return mixed_numbers_ahead(s, start, count);
+        }
+        at = end;
         done += 1;
     }
     at
