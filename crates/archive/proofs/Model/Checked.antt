@@ -25,7 +25,6 @@ use Rattle.archive.specs.Refusals.{plain, ofBody}
 use Rattle.archive.specs.Checking.{inOrder, hasShape, bodyPlace, bodiesFrom, checkIs}
 use Rattle.archive.specs.Inner.{filingUnder, agreementIs}
 use Rattle.archive.specs.declared.contents.Entry.{Entry}
-use Rattle.archive.specs.declared.refusal.Refusal.{Refusal}
 use Rattle.archive.specs.declared.checking.Checked.{Checked}
 use Rattle.archive.specs.declared.checking.Checked.the-variants.{Archive, Refused}
 use Rattle.archive.specs.declared.filing.Agreement.the-variants.{Agrees, Fault}
@@ -134,6 +133,3 @@ module _ (b : List ℕ) where
 
   pub checked-archive : checkIs b ≡ Archive → isArchive b ≡ true
   checked-archive e = same ∙ ap isYes e
-
-  pub refused-archive : {f : Refusal} → checkIs b ≡ Refused f → isArchive b ≡ false
-  refused-archive e = same ∙ ap isYes e

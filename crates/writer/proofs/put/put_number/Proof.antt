@@ -1,8 +1,8 @@
 -- An external number is one run, or two of which the second puts the last bits of the first again. Assumes nothing.
-use mathlib.Core.Path.{_≡_, refl, sym, ap, _∙_}
+use mathlib.Core.Path.{_≡_, refl, sym, _∙_}
 use mathlib.Core.Bool.{Bool}
 use mathlib.Core.List.{List, _++_, append-nil}
-use Prim.Native.Nat.{ℕ, _+_, _-_, _*_, _/_, _%_, _^_, _≤_, _<_, min}
+use Prim.Native.Nat.{ℕ, _+_, _-_, _/_, _%_, _^_, _≤_, _<_, min}
 use lib.ListN.{take, drop}
 use Rattle.bits.specs.Bits.{bitsOf}
 use Rattle.grammar.specs.Grammar.{external}
