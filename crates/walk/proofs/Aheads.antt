@@ -2,14 +2,16 @@
 use mathlib.Core.Path.{_≡_, refl, sym, ap, _∙_, subst}
 use mathlib.Core.Bool.{Bool, true}
 use mathlib.Core.List.{List}
-use Prim.Native.Nat.{ℕ, suc, _+_, _-_, _*_, _/_, _%_, _^_, _≤_, _<_}
+use Prim.Native.Nat.{ℕ, suc, _+_, _-_, _*_, _/_, _%_, _^_, _≤_, _<_, min}
 use native.Mathlib.Nat.{mul-suc}
 use native.Mathlib.Omega.{arith}
-use lib.ListN.{length, length-take}
+use lib.ListN.{length, take, length-take}
 use lib.Pow.{shr-mod}
+use lib.Seq.{take-take}
 use Rattle.bits.specs.Bits.{bits}
 use Rattle.bits.specs.Frame.{bitsIn}
 use Rattle.bits.specs.Element.{windowAt}
+use Rattle.bits.proofs.Lists.{take-min}
 use Rattle.bits.proofs.Windows.{window-lt}
 use Rattle.codec.specs.Codec.{Codec}
 use Rattle.codec.specs.Parts.{number, element}
@@ -29,6 +31,17 @@ off f s at most h = record { after = omega arith; near = omega arith; there = λ
 pub found-off : (f : List Bool → Found ℕ) (s : List ℕ) (at result : ℕ) → Finds f s at result (at + 4097)
 found-off f s at result = record { after = omega arith; there = λ n few k. absurd (omega (arith, length-take n (bits s))) }
 
+-- the same in bytes whose first bits are these
+pub finds-within : {f : List Bool → Found ℕ} (s t : List ℕ) {at result end : ℕ} → take (length (bits s)) (bits t) ≡ bits s → Finds f t at result end
+    → Finds f s at result end
+finds-within {f} s t {result = result} {end} e r = record {
+  after = r .after;
+  there = λ n few i.
+      let k : ℕ = length (bits s) in
+      let same : bitsIn (min n k) t ≡ bitsIn n s = sym (take-take (min n k) k (bits t) (omega arith)) ∙ ap (take (min n k)) e ∙ take-min n (bits s) in
+      subst (λ (l : List Bool). end ≤ length l → f l ≡ got result end) same (r .there (min n k) (omega arith)) i;
+}
+
 -- the same part by another name
 pub ends-as : {f g : List Bool → Reached → Reached} {s : List ℕ} {at m k end : ℕ} → ((l : List Bool) (r : Reached) → g l r ≡ f l r) → m ≤ k
     → Ends f s at m end → Ends g s at k end
@@ -47,6 +60,9 @@ ends-then {g = g} x y = record {
 pub ends-none : (f : List Bool → Reached → Reached) (s : List ℕ) (at : ℕ) → Ends (λ l. steps (f l) 0) s at 0 at
 unfolding steps
 ends-none f s at = record { after = omega arith; near = omega arith; there = λ n few i. refl }
+
+pub ends-empty : (f : List Bool → Reached → Reached) (s : List ℕ) (at : ℕ) {k : ℕ} → k ≡ 0 → Ends (λ l. steps (f l) k) s at 0 at
+ends-empty f s at e = ends-as (λ l r. ap (λ (j : ℕ). steps (f l) j r) e) (omega arith) (ends-none f s at)
 
 pub ends-more : {f : List Bool → Reached → Reached} (done k : ℕ) {s : List ℕ} {at m p q : ℕ} → k ≡ done + 1
     → Ends (λ l. steps (f l) done) s at (m * done) p

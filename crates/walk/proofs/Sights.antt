@@ -92,10 +92,14 @@ range-ends {s} {at} {p} {a} {b} ea ep eb agree =
     }
 
 -- single entries
-pub coded-single : (code : ℕ) (l : List Bool) (r : Reached) → (code ≡ 9 → ⊥) → pass (coded code) l r ≡ steps (pass identity l) (entriesOf code) r
+coded-single : (code : ℕ) (l : List Bool) (r : Reached) → (code ≡ 9 → ⊥) → pass (coded code) l r ≡ steps (pass identity l) (entriesOf code) r
 unfolding coded
 coded-single code l r h =
     pass-untested _ _ _ _ _ (not-nine code h) ∙ pass-places identity noIdentity zeroIdentity _ (noIdentity-at _) 8 _ _ (entriesOf-le code)
+
+pub singles-end : {s : List ℕ} {at code m k end : ℕ} → code ≤ 8 → m ≤ k → Ends (λ l. steps (pass identity l) code) s at m end
+    → Ends (pass (coded code)) s at k end
+singles-end {code = code} few = ends-as (λ l r. coded-single code l r (λ e. omega arith) ∙ steps-count _ r (single code few .2))
 
 -- a code that is not refused is at most the highest that is not
 at-most : (high code : ℕ) {refusal : ℕ} → (high < code → refusal ≡ 3) → refusal ≡ 0 → code ≤ high

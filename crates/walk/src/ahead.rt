@@ -5,7 +5,9 @@ use grammar::site;
 use grammar::site::ListKind;
 use grammar::site::SS_TYPE;
 ghost use mathlib.Core.Path.{_≡_};
-ghost use Prim.Native.Nat.{_+_, _≤_};
+ghost use Prim.Native.Nat.{_+_, _*_, _≤_, _<_};
+ghost use lib.ListN.{length, take};
+ghost use Rattle.bits.specs.Bits.{bits};
 ghost use Rattle.grammar.specs.SiteSheet.{serviceRefusal};
 ghost use Rattle.grammar.specs.Grammar.{identity, identities, external, externals, interrogate, interrogateAck, partOf};
 ghost use Rattle.grammar.specs.declared.site.ListKind.the-variants as of;
@@ -78,12 +80,15 @@ fn coded_ahead(s: &[u8], start: usize, code: u32) -> usize
     entries_ahead(s, start, code)
 }
 
-// A range type and its identities.
+// A range type and its identities; that there are none is seen first.
 fn list_ahead(s: &[u8], start: usize) -> usize
     requires { ⌜ start ≤ 900000 ⌝ }
     ensures { λ r. ⌜ Ends (pass (identities of.Identities)) (now (s .entry)) start 4101 r ⌝ }
 {
     let code = (bits::window(s, start) >> 53u32) as u32;
+    if code == 0 {
+        return start + 4;
+    }
     if site::range_refusal(ListKind::Identities, code) != 0 {
         return start + BEYOND;
     }
@@ -153,12 +158,15 @@ fn numbers_ahead(s: &[u8], start: usize, count: u32) -> usize
     at
 }
 
-// A range type and its external numbers.
+// A range type and its external numbers; that there are none is seen first.
 fn externals_ahead(s: &[u8], start: usize) -> usize
     requires { ⌜ start ≤ 700000 ⌝ }
     ensures { λ r. ⌜ Ends (pass externals) (now (s .entry)) start 32780 r ⌝ }
 {
     let code = (bits::window(s, start) >> 53u32) as u32;
+    if code == 0 {
+        return start + 4;
+    }
     if site::range_refusal(ListKind::Numbers, code) != 0 {
         return start + BEYOND;
     }
@@ -263,4 +271,24 @@ pub(crate) fn pdu_ahead(s: &[u8]) -> Ahead
         return interrogate_ahead(s, users);
     }
     beyond(0)
+}
+
+// The same for fewer than eight bytes, with zeros after them. Apart, so that in the walk of more bytes no window has to look for so few.
+pub(crate) fn short_ahead(s: &[u8]) -> Ahead
+    requires { ⌜ length (now s) < 8 ⌝ }
+    ensures { λ r. ⌜ Finds resultIn (now (s .entry)) 0 (r .result) (r .end) ⌝ }
+{
+    let held = in_eight(s);
+    pdu_ahead(&held)
+}
+
+// Fewer than eight bytes in eight.
+fn in_eight(s: &[u8]) -> [u8; 8]
+    requires { ⌜ length (now s) < 8 ⌝ }
+    ensures { λ r. ⌜ take (8 * length (now (s .entry))) (bits r) ≡ bits (now (s .entry)) ⌝ }
+{
+    let mut held = [0u8; 8];
+    let width = 8 * s.len();
+    bits::lay(&mut held, 0, width, bits::window(s, 0) >> (57 - width));
+    held
 }

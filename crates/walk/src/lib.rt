@@ -1,5 +1,6 @@
 // The walk over a PDU: it keeps only what steers it, and answers with the head of an accepted PDU, or with the refusal number
 // and the bit place of the element at fault.
+use ahead::Ahead;
 use bits::BitCount;
 use codec::Reached;
 use grammar::record::Identity;
@@ -8,7 +9,7 @@ ghost use Prim.Native.Nat.{_<_, _^_};
 ghost use mathlib.Core.Bool.{true};
 ghost use Rattle.bits.specs.Frame.{framed};
 ghost use Rattle.walk.specs.Walk.{walkIs};
-ghost use Rattle.walk.specs.Inner.{identityIn, headIn, endedIs};
+ghost use Rattle.walk.specs.Inner.{identityIn, headIn, endedIs, resultIn, Finds};
 
 mod ahead;
 mod exact;
@@ -47,7 +48,17 @@ pub fn walk(s: &[u8], n: BitCount) -> Walked
             place: BitPlace::Nowhere,
         });
     }
-    let seen = ahead::pdu_ahead(s);
+    if s.len() < 8 {
+        return sighted(s, n, ahead::short_ahead(s));
+    }
+    sighted(s, n, ahead::pdu_ahead(s))
+}
+
+// The head, where the walk ahead ends with the PDU; or the exact walk's answer.
+fn sighted(s: &[u8], n: BitCount, seen: Ahead) -> Walked
+    requires { ⌜ (framed (now s) (n .0) ≡ true) × Finds resultIn (now s) 0 (seen .result) (seen .end) ⌝ }
+    ensures { λ r. ⌜ r ≡ walkIs (now (s .entry)) (n .0) ⌝ }
+{
     if seen.end == n.0 {
         return Walked::Accepted(head_in(s, seen.result));
     }

@@ -1,21 +1,34 @@
--- The range type stands in the window. Assumes nothing.
+-- The range type stands in the window; 0 has no entries. Assumes nothing.
 use mathlib.Core.Path.{refl, sym, ap, _∙_}
 use Prim.Native.Nat.{ℕ, _/_, _^_}
 use native.Mathlib.Omega.{arith}
 use borrow.Author.Needs.{needs}
-use Rattle.walk.proofs.Aheads.{off, in-front}
+use Rattle.grammar.specs.SiteSheet.{rangeType, rangeRefusal}
+use Rattle.grammar.specs.Grammar.{external}
+use Rattle.grammar.specs.declared.site.ListKind.the-variants as of
+use Rattle.walk.specs.Inner.{pass}
+use Rattle.walk.proofs.Aheads.{off, ends-as, ends-empty, in-front}
 use Rattle.walk.proofs.Sights.{single-code, externals-end}
 use Rattle.walk.proofs.ahead.externals_ahead.Statement.{statement}
 use Rattle.walk.proofs.ahead.externals_ahead.Tie as tie
 
-returns-2 : tie.Need-returns-2
-returns-2 c =
+returns : tie.Need-returns
+unfolding rangeType rangeRefusal
+returns c =
+    let w = c .before in
+    let e = c .if1 .taken in
+    ends-as (λ l r. refl) (omega arith)
+    (externals-end (in-front _ _ 4 53 refl (omega arith) (ap (λ (w : ℕ). w / 2 ^ 53) (w .window .ensures))) (ap (rangeRefusal of.Numbers) e)
+    (ends-empty (pass external) _ _ e))
+
+returns-3 : tie.Need-returns-3
+returns-3 c =
     let e = c .before in let r = e .before in
-    externals-end (in-front _ _ 4 53 refl (omega arith) (ap (λ (w : ℕ). w / 2 ^ 53) (r .before .window .ensures)))
-    (sym (r .range-refusal .ensures) ∙ e .if1 .left) (c .numbers-ahead .ensures)
+    externals-end (in-front _ _ 4 53 refl (omega arith) (ap (λ (w : ℕ). w / 2 ^ 53) (r .before .before .window .ensures)))
+    (sym (r .range-refusal .ensures) ∙ e .if2 .left) (c .numbers-ahead .ensures)
 
 pub externals-ahead-spec : {M : Type 1} → statement M
 externals-ahead-spec =
-    tie.close (tie.spec (λ c κs. search needs) (λ c. search needs) (λ c. search needs) (λ c. search needs) (λ c κs. search needs) (λ c. search needs)
-    (λ c. off _ _ _ 32780 (omega arith)) (λ c. search needs)
-    (λ c κs. (omega arith, single-code _ (sym (c .before .range-refusal .ensures) ∙ c .if1 .left))) returns-2)
+    tie.close (tie.spec (λ c κs. search needs) (λ c. search needs) (λ c. search needs) (λ c. search needs) (λ c. search needs) returns
+    (λ c κs. search needs) (λ c. search needs) (λ c. off _ _ _ 32780 (omega arith)) (λ c. search needs)
+    (λ c κs. (omega arith, single-code _ (sym (c .before .range-refusal .ensures) ∙ c .if2 .left))) returns-3)

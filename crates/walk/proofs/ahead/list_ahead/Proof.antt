@@ -1,22 +1,34 @@
--- The range type stands in the window. Assumes nothing.
+-- The range type stands in the window; 0 has no entries. Assumes nothing.
 use mathlib.Core.Path.{refl, sym, ap, _∙_}
 use Prim.Native.Nat.{ℕ, _/_, _^_}
 use native.Mathlib.Omega.{arith}
 use borrow.Author.Needs.{needs}
+use Rattle.grammar.specs.SiteSheet.{rangeType, rangeRefusal}
+use Rattle.grammar.specs.Grammar.{identity}
 use Rattle.grammar.specs.declared.site.ListKind.the-variants as of
-use Rattle.walk.proofs.Aheads.{off, in-front}
-use Rattle.walk.proofs.Sights.{legal-code, list-ends}
+use Rattle.walk.specs.Inner.{pass}
+use Rattle.walk.proofs.Aheads.{off, ends-as, ends-empty, in-front}
+use Rattle.walk.proofs.Sights.{legal-code, singles-end, list-ends}
 use Rattle.walk.proofs.ahead.list_ahead.Statement.{statement}
 use Rattle.walk.proofs.ahead.list_ahead.Tie as tie
 
-returns-2 : tie.Need-returns-2
-returns-2 c =
+returns : tie.Need-returns
+unfolding rangeType rangeRefusal
+returns c =
+    let w = c .before in
+    let e = c .if1 .taken in
+    ends-as (λ l r. refl) (omega arith)
+    (list-ends of.Identities (in-front _ _ 4 53 refl (omega arith) (ap (λ (w : ℕ). w / 2 ^ 53) (w .window .ensures))) (ap (rangeRefusal of.Identities) e)
+    (singles-end {k = 0} (omega arith) (omega arith) (ends-empty (pass identity) _ _ e)))
+
+returns-3 : tie.Need-returns-3
+returns-3 c =
     let e = c .before in let r = e .before in
-    list-ends of.Identities (in-front _ _ 4 53 refl (omega arith) (ap (λ (w : ℕ). w / 2 ^ 53) (r .before .window .ensures)))
-    (sym (r .range-refusal .ensures) ∙ e .if1 .left) (c .coded-ahead .ensures)
+    list-ends of.Identities (in-front _ _ 4 53 refl (omega arith) (ap (λ (w : ℕ). w / 2 ^ 53) (r .before .before .window .ensures)))
+    (sym (r .range-refusal .ensures) ∙ e .if2 .left) (c .coded-ahead .ensures)
 
 pub list-ahead-spec : {M : Type 1} → statement M
 list-ahead-spec =
-    tie.close (tie.spec (λ c κs. search needs) (λ c. search needs) (λ c. search needs) (λ c. search needs) (λ c κs. search needs) (λ c. search needs)
-    (λ c. off _ _ _ 4101 (omega arith)) (λ c. search needs)
-    (λ c κs. (omega arith, legal-code of.Identities _ (sym (c .before .range-refusal .ensures) ∙ c .if1 .left))) returns-2)
+    tie.close (tie.spec (λ c κs. search needs) (λ c. search needs) (λ c. search needs) (λ c. search needs) (λ c. search needs) returns
+    (λ c κs. search needs) (λ c. search needs) (λ c. off _ _ _ 4101 (omega arith)) (λ c. search needs)
+    (λ c κs. (omega arith, legal-code of.Identities _ (sym (c .before .range-refusal .ensures) ∙ c .if2 .left))) returns-3)
