@@ -1,9 +1,12 @@
 -- What the parts of a record come to, and that they fit: one law for each way to build a codec. Assumes nothing.
 use mathlib.Core.Path.{_≡_, refl, sym, ap, _∙_, subst}
 use mathlib.Core.Bool.{Bool, true, _&&_, and-true, and-assoc}
-use Prim.Native.Nat.{ℕ, zero, suc, _+_, _≤_}
+use Prim.Native.Nat.{ℕ, zero, suc, _+_, _*_, _/_, _^_, _≤_, _<_}
+use native.Mathlib.Nat.{lt-div-mul-add}
 use native.Mathlib.Omega.{arith}
+use borrow.Author.Tests.{lt-ltb}
 use lib.ListN.{length-append}
+use lib.Pow.{pow-pos}
 use Rattle.bits.proofs.Numbers.{length-bitsOf}
 use Rattle.codec.specs.Codec.{Codec, first}
 use Rattle.codec.specs.Parts.{numberFault, number, element, seq, tested, shaped}
@@ -20,6 +23,12 @@ first-assoc zero m n = refl
 first-assoc (suc k) m n = refl
 
 -- ---- an element
+
+-- a number of which nothing is left where it is shifted by its width
+pub in-width : (w v : ℕ) → v / 2 ^ w ≡ 0 → numberFault w v ≡ 0
+in-width w v e =
+    let h : v < 0 * 2 ^ w + 2 ^ w = rw e at (lt-div-mul-add {a = v} {b = 2 ^ w} (pow-pos w)) in
+    rw (lt-ltb v (2 ^ w) (omega arith))
 
 pub element-is : (t : Tally) (v w refusal : ℕ) {k own : ℕ} → own ≡ first (numberFault w v) refusal → k ≡ first (t .refusal) own
     → Tallies (element w (λ x. refusal)) v t (record { clean = t .clean; refusal = k; bits = t .bits + w })
@@ -45,6 +54,11 @@ module _ (w : ℕ) {v : ℕ} {t s : Tally} where
   pub numbered : Tallies (element w (λ x. 0)) v t s → Tallies (number w) v t s
   unfolding element tested number
   numbered h = record { clean = h .clean; refusal = h .refusal ∙ ap (first (t .refusal)) (first-zero (numberFault w v)); bits = h .bits }
+
+-- a number that is not refused
+pub legal : (w : ℕ) {v : ℕ} (t : Tally) → v / 2 ^ w ≡ 0
+    → Tallies (number w) v t (record { clean = t .clean; refusal = t .refusal; bits = t .bits + w })
+legal w {v} t e = numbered w (element-is t v w 0 {own = 0} (sym (ap (λ (n : ℕ). first n 0) (in-width w v e))) (sym (first-zero (t .refusal))))
 
 pub fits-number : (w : ℕ) {v : ℕ} {t : Tally} → Fits (number w) v t → t .bits + w ≤ 4096
 unfolding number

@@ -9,13 +9,14 @@ use grammar::site::ListKind;
 use grammar::site::ends_refusal;
 use grammar::site::range_refusal;
 ghost use mathlib.Core.Path.{_≡_};
+ghost use mathlib.Core.Bool.{true};
 ghost use Prim.Native.Nat.{_+_, _≤_};
-ghost use lib.ListN.{length, drop};
+ghost use lib.ListN.{length, drop, getD};
 ghost use Rattle.codec.specs.Places.{places};
 ghost use Rattle.grammar.specs.Grammar.{identity, noIdentity, rangeEnds, identities};
 ghost use Rattle.words.specs.RecordWords.{entriesFrom, identityFrom, identitiesFrom};
 ghost use Rattle.tally.specs.Tally.{Tallies};
-ghost use Rattle.tally.specs.Inner.{Fits};
+ghost use Rattle.tally.specs.Inner.{Fits, Alike};
 
 // The three words of an identity.
 fn identity_from(words: &[u32], at: usize) -> Identity
@@ -43,8 +44,8 @@ fn tally_identity(start: Tally, words: &[u32], at: usize) -> Tally
     tally_unused(after_present, words, at + 2, 1)
 }
 
-// The first n of eight entries are used.
-fn tally_identity_entries(start: Tally, words: &[u32], from: usize, n: usize) -> Tally
+// The first n of eight entries are used, whatever they are.
+fn tally_mixed_entries(start: Tally, words: &[u32], from: usize, n: usize) -> Tally
     requires { ⌜ (from + 24 ≤ length (now words)) × (n ≤ 8) × Fits (places identity noIdentity 8 n) (entriesFrom identityFrom 3 8 (drop from (now words))) start ⌝ }
     ensures { λ r. ⌜ Tallies (places identity noIdentity 8 n) (entriesFrom identityFrom 3 8 (drop from (now (words .entry)))) start r ⌝ }
 {
@@ -58,6 +59,49 @@ fn tally_identity_entries(start: Tally, words: &[u32], from: usize, n: usize) ->
         i += 1;
     }
     tally_unused(sum, words, place, end - place)
+}
+
+// Whether several entries are legal, have the first one's present bit, and no extension if that is 0. All are tested: that is quicker.
+fn are_alike(words: &[u32], from: usize, n: usize) -> bool
+    requires { ⌜ (from + 24 ≤ length (now words)) × (n ≤ 8) ⌝ }
+    ensures { λ r. ⌜ (r ≡ true → Alike n (getD (now (words .entry)) (from + 1) 0) from (now (words .entry))) ⌝ }
+{
+    if n < 2 {
+        return false;
+    }
+    let present = words[from + 1];
+    if 1 < present {
+        return false;
+    }
+    let size = 24 * present;
+    let mut other: u32 = 0;
+    let mut place = from;
+    let mut i: usize = 0;
+    while i < n {
+        let e = identity_from(words, place);
+        other = other | (e.ssi >> 24u32) | (e.present ^ present) | (e.extension >> size);
+        place += 3;
+        i += 1;
+    }
+    other == 0
+}
+
+// The first n of eight entries are used: at once where they are alike.
+fn tally_identity_entries(start: Tally, words: &[u32], from: usize, n: usize) -> Tally
+    requires { ⌜ (from + 24 ≤ length (now words)) × (n ≤ 8) × Fits (places identity noIdentity 8 n) (entriesFrom identityFrom 3 8 (drop from (now words))) start ⌝ }
+    ensures { λ r. ⌜ Tallies (places identity noIdentity 8 n) (entriesFrom identityFrom 3 8 (drop from (now (words .entry)))) start r ⌝ }
+{
+    if !are_alike(words, from, n) {
+        return tally_mixed_entries(start, words, from, n);
+    }
+    let width = 25 + 24 * (words[from + 1] as usize);
+    let place = from + 3 * n;
+    let sum = Tally {
+        clean: start.clean,
+        refusal: start.refusal,
+        bits: start.bits + width * n,
+    };
+    tally_unused(sum, words, place, from + 24 - place)
 }
 
 // Only range type 9 has two ends.
