@@ -21,7 +21,7 @@ use Rattle.codec.proofs.Reading.{readAt-absent, readAt-cons}
 use Rattle.codec.proofs.Filling.{places-each}
 use Rattle.grammar.specs.SiteSheet.{digitRefusal, serviceRefusal}
 use Rattle.walk.proofs.Numbers.{element-says}
-use Rattle.reader.specs.Inner.{Read, Reads, heldIn, twelveIn, sevenIn}
+use Rattle.reader.specs.Inner.{Read, Reads, heldIn, fourIn, twelveIn, sevenIn}
 use Rattle.reader.proofs.Elements.{steps, number-there, number-end, number-inside}
 use Rattle.reader.proofs.Parts.{element-read}
 
@@ -128,11 +128,29 @@ pub seven-long : (run : ℕ) → length (sevenIn run) ≡ 7
 unfolding sevenIn
 seven-long run = length-values (λ i. run / 2 ^ (18 - 3 * i) % 8) 0 7
 
-pub twelve-at : (run i : ℕ) → i < 12 → getD (twelveIn run) i 0 ≡ run / 2 ^ (44 - 4 * i) % 16
+pub four-at : (run i : ℕ) → i < 4 → getD (fourIn run) i 0 ≡ run / 2 ^ (12 - 4 * i) % 16
+unfolding fourIn
+four-at run i h = table.at (λ i. run / 2 ^ (12 - 4 * i) % 16) 0 4 i h
+
+pub four-long : (run : ℕ) → length (fourIn run) ≡ 4
+unfolding fourIn
+four-long run = length-values (λ i. run / 2 ^ (12 - 4 * i) % 16) 0 4
+
+four-as : {a b c d a′ b′ c′ d′ : ℕ} {l l′ : List ℕ} → a ≡ a′ → b ≡ b′ → c ≡ c′ → d ≡ d′ → l ≡ l′ → a ∷ b ∷ c ∷ d ∷ l ≡ a′ ∷ b′ ∷ c′ ∷ d′ ∷ l′
+four-as p q r s t = cc
+
+-- twelve are four, four and four
+pub twelve-is : (run : ℕ) → (fourIn (run / 2 ^ 32) ++ fourIn (run / 2 ^ 16 % 65536)) ++ fourIn (run % 65536) ≡ twelveIn run
+unfolding fourIn twelveIn
+twelve-is run =
+    four-as (omega arith) (omega arith) (omega arith) (omega arith)
+    (four-as (omega arith) (omega arith) (omega arith) (omega arith) (four-as (omega arith) (omega arith) (omega arith) (omega arith) refl))
+
+twelve-at : (run i : ℕ) → i < 12 → getD (twelveIn run) i 0 ≡ run / 2 ^ (44 - 4 * i) % 16
 unfolding twelveIn
 twelve-at run i h = table.at (λ i. run / 2 ^ (44 - 4 * i) % 16) 0 12 i h
 
-pub twelve-long : (run : ℕ) → length (twelveIn run) ≡ 12
+twelve-long : (run : ℕ) → length (twelveIn run) ≡ 12
 unfolding twelveIn
 twelve-long run = length-values (λ i. run / 2 ^ (44 - 4 * i) % 16) 0 12
 

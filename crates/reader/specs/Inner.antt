@@ -49,7 +49,10 @@ pub record Fills {A : Type 0} (c : Codec A) (f : A → List ℕ) (n : ℕ) (s : 
 unfoldable pub heldIn : ℕ → ℕ → ℕ → ℕ → ℕ
 heldIn window skip whole used = window / 2 ^ (57 - skip - used) * 2 ^ (whole - used)
 
--- the twelve numbers of four bits in 48, and the seven of three bits in 21
+-- the four numbers of four bits in 16, the twelve in 48, and the seven of three bits in 21
+unfoldable pub fourIn : ℕ → List ℕ
+fourIn run = values (λ i. run / 2 ^ (12 - 4 * i) % 16) 0 4
+
 unfoldable pub twelveIn : ℕ → List ℕ
 twelveIn run = values (λ i. run / 2 ^ (44 - 4 * i) % 16) 0 12
 

@@ -12,20 +12,32 @@ ghost use Rattle.codec.specs.Places.{places};
 ghost use Rattle.grammar.specs.Grammar.{external, noExternal, externals};
 ghost use Rattle.words.specs.Inner.{Put};
 ghost use Rattle.words.specs.RecordWords.{inTurn, numberWords, numbersWords};
-ghost use Rattle.reader.specs.Inner.{Fillable, Fills, twelveIn};
+ghost use Rattle.reader.specs.Inner.{Fillable, Fills, fourIn, twelveIn};
 
-// Twelve digits. A fixed number of turns, so that it becomes code without a loop.
+// Four digits. A fixed number of turns, so that it becomes code without a loop: one store of four words.
+fn put_four(words: &mut [u32], to: usize, run: u32)
+    requires { ⌜ to + 4 ≤ length (now words) ⌝ }
+    ensures { λ _. ⌜ Put (now (words .entry)) to (fourIn run) 4 (now (words .exit)) (to + 4) ⌝ }
+{
+    let mut next = to;
+    let mut i: usize = 0;
+    while i < 4 {
+        words[next] = (run >> (12 - 4 * i)) % 16;
+        next += 1;
+        i += 1;
+    }
+}
+
+// Twelve digits.
 fn put_twelve(words: &mut [u32], to: usize, run: u64)
     requires { ⌜ to + 12 ≤ length (now words) ⌝ }
     ensures { λ _. ⌜ Put (now (words .entry)) to (twelveIn run) 12 (now (words .exit)) (to + 12) ⌝ }
 {
-    let mut next = to;
-    let mut i: usize = 0;
-    while i < 12 {
-        words[next] = ((run >> (44 - 4 * i)) % 16) as u32;
-        next += 1;
-        i += 1;
-    }
+    let second = to + 4;
+    let third = second + 4;
+    put_four(words, to, (run >> 32u32) as u32);
+    put_four(words, second, ((run >> 16u32) % 65536) as u32);
+    put_four(words, third, (run % 65536) as u32);
 }
 
 // The length, the digits, and zeros in the other places: the length and twelve digits from one window, twelve from another.

@@ -1,30 +1,39 @@
--- Each turn puts one digit. Assumes nothing.
-use Prim.Native.Nat.{_-_}
+-- Four, four and four. Assumes nothing.
+use mathlib.Core.Path.{_≡_, refl}
+use Prim.Native.Nat.{_+_}
 use native.Mathlib.Omega.{arith}
 use borrow.Author.Needs.{needs}
-use Rattle.words.proofs.Putting.{Turned, turned-none}
-use Rattle.reader.specs.Inner.{one, twelveIn}
-use Rattle.reader.proofs.Entries.{word-more, words-all}
-use Rattle.reader.proofs.Runs.{twelve-at, twelve-long}
+use Rattle.words.proofs.Putting.{then}
+use Rattle.reader.proofs.Entries.{put-as}
+use Rattle.reader.proofs.Runs.{twelve-is}
 use Rattle.reader.proofs.numbers.put_twelve.Statement.{statement}
 use Rattle.reader.proofs.numbers.put_twelve.Tie as tie
 
-abbrev Inv-loop : tie.InvT-loop
-Inv-loop words₀ to run next₀ i₀ words next i = Turned one (twelveIn run) 1 12 words₀ to i words next
-
-abbrev μ-loop : tie.MeasureT-loop
-μ-loop words₀ to run next₀ i₀ words next i = 12 - i
-
-loop-again : tie.Need-loop-again Inv-loop μ-loop
-loop-again c =
-    let l = c .before .loop in let run = c .before .before .args .run in let k = c .loop-test .taken in
-    word-more (twelve-long run) (l .inv) (omega arith) k (omega arith) (twelve-at run (l .i) k)
-
-returns : tie.Need-returns Inv-loop μ-loop
-returns c = words-all (twelve-long (c .before .before .args .run)) (c .before .loop .inv) (c .loop-test .left)
+returns : tie.Need-returns
+returns c =
+    let r = c .before .before in
+    let q = r .before .before .before .before in
+    let p = q .before .before .before .before in
+    let b = p .before .before .before in
+    let ends : b .args .to + 4 + 4 + 4 ≡ b .args .to + 12 = omega arith in
+    put-as (then (omega (arith, b .pre)) (then (omega (arith, b .pre)) (p .put-four .ensures) (q .put-four2 .ensures)) (r .put-four3 .ensures))
+    (twelve-is (b .args .run)) refl ends
 
 pub put-twelve-spec : {M : Type 1} → statement M
 put-twelve-spec =
     tie.close
-    (tie.spec Inv-loop μ-loop (λ c. turned-none) (λ c. search needs) (λ c. omega arith) (λ c. search needs) (λ c. search needs) (λ c. search needs)
-    (λ c. omega arith) (λ c. omega arith) (λ c. search needs) (λ c. search needs) loop-again (λ c. search needs) returns)
+    (tie.spec
+    (λ c. search needs)
+    (λ c. search needs)
+    (λ c. search needs)
+    (λ c. search needs)
+    (λ c. search needs)
+    (λ c κs. search needs)
+    (λ c. search needs)
+    (λ c. search needs)
+    (λ c. search needs)
+    (λ c κs. search needs)
+    (λ c. search needs)
+    (λ c κs. search needs)
+    (λ c. search needs)
+    returns)
