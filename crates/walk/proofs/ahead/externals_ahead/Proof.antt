@@ -18,8 +18,8 @@ returns c =
     let w = c .before in
     let e = c .if1 .taken in
     ends-as (λ l r. refl) (omega arith)
-    (externals-end (in-front _ _ 4 53 refl (omega arith) (ap (λ (w : ℕ). w / 2 ^ 53) (w .window .ensures))) (ap (rangeRefusal of.Numbers) e)
-    (ends-empty (pass external) _ _ e))
+    (externals-end (in-front _ _ 4 53 refl (omega arith) (ap (λ (w : ℕ). w / 2 ^ 53) (w .window .ensures)))
+    (ap (rangeRefusal of.Numbers) e) (ends-empty (pass external) _ _ e))
 
 returns-3 : tie.Need-returns-3
 returns-3 c =
