@@ -6,12 +6,12 @@ use Prim.Native.Nat.{ℕ, zero, suc, _+_, _-_, _*_, _/_, _%_, _^_, _≤_, _<_, m
 use native.Mathlib.Numerals.{add-one}
 use native.Mathlib.Omega.{arith}
 use lib.ListN.{length, take, drop, getD, length-append, length-drop}
-use lib.Seq.{take-nil, take-at, take-add, take-suc, take-take, drop-drop, length-take-le}
+use lib.Seq.{take-nil, take-at, take-add, take-suc, take-take, drop-drop, getD-drop, length-take-le}
 use lib.Dec.{leb}
 use borrow.Author.Tests.{leb-true, leb-false}
 use Rattle.bits.specs.Bits.{bitsOf}
 use Rattle.bits.specs.Lists.{Each}
-use Rattle.bits.proofs.Numbers.{length-bitsOf, bitsOf-add, bitsOf-join}
+use Rattle.bits.proofs.Numbers.{length-bitsOf, bitsOf-add, bitsOf-parts, bitsOf-join}
 use Rattle.bits.proofs.Lists.{take-used}
 use Rattle.codec.specs.Parts.{number, absent, element, seq, tested, shaped}
 use Rattle.codec.specs.Places.{nil, cons, places}
@@ -58,6 +58,19 @@ module _ (w : ℕ) where
       (sym (ap (codeBits w) next ∙ codeBits-append (take i t) (d ∷ []) ∙ ap (λ (l : List Bool). codeBits w (take i t) ++ l)
       (append-nil (bitsOf w d))))
 
+  -- codes, and others after them
+  codes-then : (a b : List ℕ) (j k start x y : ℕ) → CodesAfter w j start a x → CodesAfter w k 0 b y → y < 2 ^ (w * k)
+      → CodesAfter w (j + k) start (a ++ b) (x * 2 ^ (w * k) + y)
+  unfolding bitsOf
+  codes-then a b j k start x y p q few v =
+      let size : v + w * (j + k) ≡ v + w * j + w * k = omega arith in
+      let none : 0 + w * k ≡ w * k = omega arith in
+      ap (λ (n : ℕ). bitsOf n (x * 2 ^ (w * k) + y)) size
+      ∙ bitsOf-parts (v + w * j) (w * k) x y few
+      ∙ ap₂ (λ (l r : List Bool). l ++ r) (p v) (ap (λ (n : ℕ). bitsOf n y) (sym none) ∙ q 0)
+      ∙ append-assoc (bitsOf v start) (codeBits w a) (codeBits w b)
+      ∙ ap (λ (l : List Bool). bitsOf v start ++ l) (sym (codeBits-append a b))
+
   -- of j + k codes after a number, the first j
   fewer-codes : (t : List ℕ) (j k start run : ℕ) → j + k ≤ length t → CodesAfter w (j + k) start (take (j + k) t) run
       → CodesAfter w j start (take j t) (run / 2 ^ (w * k))
@@ -86,6 +99,34 @@ module _ (w : ℕ) where
   print-codes refuse (suc m) n [] e = absurd (omega arith)
   print-codes refuse (suc m) zero (d ∷ l) e = print-codes refuse m zero l (omega arith)
   print-codes refuse (suc m) (suc n) (d ∷ l) e = ap (λ (x : List Bool). bitsOf w d ++ x) (print-codes refuse m n l (omega arith))
+
+-- four digits after a number, from words
+pub four-codes : (s : List ℕ) (from start : ℕ) → from + 4 ≤ length s → CodesAfter 4 4 start (take 4 (drop from s))
+    ((((start * 16 + getD s from 0 % 16) * 16 + getD s (from + 1) 0 % 16) * 16 + getD s (from + 2) 0 % 16) * 16 + getD s (from + 3) 0 % 16)
+four-codes s from start long =
+    let t : List ℕ = drop from s in
+    let inside : 4 ≤ length t = omega (arith, length-drop from s) in
+    let here : from + 0 ≡ from = omega arith in
+    let a : getD t 0 0 ≡ getD s from 0 = getD-drop from s 0 0 ∙ ap (λ (n : ℕ). getD s n 0) here in
+    let b : getD t 1 0 ≡ getD s (from + 1) 0 = getD-drop from s 1 0 in
+    let c : getD t 2 0 ≡ getD s (from + 2) 0 = getD-drop from s 2 0 in
+    let d : getD t 3 0 ≡ getD s (from + 3) 0 = getD-drop from s 3 0 in
+    subst (λ (run : ℕ). CodesAfter 4 4 start (take 4 t) run)
+    (λ i. (((start * 16 + a i % 16) * 16 + b i % 16) * 16 + c i % 16) * 16 + d i % 16)
+    (more-codes 4 t 3 start _ (omega arith) (more-codes 4 t 2 start _ (omega arith) (more-codes 4 t 1 start _ (omega arith)
+    (more-codes 4 t 0 start start (omega arith) (no-codes 4 start)))))
+
+-- twelve are four, four and four
+pub twelve-codes : (s : List ℕ) (from start x y z : ℕ) → CodesAfter 4 4 start (take 4 (drop from s)) x
+    → CodesAfter 4 4 0 (take 4 (drop (from + 4) s)) y → y < 65536 → CodesAfter 4 4 0 (take 4 (drop (from + 8) s)) z → z < 65536
+    → CodesAfter 4 12 start (take 12 (drop from s)) ((x * 65536 + y) * 65536 + z)
+twelve-codes s from start x y z p q fewer r few =
+    let t : List ℕ = drop from s in
+    let all : (take 4 t ++ take 4 (drop (from + 4) s)) ++ take 4 (drop (from + 8) s) ≡ take 12 t =
+    (λ i. (take 4 t ++ take 4 (sym (drop-drop 4 from s) i)) ++ take 4 (sym (drop-drop 8 from s) i))
+    ∙ ap (λ (l : List ℕ). l ++ take 4 (drop 8 t)) (sym (take-add 4 4 t)) ∙ sym (take-add 8 4 t) in
+    subst (λ (l : List ℕ). CodesAfter 4 12 start l ((x * 65536 + y) * 65536 + z)) all
+    (codes-then 4 _ _ 8 4 start (x * 65536 + y) z (codes-then 4 _ _ 4 4 start x y p q fewer) r few)
 
 -- of `count` codes of w bits after a number, the first j, where m bits stand after them
 first-codes : (w count m : ℕ) (t : List ℕ) (j start run : ℕ) → j ≤ count → count ≤ length t → m ≡ w * (count - j) → CodesAfter w count start

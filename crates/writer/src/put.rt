@@ -4,7 +4,7 @@ use grammar::site::RangeType;
 use grammar::site::SS_TYPE;
 use grammar::site::range_type;
 ghost use mathlib.Core.Path.{_≡_};
-ghost use Prim.Native.Nat.{ℕ, _+_, _^_, _≤_, _<_};
+ghost use Prim.Native.Nat.{ℕ, _+_, _*_, _^_, _≤_, _<_};
 ghost use lib.ListN.{length, take, drop};
 ghost use Rattle.bits.specs.Lists.{Each};
 ghost use Rattle.codec.specs.Parts.{number, seq};
@@ -46,6 +46,28 @@ fn with_codes(start: u64, words: &[u32], from: usize, count: usize, scale: u64) 
         i += 1;
     }
     run
+}
+
+// A number and four digits after it: the words from a place on.
+fn with_four(start: u64, words: &[u32], from: usize) -> u64
+    requires { ⌜ (start < 256) × (from + 4 ≤ length (now words)) ⌝ }
+    ensures { λ r. ⌜ (r < (start + 1) * 65536) × CodesAfter 4 4 start (take 4 (drop from (now (words .entry)))) r ⌝ }
+{
+    let one = start * 16 + (words[from] as u64) % 16;
+    let two = one * 16 + (words[from + 1] as u64) % 16;
+    let three = two * 16 + (words[from + 2] as u64) % 16;
+    three * 16 + (words[from + 3] as u64) % 16
+}
+
+// And twelve: four at a time, so that none waits for all that stand before it.
+fn with_twelve(start: u64, words: &[u32], from: usize) -> u64
+    requires { ⌜ (start < 256) × (from + 12 ≤ length (now words)) ⌝ }
+    ensures { λ r. ⌜ CodesAfter 4 12 start (take 12 (drop from (now (words .entry)))) r ⌝ }
+{
+    let high = with_four(start, words, from);
+    let middle = with_four(0, words, from + 4);
+    let low = with_four(0, words, from + 8);
+    (high * 65536 + middle) * 65536 + low
 }
 
 // The entries that follow a range type, by its meaning.
@@ -169,7 +191,7 @@ fn put_number(out: &mut [u8], at: usize, words: &[u32], from: usize) -> usize
     let count = words[from];
     let early = bits::least(count as usize, 12);
     let early_bits = DigitCount(early as u8).bits().0;
-    let first = with_codes(count as u64, words, from + 1, 12, 16) >> (48 - early_bits);
+    let first = with_twelve(count as u64, words, from + 1) >> (48 - early_bits);
     let middle = put_run(out, at, 5 + early_bits, first);
     if count < 13 {
         return middle;
@@ -177,7 +199,7 @@ fn put_number(out: &mut [u8], at: usize, words: &[u32], from: usize) -> usize
     let late = bits::least(count as usize, 24) - 12;
     let late_bits = DigitCount(late as u8).bits().0;
     let again = middle % 8;
-    let second = with_codes(first % 256, words, from + 13, 12, 16) >> (48 - late_bits);
+    let second = with_twelve(first % 256, words, from + 13) >> (48 - late_bits);
     put_run(out, middle - again, again + late_bits, second)
 }
 

@@ -1,5 +1,5 @@
 -- An external number is one run, or two of which the second puts the last bits of the first again. Assumes nothing.
-use mathlib.Core.Path.{_≡_, refl, sym, _∙_}
+use mathlib.Core.Path.{_≡_, sym, _∙_}
 use mathlib.Core.Bool.{Bool}
 use mathlib.Core.List.{List, _++_, append-nil}
 use Prim.Native.Nat.{ℕ, _+_, _-_, _/_, _%_, _^_, _≤_, _<_, min}
@@ -31,21 +31,22 @@ few c = length-small (now (c .args .words)) (c .args .from) (omega (arith, c .pr
 abbrev others : (c : tie.Start) → ℕ → List Bool
 others c late = codeBits 4 (take late (drop (c .args .from + 13) (now (c .args .words))))
 
-front : (c : tie.After-with-codes) (late : ℕ) → let b = c .before .before .before .before .before .before in
+front : (c : tie.After-with-twelve) (late : ℕ) → let b = c .before .before .before .before .before .before in
     let early = c .before .bits .result .0 in
     c .before .before .least .result + late ≡ min (word (now (b .args .words)) (b .args .from)) 24
-    → external .print (numberAt (now (b .args .words)) (b .args .from)) ≡ bitsOf (5 + early) (c .with-codes .result / 2 ^ (48 - early)) ++ others b late
+    → external .print (numberAt (now (b .args .words)) (b .args .from)) ≡ bitsOf (5 + early) (c .with-twelve .result / 2 ^ (48 - early))
+    ++ others b late
 front c late all =
     let b = c .before .before .before .before .before .before in
     let p = sym (c .before .bits .ensures) in
     number-front (now (b .args .words)) (b .args .from) (omega (arith, b .pre .0)) (small b) _ late _ (omega (arith, c .before .before .least .ensures))
-    all (c .with-codes .ensures 4 refl)
-    ∙ (λ i. bitsOf (5 + p i) (c .with-codes .result / 2 ^ (48 - p i)) ++ others b late)
+    all (c .with-twelve .ensures)
+    ∙ (λ i. bitsOf (5 + p i) (c .with-twelve .result / 2 ^ (48 - p i)) ++ others b late)
 
-with-codes-requires : tie.Need-with-codes-requires
-with-codes-requires c κs =
+with-twelve-requires : tie.Need-with-twelve-requires
+with-twelve-requires c κs =
     let b = c .before .before .before .before .before in
-    (omega (arith, few b), omega arith, omega arith, omega arith, omega (arith, b .pre .0))
+    (omega (arith, few b), omega (arith, b .pre .0))
 
 put-run-requires : tie.Need-put-run-requires
 put-run-requires c κs =
@@ -69,35 +70,35 @@ cast-least-2 c =
     let k = c .before .before .before .before .before .before .before .before in
     omega (arith, k .shared-slice-known2 .given (k .before .before .before .args .from) .fits)
 
-with-codes-requires-2 : tie.Need-with-codes-requires-2
-with-codes-requires-2 c κs =
+with-twelve-requires-2 : tie.Need-with-twelve-requires-2
+with-twelve-requires-2 c κs =
     let b = c .before .before .before .before .before .before .before .before .before .before .before .before .before in
-    (omega arith, omega arith, omega arith, omega arith, omega (arith, b .pre .0))
+    (omega arith, omega (arith, b .pre .0))
 
 -- the whole number by the first run, where there is a second
 both : (c : tie.After-least2) → let q = c .before .before .before .before .before .before in
     let b = q .before .before .before .before .before .before in
     let early = q .before .bits .result .0 in
     external .print (numberAt (now (b .args .words)) (b .args .from))
-    ≡ bitsOf (5 + early) (q .with-codes .result / 2 ^ (48 - early)) ++ others b (c .least2 .result - 12)
+    ≡ bitsOf (5 + early) (q .with-twelve .result / 2 ^ (48 - early)) ++ others b (c .least2 .result - 12)
 both c =
     let q = c .before .before .before .before .before .before in
     front q (c .least2 .result - 12) (omega (arith, q .before .before .least .ensures, c .least2 .ensures, c .before .if1 .left))
 
-over : (c : tie.After-with-codes2) → let l = c .before .before in let p = l .before .before .before .before in let q = p .before .before in
+over : (c : tie.After-with-twelve2) → let l = c .before .before in let p = l .before .before .before .before in let q = p .before .before in
     let b = q .before .before .before .before .before .before in
     let late = c .before .bits2 .result .0 in
-    bitsOf (p .put-run .result % 8 + late) (c .with-codes2 .result / 2 ^ (48 - late))
-    ≡ bitsOf (p .put-run .result % 8) (q .with-codes .result / 2 ^ (48 - q .before .bits .result .0)) ++ others b (l .least2 .result - 12)
+    bitsOf (p .put-run .result % 8 + late) (c .with-twelve2 .result / 2 ^ (48 - late))
+    ≡ bitsOf (p .put-run .result % 8) (q .with-twelve .result / 2 ^ (48 - q .before .bits .result .0)) ++ others b (l .least2 .result - 12)
 over c =
     let l = c .before .before in
     let p = l .before .before .before .before in
     let q = p .before .before in
     let b = q .before .before .before .before .before .before in
     let n = c .before .bits2 .ensures in
-    (λ i. bitsOf (p .put-run .result % 8 + n i) (c .with-codes2 .result / 2 ^ (48 - n i)))
+    (λ i. bitsOf (p .put-run .result % 8 + n i) (c .with-twelve2 .result / 2 ^ (48 - n i)))
     ∙ number-rest (now (b .args .words)) (b .args .from) (omega (arith, b .pre .0)) (small b) _ (l .least2 .result - 12) _ _ (omega arith)
-    (omega (arith, l .least2 .ensures)) (c .with-codes2 .ensures 4 refl)
+    (omega (arith, l .least2 .ensures)) (c .with-twelve2 .ensures)
 
 wide : (c : tie.After-least2) → 8 ≤ 5 + c .before .before .before .before .before .before .before .bits .result .0
 wide c =
@@ -130,8 +131,8 @@ put-number-spec =
     (λ c. omega (arith, c .shared-slice-known2 .given (c .before .before .before .args .from) .fits)) (λ c κs. search needs)
     (λ c. search needs) (λ c κs. search needs)
     (λ c. omega (arith, c .before .before .shared-slice-known2 .given (c .before .before .before .before .before .args .from) .fits))
-    (λ c. search needs) with-codes-requires
+    (λ c. search needs) with-twelve-requires
     (λ c. search needs) (λ c. search needs) (λ c. search needs) put-run-requires (λ c. search needs) returns
     cast-least-2 (λ c κs. search needs) (λ c. search needs) (λ c. search needs) (λ c κs. search needs)
-    (λ c. search needs) with-codes-requires-2 (λ c. search needs) (λ c. search needs) (λ c. search needs) (λ c. search needs)
+    (λ c. search needs) with-twelve-requires-2 (λ c. search needs) (λ c. search needs) (λ c. search needs) (λ c. search needs)
     put-run-requires-2 (λ c. search needs) returns-2)
