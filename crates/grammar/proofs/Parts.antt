@@ -6,14 +6,15 @@ use lib.ListN.{getD}
 use lib.Dec.{leb, eqb}
 use Rattle.bits.proofs.Tests.{by-test}
 use Rattle.codec.specs.Codec.{Codec}
-use Rattle.codec.specs.Parts.{number, element, seq, mark}
+use Rattle.codec.specs.Parts.{number, absent, element, seq, mark}
 use Rattle.codec.specs.Places.{places}
 use Rattle.codec.proofs.Kept.{Kept}
 use Rattle.grammar.specs.SiteSheet.{ssType, rangeType, refusalIn, rangeRefusal, digitOf, refusalOfDigit, digitRefusal, serviceOf}
-use Rattle.grammar.specs.SiteSheet.{refusalOfService, serviceRefusal, kindRefusal, resultRefusal, between, entriesOf}
+use Rattle.grammar.specs.SiteSheet.{refusalOfService, serviceRefusal, kindRefusal, resultRefusal, between, definedPart, entriesOf}
 use Rattle.grammar.specs.Grammar.{extension, identity, noIdentity, zeroIdentity, endsRefusal, rangeEnds, identities, noIdentities, external}
 use Rattle.grammar.specs.Grammar.{noExternal, externals, noExternals, services, noServices, identityPart, numberPart, noPart, partOf}
-use Rattle.grammar.specs.Grammar.{interrogate, interrogateAck, restOf, Five, Rest, pdu}
+use Rattle.grammar.specs.Grammar.{interrogationType, interrogationResult, noInterrogation, definition, noDefinition}
+use Rattle.grammar.specs.Grammar.{define, interrogate, interrogateAck, restOf, Five, Rest, pdu}
 use Rattle.grammar.specs.declared.site.RangeType.{RangeType}
 use Rattle.grammar.specs.declared.site.RangeType.the-variants.{Empty, Single, FirstAndLast, NoRangeType}
 use Rattle.grammar.specs.declared.site.ListKind.{ListKind}
@@ -78,7 +79,7 @@ module _ (Code : ℕ → Type 0) (passed : Code 0) (three : Code 3) (four : Code
 
   code-kind : Code 10 → (v : ℕ) → Code (kindRefusal v)
   unfolding kindRefusal
-  code-kind ten v = by-test Code (leb 11 v && leb v 12) passed (by-test Code (leb v 13) ten three)
+  code-kind ten v = by-test Code (eqb v 5) passed (by-test Code (leb 11 v && leb v 12) passed (by-test Code (leb v 13) ten three))
 
   code-ends : (code : ℕ) (l : List Identity) → Code (rangeEnds code l)
   unfolding rangeEnds endsRefusal
@@ -154,19 +155,27 @@ module _ (Code : ℕ → Type 0) (passed : Code 0) (three : Code 3) (four : Code
     unfolding noPart
     of-noPart = kept .shaped _ _ _ _ _ (five of-noIdentities of-noIdentities of-noIdentities of-noExternals of-noExternals)
 
-    of-part : (result : ℕ) → P Lists (partOf result)
+    of-part : (part : ℕ) → P Lists (partOf part)
     unfolding identityPart numberPart
-    of-part result =
+    of-part part =
         let ids = of-identities of.Identities in
-        by-test (P Lists) (eqb result 1) (kept .shaped _ _ _ _ _ (five ids ids ids of-noExternals of-noExternals))
-        (by-test (P Lists) (eqb result 2) (kept .shaped _ _ _ _ _ (five ids of-noIdentities of-noIdentities of-externals of-externals)) of-noPart)
+        by-test (P Lists) (eqb part 1) (kept .shaped _ _ _ _ _ (five ids ids ids of-noExternals of-noExternals))
+        (by-test (P Lists) (eqb part 2) (kept .shaped _ _ _ _ _ (five ids of-noIdentities of-noIdentities of-externals of-externals)) of-noPart)
+
+    none : P (ℕ × (ℕ × ℕ)) (seq absent (λ a. seq absent (λ b. absent)))
+    none = then (kept .absent) (λ a. then (kept .absent) (λ b. kept .absent))
 
     pub of-rest : (kind : ℕ) → P Rest (restOf kind)
-    unfolding interrogate interrogateAck
+    unfolding define interrogate interrogateAck interrogationType interrogationResult noInterrogation definition noDefinition
     of-rest kind =
-        by-test (P Rest) (eqb kind 11)
-        (then (of-element 2 (code-between 1 3)) (λ a. then (kept .absent) (λ b. then (kept .absent) (λ c. then of-noServices (λ d. of-noPart)))))
-        (then (kept .absent) (λ a. then (of-element 3 code-result) (λ result. then (kept .number 2) (λ c. then of-services (λ d. of-part result)))))
+        by-test (P Rest) (eqb kind 5)
+        (then none (λ a.
+        then (then (kept .number 1) (λ delivery. then (of-element 1 (code-between 0 delivery)) (λ b. of-element 2 (code-between 0 2)))) (λ d.
+        then of-services (λ e. of-part (definedPart 1 (d .1 .1))))))
+        (by-test (P Rest) (eqb kind 11)
+        (then (then (of-element 2 (code-between 1 3)) (λ a. then (kept .absent) (λ b. kept .absent))) (λ i. then none (λ d. then of-noServices (λ e. of-noPart))))
+        (then (then (kept .absent) (λ a. then (of-element 3 code-result) (λ b. kept .number 2))) (λ i.
+        then none (λ d. then of-services (λ e. of-part (i .1 .0))))))
 
     pub of-pdu : Code 10 → P Record pdu
     unfolding pdu mark

@@ -4,16 +4,17 @@ use mathlib.Core.List.{_++_}
 use Prim.Native.Nat.{ℕ, _+_, _≤_}
 use native.Mathlib.Omega.{arith}
 use lib.ListN.{length, length-append}
-use lib.Dec.{eqb}
+use lib.Dec.{leb, eqb}
 use Rattle.bits.proofs.Tests.{by-test}
 use Rattle.codec.specs.Codec.{Codec}
 use Rattle.codec.specs.Parts.{absent, element, seq, shaped, mark, only}
 use Rattle.codec.specs.Places.{places}
 use Rattle.codec.proofs.Sizes.{Within, size-number, size-absent, size-more, size-seq, size-tested, size-element, size-shaped, size-places}
 use Rattle.grammar.specs.SiteSheet.{ssType, entriesOf, rangeRefusal, digitRefusal, serviceRefusal, kindRefusal, resultRefusal, askedRefusal}
-use Rattle.grammar.specs.SiteSheet.{countRefusal, lengthRefusal}
+use Rattle.grammar.specs.SiteSheet.{acknowledgementRefusal, definitionRefusal, definedPart, countRefusal, lengthRefusal}
 use Rattle.grammar.specs.Grammar.{extension, identity, noIdentity, identities, noIdentities, external, noExternal, externals, noExternals}
-use Rattle.grammar.specs.Grammar.{services, noServices, identityPart, numberPart, noPart, partOf, interrogate, interrogateAck, restOf}
+use Rattle.grammar.specs.Grammar.{services, noServices, identityPart, numberPart, noPart, partOf, interrogationType}
+use Rattle.grammar.specs.Grammar.{interrogationResult, noInterrogation, definition, noDefinition, define, interrogate, interrogateAck, restOf}
 use Rattle.grammar.specs.Grammar.{fromRecord, pdu}
 use Rattle.grammar.specs.declared.site.ListKind.{ListKind}
 use Rattle.grammar.specs.declared.site.ListKind.the-variants as of
@@ -85,27 +86,48 @@ pub size-noPart : Within 0 noPart
 unfolding noPart
 size-noPart = size-shaped _ _ _ _ _ (size-lists size-noIdentities size-noIdentities size-noIdentities size-noExternals size-noExternals)
 
-size-part : (result : ℕ) → Within 2020 (partOf result)
-unfolding identityPart numberPart
-size-part result =
-    by-test (Within _) (eqb result 1)
-    (size-shaped _ _ _ _ _ (size-more
-    (size-lists (size-identities of.Identities) (size-identities of.Identities) (size-identities of.Identities)
-    size-noExternals size-noExternals) (omega arith)))
-    (by-test (Within _) (eqb result 2)
-    (size-shaped _ _ _ _ _ (size-lists (size-identities of.Identities) size-noIdentities size-noIdentities size-externals size-externals))
-    (size-more size-noPart (omega arith)))
+size-identityPart : Within 1188 identityPart
+unfolding identityPart
+size-identityPart =
+    size-shaped _ _ _ _ _
+    (size-lists (size-identities of.Identities) (size-identities of.Identities) (size-identities of.Identities) size-noExternals size-noExternals)
+
+size-numberPart : Within 2020 numberPart
+unfolding numberPart
+size-numberPart =
+    size-shaped _ _ _ _ _ (size-lists (size-identities of.Identities) size-noIdentities size-noIdentities size-externals size-externals)
+
+size-part : (part : ℕ) → Within 2020 (partOf part)
+size-part part =
+    by-test (Within _) (eqb part 1) (size-more size-identityPart (omega arith))
+    (by-test (Within _) (eqb part 2) size-numberPart (size-more size-noPart (omega arith)))
+
+size-defined : (d : ℕ) → Within 1188 (partOf (definedPart 1 d))
+unfolding definedPart
+size-defined d = by-test (λ (part : ℕ). Within 1188 (partOf part)) (leb d 1) size-identityPart (size-more size-noPart (omega arith))
+
+size-none : Within 0 (seq absent (λ a. seq absent (λ b. absent)))
+size-none = size-seq size-absent (λ a. size-seq size-absent (λ b. size-absent))
+
+size-definition : Within 4 definition
+unfolding definition
+size-definition = size-seq (size-number 1) (λ d. size-seq (size-element 1 (acknowledgementRefusal d)) (λ a. size-element 2 definitionRefusal))
+
+size-define : Within 1216 define
+unfolding define noInterrogation
+size-define = size-seq size-none (λ i. size-seq size-definition (λ d. size-seq size-services (λ s. size-defined (d .1 .1))))
 
 size-interrogate : Within 2 interrogate
-unfolding interrogate
+unfolding interrogate interrogationType noDefinition
 size-interrogate =
-    size-seq (size-element 2 askedRefusal) (λ a. size-seq size-absent (λ b. size-seq size-absent (λ c. size-seq size-noServices (λ d. size-noPart))))
+    size-seq (size-seq (size-element 2 askedRefusal) (λ a. size-seq size-absent (λ b. size-absent))) (λ i.
+    size-seq size-none (λ d. size-seq size-noServices (λ s. size-noPart)))
 
 size-ack : Within 2049 interrogateAck
-unfolding interrogateAck
+unfolding interrogateAck interrogationResult noDefinition
 size-ack =
-    size-seq size-absent (λ a. size-seq (size-element 3 resultRefusal) (λ result.
-    size-seq (size-number 2) (λ c. size-seq size-services (λ d. size-part result))))
+    size-seq (size-seq size-absent (λ a. size-seq (size-element 3 resultRefusal) (λ b. size-number 2))) (λ i.
+    size-seq size-none (λ d. size-seq size-services (λ s. size-part (i .1 .0))))
 
 -- SS type, PDU type and affected users are at most 407 bits
 size-pdu : (r : Record) (n : ℕ) → Within n (restOf (r .kind)) → length (pdu .print r) ≤ 407 + n
@@ -126,10 +148,16 @@ size-pdu r n h =
       h .size (fromRecord r .1 .1),
     )
 
+-- A DEFINE is at most 1,623 bits.
+pub define-size : (r : Record) → r .kind ≡ 5 → length (pdu .print r) ≤ 1623
+define-size r e = size-pdu r 1216 (rw e size-define)
+
 -- An INTERROGATE is at most 409 bits.
 pub interrogate-size : (r : Record) → r .kind ≡ 11 → length (pdu .print r) ≤ 409
 interrogate-size r e = size-pdu r 2 (rw e size-interrogate)
 
 -- An INTERROGATE ACK is at most 2,456 bits, and no PDU is longer.
 pub pdu-size : (r : Record) → length (pdu .print r) ≤ 2456
-pdu-size r = size-pdu r 2049 (by-test (Within _) (eqb (r .kind) 11) (size-more size-interrogate (omega arith)) size-ack)
+pdu-size r =
+    size-pdu r 2049 (by-test (Within _) (eqb (r .kind) 5) (size-more size-define (omega arith))
+    (by-test (Within _) (eqb (r .kind) 11) (size-more size-interrogate (omega arith)) size-ack))

@@ -1,5 +1,5 @@
 -- Worked cases that antt computes: the PDUs of document 01's P13 and P14, the longest of each, every element in its place, range ends, and what
--- must be zero.
+-- must be zero. Those of DEFINE stand in DefineExamples.
 use mathlib.Core.Path.{_≡_, refl}
 use mathlib.Core.Bool.{Bool, true, false}
 use mathlib.Core.List.{List, [], _∷_, _++_}
@@ -33,14 +33,14 @@ p13-read = refl
 
 -- ---- every element in its place, as tables 16 and 17 have it: each as its width and its value
 
-abbrev inTurn : List (ℕ × ℕ) → List Bool
+abbrev pub inTurn : List (ℕ × ℕ) → List Bool
 inTurn [] = []
 inTurn ((width, v) ∷ l) = bitsOf width v ++ inTurn l
 
-abbrev at : ℕ → Identity
+abbrev pub at : ℕ → Identity
 at ssi = record { ssi = ssi; present = 0; extension = 0 }
 
-abbrev of : ℕ → ℕ → Identity
+abbrev pub of : ℕ → ℕ → Identity
 of network ssi = record { ssi = ssi; present = 1; extension = network }
 
 abbrev dialled : List ℕ → Number
@@ -53,9 +53,12 @@ answer result lists = record {
   affected = record { code = 1; entries = of 7 5 ∷ replicate 7 zeroIdentity };
   asked = 0;
   result = result;
-  delivery = 2;
+  status = 2;
   services = record { count = 2; list = 1 ∷ 3 ∷ replicate 5 0 };
   lists = lists;
+  delivery = 0;
+  acknowledgement = 0;
+  definition = 0;
 }
 
 -- SS type, PDU type, range type, SSI, extension present, extension, result, delivery status, number of services, services
@@ -69,9 +72,12 @@ interrogate-bits : pdu .print (record {
   affected = record { code = 2; entries = at 5 ∷ of 7 6 ∷ replicate 6 zeroIdentity };
   asked = 2;
   result = 0;
-  delivery = 0;
+  status = 0;
   services = zeroServices;
   lists = zeroLists;
+  delivery = 0;
+  acknowledgement = 0;
+  definition = 0;
 }) ≡ inTurn ((6, 18) ∷ (5, 11) ∷ (4, 2) ∷ (24, 5) ∷ (1, 0) ∷ (24, 6) ∷ (1, 1) ∷ (24, 7) ∷ (2, 2) ∷ [])
 unfolding grammar
 interrogate-bits = refl
@@ -109,7 +115,7 @@ number-part-bits = refl
 abbrev visitor : Identity
 visitor = record { ssi = 16777215; present = 1; extension = 16777215 }
 
-abbrev eight : Identities
+abbrev pub eight : Identities
 eight = record { code = 8; entries = replicate 8 visitor }
 
 abbrev eightNumbers : Numbers
@@ -121,9 +127,12 @@ longestAsking = record {
   affected = eight;
   asked = 3;
   result = 0;
-  delivery = 0;
+  status = 0;
   services = zeroServices;
   lists = zeroLists;
+  delivery = 0;
+  acknowledgement = 0;
+  definition = 0;
 }
 
 abbrev longestAck : Record
@@ -132,9 +141,12 @@ longestAck = record {
   affected = eight;
   asked = 0;
   result = 2;
-  delivery = 3;
+  status = 3;
   services = record { count = 7; list = replicate 7 3 };
   lists = record { groups = eight; restricted = zeroIdentities; exceptions = zeroIdentities; numbers = eightNumbers; excepted = eightNumbers };
+  delivery = 0;
+  acknowledgement = 0;
+  definition = 0;
 }
 
 -- an INTERROGATE of 409 bits, and an INTERROGATE ACK of 2,456: both legal
@@ -149,19 +161,19 @@ ack-2456 = (refl, refl, refl)
 -- ---- the order of elements: PDUs in which they differ, as bytes and as records, both ways
 
 -- an identity of the home network, and one with an extension
-abbrev near : ℕ → Identity
+abbrev pub near : ℕ → Identity
 near ssi = record { ssi = ssi; present = 0; extension = 0 }
 
-abbrev far : ℕ → ℕ → Identity
+abbrev pub far : ℕ → ℕ → Identity
 far ssi network = record { ssi = ssi; present = 1; extension = network }
 
-abbrev list : ℕ → List Identity → Identities
+abbrev pub list : ℕ → List Identity → Identities
 list code l = record { code = code; entries = l ++ replicate (8 - length l) zeroIdentity }
 
-abbrev digits : List ℕ → Number
+abbrev pub digits : List ℕ → Number
 digits l = record { length = record { 0 = length l }; digits = l ++ replicate (24 - length l) 0 }
 
-abbrev numbers : ℕ → List Number → Numbers
+abbrev pub numbers : ℕ → List Number → Numbers
 numbers code l = record { code = code; entries = l ++ replicate (8 - length l) zeroNumber }
 
 -- users 1 and 3/2, result 1, delivery status 2, services 1 2 3 0, group 5/4, restricted 7/6 to 7/8, exceptions 9, 11/10 and 12
@@ -171,7 +183,7 @@ identityAck = record {
   affected = list 2 (near 1 ∷ far 2 3 ∷ []);
   asked = 0;
   result = 1;
-  delivery = 2;
+  status = 2;
   services = record { count = 4; list = 1 ∷ 2 ∷ 3 ∷ 0 ∷ 0 ∷ 0 ∷ 0 ∷ [] };
   lists = record {
     groups = list 1 (far 4 5 ∷ []);
@@ -180,6 +192,9 @@ identityAck = record {
     numbers = zeroNumbers;
     excepted = zeroNumbers;
   };
+  delivery = 0;
+  acknowledgement = 0;
+  definition = 0;
 }
 
 abbrev identityBytes : List ℕ
@@ -199,7 +214,7 @@ numberAck = record {
   affected = list 9 (near 1 ∷ near 2 ∷ []);
   asked = 0;
   result = 2;
-  delivery = 1;
+  status = 1;
   services = record { count = 1; list = 3 ∷ replicate 6 0 };
   lists = record {
     groups = list 2 (near 3 ∷ far 4 5 ∷ []);
@@ -210,6 +225,9 @@ numberAck = record {
         numbers 1
         (digits (0 ∷ 1 ∷ 2 ∷ 3 ∷ 4 ∷ 5 ∷ 6 ∷ 7 ∷ 8 ∷ 9 ∷ 10 ∷ 11 ∷ 12 ∷ 0 ∷ 1 ∷ 2 ∷ 3 ∷ 4 ∷ 5 ∷ 6 ∷ 7 ∷ 8 ∷ 9 ∷ 10 ∷ []) ∷ []);
   };
+  delivery = 0;
+  acknowledgement = 0;
+  definition = 0;
 }
 
 abbrev numberBytes : List ℕ
@@ -228,9 +246,12 @@ failedAck = record {
   affected = list 1 (near 5 ∷ []);
   asked = 0;
   result = 3;
-  delivery = 1;
+  status = 1;
   services = record { count = 2; list = 2 ∷ 1 ∷ replicate 5 0 };
   lists = zeroLists;
+  delivery = 0;
+  acknowledgement = 0;
+  definition = 0;
 }
 
 failed-ack : (pdu .print failedAck ≡ bitsIn 54 (0x49 ∷ 0x82 ∷ 0x00 ∷ 0x00 ∷ 0x0a ∷ 0x6a ∷ 0x44 ∷ []))
@@ -245,9 +266,12 @@ visitorAsked = record {
   affected = list 1 (far 7 9 ∷ []);
   asked = 2;
   result = 0;
-  delivery = 0;
+  status = 0;
   services = zeroServices;
   lists = zeroLists;
+  delivery = 0;
+  acknowledgement = 0;
+  definition = 0;
 }
 
 visitor-asked : (pdu .print visitorAsked ≡ bitsIn 66 (0x49 ∷ 0x62 ∷ 0x00 ∷ 0x00 ∷ 0x0f ∷ 0x00 ∷ 0x00 ∷ 0x09 ∷ 0x80 ∷ []))
@@ -263,9 +287,12 @@ between first last = record {
   affected = list 9 (first ∷ last ∷ []);
   asked = 0;
   result = 0;
-  delivery = 0;
+  status = 0;
   services = record { count = 1; list = replicate 7 0 };
   lists = zeroLists;
+  delivery = 0;
+  acknowledgement = 0;
+  definition = 0;
 }
 
 -- 199 to 199 is legal, also with the same extension; 200 to 199 gives 4, and so do a missing and another extension
@@ -294,7 +321,7 @@ grouped code used = record {
   affected = list 1 (near 5 ∷ []);
   asked = 0;
   result = 1;
-  delivery = 0;
+  status = 0;
   services = record { count = 1; list = replicate 7 0 };
   lists = record {
     groups = list code (replicate used (near 1));
@@ -303,6 +330,9 @@ grouped code used = record {
     numbers = zeroNumbers;
     excepted = zeroNumbers;
   };
+  delivery = 0;
+  acknowledgement = 0;
+  definition = 0;
 }
 
 -- as many as the code says may be used: none, one to eight, two for code 9
@@ -335,9 +365,12 @@ carrying asked result services restricted numbers = record {
   affected = list 1 (near 5 ∷ []);
   asked = asked;
   result = result;
-  delivery = 0;
+  status = 0;
   services = record { count = 1; list = services };
   lists = record { groups = zeroIdentities; restricted = restricted; exceptions = zeroIdentities; numbers = numbers; excepted = zeroNumbers };
+  delivery = 0;
+  acknowledgement = 0;
+  definition = 0;
 }
 
 -- a second service of one; an ACK's interrogation type; numbers in an identity part, identities in a number part, either in a failed ACK;
@@ -355,14 +388,17 @@ not-carried = (refl, refl, refl, refl, refl, refl, refl, refl)
 
 -- an INTERROGATE carries no result, delivery status and services
 abbrev askedWith : ℕ → ℕ → ℕ → Record
-askedWith result delivery count = record {
+askedWith result status count = record {
   kind = 11;
   affected = list 1 (near 5 ∷ []);
   asked = 1;
   result = result;
-  delivery = delivery;
+  status = status;
   services = record { count = count; list = replicate 7 0 };
   lists = zeroLists;
+  delivery = 0;
+  acknowledgement = 0;
+  definition = 0;
 }
 
 not-asked : (pdu .clean (askedWith 0 0 0) ≡ true)
@@ -378,7 +414,7 @@ zeros : zeroRecord ≡ record {
   affected = list 0 (replicate 8 (near 0));
   asked = 0;
   result = 0;
-  delivery = 0;
+  status = 0;
   services = record { count = 0; list = 0 ∷ 0 ∷ 0 ∷ 0 ∷ 0 ∷ 0 ∷ 0 ∷ [] };
   lists = record {
     groups = list 0 (replicate 8 (near 0));
@@ -387,5 +423,8 @@ zeros : zeroRecord ≡ record {
     numbers = numbers 0 (replicate 8 (record { length = record { 0 = 0 }; digits = replicate 24 0 }));
     excepted = numbers 0 (replicate 8 (record { length = record { 0 = 0 }; digits = replicate 24 0 }));
   };
+  delivery = 0;
+  acknowledgement = 0;
+  definition = 0;
 }
 zeros = refl

@@ -1,4 +1,4 @@
--- What legal INTERROGATE and INTERROGATE ACK PDUs are, part by part: EN 300 392-12-18, tables 16 and 17, with the site sheet.
+-- What legal DEFINE, INTERROGATE and INTERROGATE ACK PDUs are, part by part: EN 300 392-12-18, tables 10, 16 and 17, with the site sheet.
 -- Each part is a codec: it is written, read and judged by the same description.
 use mathlib.Core.Path.{refl}
 use mathlib.Core.Bool.{_&&_}
@@ -11,7 +11,8 @@ use Rattle.codec.specs.Codec.{Codec}
 use Rattle.codec.specs.Parts.{number, absent, element, seq, _>>=_, _>>_, tested, shaped, mark}
 use Rattle.codec.specs.Places.{nil, cons, places}
 use Rattle.grammar.specs.SiteSheet.{ssType, entriesOf, rangeRefusal, digitRefusal, serviceRefusal, codes}
-use Rattle.grammar.specs.SiteSheet.{kindRefusal, resultRefusal, askedRefusal, countRefusal, lengthRefusal}
+use Rattle.grammar.specs.SiteSheet.{kindRefusal, resultRefusal, askedRefusal, acknowledgementRefusal, definitionRefusal, definedPart}
+use Rattle.grammar.specs.SiteSheet.{countRefusal, lengthRefusal}
 use Rattle.grammar.specs.declared.site.ListKind.{ListKind}
 use Rattle.grammar.specs.declared.site.ListKind.the-variants as of
 use Rattle.grammar.specs.declared.record.Identity.{Identity}
@@ -134,7 +135,7 @@ services =
 unfoldable pub noServices : Codec Services
 noServices = shaped (do absent; places absent absent 7 0) toServices fromServices (λ a c f. refl) (λ s. refl)
 
--- ---- the lists, by the interrogation result (table 35)
+-- ---- the lists of a part: 1 identities, 2 external numbers, any other none
 
 abbrev pub Five : Type 0
 Five = Identities × (Identities × (Identities × (Numbers × Numbers)))
@@ -146,7 +147,6 @@ toLists (groups, (restricted, (exceptions, (numbers, excepted)))) =
 abbrev pub fromLists : Lists → Five
 fromLists l = (l .groups, (l .restricted, (l .exceptions, (l .numbers, l .excepted))))
 
--- accepted, TETRA identities provided
 unfoldable pub identityPart : Codec Lists
 identityPart =
     shaped (do
@@ -157,7 +157,6 @@ identityPart =
       noExternals)
     toLists fromLists (λ a c f. refl) (λ l. refl)
 
--- accepted, external subscriber numbers provided
 unfoldable pub numberPart : Codec Lists
 numberPart =
     shaped (do
@@ -168,7 +167,6 @@ numberPart =
       externals)
     toLists fromLists (λ a c f. refl) (λ l. refl)
 
--- any other result
 unfoldable pub noPart : Codec Lists
 noPart =
     shaped (do
@@ -180,46 +178,96 @@ noPart =
     toLists fromLists (λ a c f. refl) (λ l. refl)
 
 abbrev pub partOf : ℕ → Codec Lists
-partOf result = pick (eqb result 1) identityPart (pick (eqb result 2) numberPart noPart)
+partOf part = pick (eqb part 1) identityPart (pick (eqb part 2) numberPart noPart)
 
--- ---- what follows the affected users: interrogation type, result, delivery status, services, lists
+-- ---- what follows the affected users: elements of an interrogation, elements of a definition, services, lists
+
+-- interrogation type, interrogation result, delivery status
+abbrev pub Interrogation : Type 0
+Interrogation = ℕ × (ℕ × ℕ)
+
+unfoldable pub interrogationType : Codec Interrogation
+interrogationType = do
+  element 2 askedRefusal
+  absent
+  absent
+
+-- every delivery status is legal (table 29)
+unfoldable pub interrogationResult : Codec Interrogation
+interrogationResult = do
+  absent
+  element 3 resultRefusal
+  number 2
+
+unfoldable pub noInterrogation : Codec Interrogation
+noInterrogation = do absent; absent; absent
+
+-- delivery to affected users, acknowledgement from them, definition type
+abbrev pub Definition : Type 0
+Definition = ℕ × (ℕ × ℕ)
+
+unfoldable pub definition : Codec Definition
+definition = do
+  delivery ← number 1
+  element 1 (acknowledgementRefusal delivery)
+  element 2 definitionRefusal
+
+unfoldable pub noDefinition : Codec Definition
+noDefinition = do absent; absent; absent
 
 abbrev pub Rest : Type 0
-Rest = ℕ × (ℕ × (ℕ × (Services × Lists)))
+Rest = Interrogation × (Definition × (Services × Lists))
+
+-- table 10
+unfoldable pub define : Codec Rest
+define = do
+  noInterrogation
+  d ← definition
+  services
+  partOf (definedPart 1 (d .1 .1))
 
 -- table 16
 unfoldable pub interrogate : Codec Rest
 interrogate = do
-  element 2 askedRefusal
-  absent
-  absent
+  interrogationType
+  noDefinition
   noServices
   noPart
 
--- table 17; every delivery status is legal (table 29)
+-- table 17; the interrogation results that provide a part have its number
 unfoldable pub interrogateAck : Codec Rest
 interrogateAck = do
-  absent
-  result ← element 3 resultRefusal
-  number 2
+  i ← interrogationResult
+  noDefinition
   services
-  partOf result
+  partOf (i .1 .0)
 
 -- ---- the PDU
 
 abbrev pub toRecord : ℕ × (Identities × Rest) → Record
-toRecord (kind, (affected, (asked, (result, (delivery, (services, lists)))))) =
-    record { kind = kind; affected = affected; asked = asked; result = result; delivery = delivery; services = services; lists = lists }
+toRecord (kind, (affected, ((asked, (result, status)), ((delivery, (acknowledgement, definition)), (services, lists))))) = record {
+  kind = kind;
+  affected = affected;
+  asked = asked;
+  result = result;
+  status = status;
+  services = services;
+  lists = lists;
+  delivery = delivery;
+  acknowledgement = acknowledgement;
+  definition = definition;
+}
 
 abbrev pub fromRecord : Record → ℕ × (Identities × Rest)
-fromRecord r = (r .kind, (r .affected, (r .asked, (r .result, (r .delivery, (r .services, r .lists))))))
+fromRecord r =
+    (r .kind, (r .affected, ((r .asked, (r .result, r .status)), ((r .delivery, (r .acknowledgement, r .definition)), (r .services, r .lists)))))
 
 -- the first affected user
 abbrev pub userOf : Record → Identity
 userOf r = getD (r .affected .entries) 0 zeroIdentity
 
 abbrev pub restOf : ℕ → Codec Rest
-restOf kind = pick (eqb kind 11) interrogate interrogateAck
+restOf kind = pick (eqb kind 5) define (pick (eqb kind 11) interrogate interrogateAck)
 
 unfoldable pub pdu : Codec Record
 pdu =
@@ -238,6 +286,10 @@ unfoldable pub entries : Unit {0}
 unfolding extension identity noIdentity endsRefusal rangeEnds identities noIdentities external noExternal externals noExternals
 entries = tt
 
+unfoldable pub elements : Unit {0}
+unfolding interrogationType interrogationResult noInterrogation definition noDefinition
+elements = tt
+
 unfoldable pub grammar : Unit {0}
-unfolding pdu interrogate interrogateAck services noServices identityPart numberPart noPart entries codecs codes
+unfolding pdu define interrogate interrogateAck services noServices identityPart numberPart noPart elements entries codecs codes
 grammar = tt

@@ -22,9 +22,12 @@ part affected service groups restricted exceptions = record {
   affected = one affected;
   asked = 0;
   result = 1;
-  delivery = 0;
+  status = 0;
   services = record { count = 1; list = service ∷ replicate 6 0 };
   lists = record { groups = groups; restricted = restricted; exceptions = exceptions; numbers = zeroNumbers; excepted = zeroNumbers };
+  delivery = 0;
+  acknowledgement = 0;
+  definition = 0;
 }
 
 abbrev range : ℕ → ℕ → Identities
@@ -56,7 +59,10 @@ asking = record {
   affected = one (user 5);
   asked = 1;
   result = 0;
-  delivery = 0;
+  status = 0;
   services = zeroServices;
   lists = zeroLists;
+  delivery = 0;
+  acknowledgement = 0;
+  definition = 0;
 }

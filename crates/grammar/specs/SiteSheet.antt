@@ -90,9 +90,21 @@ serviceRefusal v = refusalOfService (serviceOf v)
 abbrev pub between : ℕ → ℕ → ℕ → ℕ
 between low high v = pick (leb low v && leb v high) 0 3
 
--- PDU type, table 23: INTERROGATE is 11 and INTERROGATE ACK 12; 0 to 10 and 13 are named there too; others are reserved
+-- PDU type, table 23: DEFINE is 5, INTERROGATE 11 and INTERROGATE ACK 12; 0 to 4, 6 to 10 and 13 are named there too; others are reserved
 unfoldable pub kindRefusal : ℕ → ℕ
-kindRefusal v = pick (leb 11 v && leb v 12) 0 (pick (leb v 13) 10 3)
+kindRefusal v = pick (eqb v 5) 0 (pick (leb 11 v && leb v 12) 0 (pick (leb v 13) 10 3))
+
+-- acknowledgement from affected users: requested (1) only where delivery to them is (1), table 10, note 3
+abbrev pub acknowledgementRefusal : ℕ → ℕ → ℕ
+acknowledgementRefusal delivery = between 0 delivery
+
+-- definition type, table 28: addition, replacement, removal; 3 is reserved
+abbrev pub definitionRefusal : ℕ → ℕ
+definitionRefusal = between 0 2
+
+-- the part whose lists a definition carries: its own for addition (0) and replacement (1), none for any other (table 10, note 4)
+unfoldable pub definedPart : ℕ → ℕ → ℕ
+definedPart part definition = pick (leb definition 1) part 0
 
 -- interrogation result, table 35: 5 is reserved
 unfoldable pub resultRefusal : ℕ → ℕ
@@ -112,5 +124,5 @@ lengthRefusal = between 1 24
 
 -- `unfolding codes` opens all of it
 unfoldable pub codes : Unit {0}
-unfolding rangeType rowOf rangeRefusal digitOf digitRefusal allDigits serviceOf serviceRefusal kindRefusal resultRefusal
+unfolding rangeType rowOf rangeRefusal digitOf digitRefusal allDigits serviceOf serviceRefusal kindRefusal resultRefusal definedPart
 codes = tt

@@ -11,7 +11,8 @@ use Rattle.codec.specs.Codec.{Outcome, ok, no}
 use Rattle.codec.specs.Parts.{only}
 use Rattle.codec.specs.Whole.{wholeParse}
 use Rattle.grammar.specs.SiteSheet.{ssType, rangeType, rowOf, rangeRefusal, digitOf, digitRefusal, allDigits, serviceOf, serviceRefusal, codes}
-use Rattle.grammar.specs.SiteSheet.{kindRefusal, resultRefusal, askedRefusal, countRefusal, lengthRefusal}
+use Rattle.grammar.specs.SiteSheet.{kindRefusal, resultRefusal, askedRefusal, acknowledgementRefusal, definitionRefusal, definedPart, countRefusal}
+use Rattle.grammar.specs.SiteSheet.{lengthRefusal}
 use Rattle.grammar.specs.Grammar.{endsRefusal, networkOf, pdu, grammar}
 use Rattle.grammar.specs.Zero.{zeroIdentities, zeroNumbers, zeroServices, zeroLists}
 use Rattle.grammar.specs.ProfileRecords.{asking}
@@ -47,14 +48,17 @@ abbrev oneService : Services
 oneService = record { count = 1; list = replicate 7 0 }
 
 abbrev pduOf : ℕ → Identities → ℕ → ℕ → ℕ → Services → Lists → Record
-pduOf kind users asked result delivery services lists = record {
+pduOf kind users asked result status services lists = record {
   kind = kind;
   affected = users;
   asked = asked;
   result = result;
-  delivery = delivery;
+  status = status;
   services = services;
   lists = lists;
+  delivery = 0;
+  acknowledgement = 0;
+  definition = 0;
 }
 
 -- an INTERROGATE ACK with a result and lists
@@ -101,7 +105,7 @@ ss-types = (refl, refl)
 abbrev kinds : List ℕ
 kinds =
     10 ∷ 10 ∷ 10 ∷ 10 ∷ 10  -- 0 to 4: refer to EN 300 392-9
-    ∷ 10 ∷ 10 ∷ 10  -- 5 DEFINE, 6 DEFINE ACK, 7 DEFINE EXTERNAL
+    ∷ 0 ∷ 10 ∷ 10  -- 5 DEFINE, 6 DEFINE ACK, 7 DEFINE EXTERNAL
     ∷ 10 ∷ 10 ∷ 10  -- 8 DEFINE USER, 9 DEFINE USER ACK, 10 DEFINE USER EXTERNAL
     ∷ 0 ∷ 0  -- 11 INTERROGATE, 12 INTERROGATE ACK
     ∷ 10  -- 13 CALL BARRED
@@ -111,6 +115,48 @@ kinds =
 pdu-types : (values kindRefusal 0 32 ≡ kinds) × (among 32 (λ v. pduOf v (identities 1) 1 0 0 oneService zeroLists) ≡ kinds)
 unfolding grammar
 pdu-types = (refl, refl)
+
+-- ---- delivery to affected users and acknowledgement from them, 1 bit each, tables 30 and 19: not requested; requested
+
+-- a DEFINE with these and a definition type
+abbrev defineOf : ℕ → ℕ → ℕ → Lists → Record
+defineOf delivery acknowledgement definition lists = record {
+  kind = 5;
+  affected = identities 1;
+  asked = 0;
+  result = 0;
+  status = 0;
+  services = oneService;
+  lists = lists;
+  delivery = delivery;
+  acknowledgement = acknowledgement;
+  definition = definition;
+}
+
+-- an acknowledgement only where delivery is requested too
+acknowledgements : (values (acknowledgementRefusal 0) 0 2 ≡ 0 ∷ 3 ∷ []) × (values (acknowledgementRefusal 1) 0 2 ≡ 0 ∷ 0 ∷ [])
+    × (among 2 (λ v. defineOf 0 v 0 zeroLists) ≡ 0 ∷ 3 ∷ []) × (among 2 (λ v. defineOf 1 v 0 zeroLists) ≡ 0 ∷ 0 ∷ [])
+unfolding grammar
+acknowledgements = (refl, refl, refl, refl)
+
+-- ---- definition type, 2 bits, table 28: addition; replacement; removal; reserved
+
+abbrev definitions : List ℕ
+definitions = 0 ∷ 0 ∷ 0 ∷ 3 ∷ []
+
+definition-types : (values definitionRefusal 0 4 ≡ definitions) × (among 4 (λ v. defineOf 0 0 v zeroLists) ≡ definitions)
+unfolding grammar
+definition-types = (refl, refl)
+
+-- the part whose lists each carries, of the identity and of the number part
+lists-of-definitions : (values (definedPart 1) 0 4 ≡ 1 ∷ 1 ∷ 0 ∷ 0 ∷ []) × (values (definedPart 2) 0 4 ≡ 2 ∷ 2 ∷ 0 ∷ 0 ∷ [])
+unfolding codes
+lists-of-definitions = (refl, refl)
+
+-- the lists follow addition and replacement only: 50 bits without, three range types of 4 bits more with them
+lists-defined : values (λ v. length (pdu .print (defineOf 0 0 v zeroLists))) 0 4 ≡ 62 ∷ 62 ∷ 50 ∷ 50 ∷ []
+unfolding grammar
+lists-defined = refl
 
 -- ---- interrogation result, 3 bits, table 35: 5 is reserved
 
@@ -194,10 +240,11 @@ abbrev forUsers : List ℕ
 forUsers = 3 ∷ 0 ∷ 0 ∷ 0 ∷ 0 ∷ 0 ∷ 0 ∷ 0 ∷ 0 ∷ 0 ∷ 3 ∷ 3 ∷ 3 ∷ 3 ∷ 3 ∷ 3 ∷ []
 
 users-refused : (values (rangeRefusal of.Users) 0 16 ≡ forUsers)
+    × (among 16 (λ v. pduOf 5 (identities v) 0 0 0 oneService zeroLists) ≡ forUsers)
     × (among 16 (λ v. pduOf 11 (identities v) 1 0 0 zeroServices zeroLists) ≡ forUsers)
     × (among 16 (λ v. pduOf 12 (identities v) 0 0 0 oneService zeroLists) ≡ forUsers)
 unfolding grammar
-users-refused = (refl, refl, refl)
+users-refused = (refl, refl, refl, refl)
 
 -- closed user groups, restricted identities and exceptions to them
 abbrev forIdentities : List ℕ

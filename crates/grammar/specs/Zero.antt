@@ -25,4 +25,15 @@ zeroLists =
     record { groups = zeroIdentities; restricted = zeroIdentities; exceptions = zeroIdentities; numbers = zeroNumbers; excepted = zeroNumbers }
 
 abbrev pub zeroRecord : Record
-zeroRecord = record { kind = 0; affected = zeroIdentities; asked = 0; result = 0; delivery = 0; services = zeroServices; lists = zeroLists }
+zeroRecord = record {
+  kind = 0;
+  affected = zeroIdentities;
+  asked = 0;
+  result = 0;
+  status = 0;
+  services = zeroServices;
+  lists = zeroLists;
+  delivery = 0;
+  acknowledgement = 0;
+  definition = 0;
+}

@@ -1,5 +1,5 @@
 // The meaning of a BOC PDU: its record, the record of zeros, the codes of its elements, and the grammar in specs/
-// (document 01, "Site sheet" and "The two PDUs").
+// (document 01, "Site sheet" and "The two PDUs"; document 02, 2026-01).
 pub mod record;
 pub mod site;
 pub mod zero;

@@ -31,8 +31,7 @@ pub struct Services {
     pub list: [u32; 7],
 }
 
-// The lists of an INTERROGATE ACK: closed user groups, restricted identities and exceptions to them,
-// restricted external numbers and exceptions to those.
+// The lists: closed user groups, restricted identities and exceptions to them, restricted external numbers and exceptions to those.
 pub struct Lists {
     pub groups: Identities,
     pub restricted: Identities,
@@ -41,13 +40,17 @@ pub struct Lists {
     pub excepted: Numbers,
 }
 
-// PDU type, affected users, interrogation type, interrogation result, delivery status, services, lists.
+// PDU type, affected users; interrogation type, interrogation result, delivery status; services, lists;
+// delivery to affected users, acknowledgement from them, definition type.
 pub struct Record {
     pub kind: u32,
     pub affected: Identities,
     pub asked: u32,
     pub result: u32,
-    pub delivery: u32,
+    pub status: u32,
     pub services: Services,
     pub lists: Lists,
+    pub delivery: u32,
+    pub acknowledgement: u32,
+    pub definition: u32,
 }

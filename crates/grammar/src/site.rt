@@ -2,7 +2,7 @@
 ghost use mathlib.Core.Path.{_≡_};
 ghost use Rattle.codec.specs.Parts.{only};
 ghost use Rattle.grammar.specs.SiteSheet.{rangeType, rowOf, rangeRefusal, ssType, digitOf, digitRefusal, allDigits, serviceOf};
-ghost use Rattle.grammar.specs.SiteSheet.{serviceRefusal, kindRefusal, resultRefusal, between};
+ghost use Rattle.grammar.specs.SiteSheet.{serviceRefusal, kindRefusal, resultRefusal, definedPart, between};
 ghost use Rattle.grammar.specs.Grammar.{endsRefusal, networkOf};
 use crate::record::Identity;
 
@@ -227,8 +227,9 @@ pub fn kind_refusal(code: u32) -> u32
     ensures { λ r. ⌜ r ≡ kindRefusal code ⌝ }
 {
     match code {
+        5 => 0,
         11..=12 => 0,
-        0..=10 | 13 => 10,
+        0..=4 | 6..=10 | 13 => 10,
         _ => 3,
     }
 }
@@ -241,6 +242,13 @@ pub fn result_refusal(code: u32) -> u32
         5 => 3,
         _ => 0,
     }
+}
+
+// The part whose lists a definition of it carries: its own for addition and replacement, none for any other.
+pub fn defined_part(part: u32, definition: u32) -> u32
+    ensures { λ r. ⌜ r ≡ definedPart part definition ⌝ }
+{
+    if 1 < definition { 0 } else { part }
 }
 
 // The refusal number of a value that is to be from low to high.

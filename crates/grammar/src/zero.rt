@@ -71,8 +71,11 @@ pub fn zero_record() -> Record
         affected,
         asked: 0,
         result: 0,
-        delivery: 0,
+        status: 0,
         services,
         lists,
+        delivery: 0,
+        acknowledgement: 0,
+        definition: 0,
     }
 }

@@ -12,9 +12,9 @@ use Rattle.bits.proofs.Tests.{by-test}
 use Rattle.codec.specs.Codec.{Codec, Legal}
 use Rattle.codec.specs.Parts.{absent, seq}
 use Rattle.codec.proofs.Legality.{legal-seq, legal-shaped, legal-tested, legal-mark, legal-element, legal-absent, legal-places, legal-length}
-use Rattle.grammar.specs.SiteSheet.{entriesOf}
+use Rattle.grammar.specs.SiteSheet.{entriesOf, definedPart}
 use Rattle.grammar.specs.Grammar.{identities, noIdentities, external, noExternal, externals, noExternals, services, noServices, identityPart}
-use Rattle.grammar.specs.Grammar.{numberPart, noPart, Rest, interrogate, interrogateAck, fromLists, fromRecord, pdu}
+use Rattle.grammar.specs.Grammar.{numberPart, noPart, Rest, define, interrogate, interrogateAck, restOf, fromLists, fromRecord, pdu}
 use Rattle.grammar.specs.declared.site.ListKind.{ListKind}
 use Rattle.grammar.specs.declared.site.ListKind.the-variants.{Users}
 use Rattle.grammar.specs.declared.record.Identities.{Identities}
@@ -95,7 +95,7 @@ no-services-sized : (s : Services) → Legal noServices s → length (s .list) �
 unfolding noServices
 no-services-sized s h = legal-length _ _ 7 0 (s .list) (legal-seq _ _ _ (legal-shaped _ _ _ _ _ _ h) .1)
 
--- ---- the five lists, by the result
+-- ---- the five lists, by the part
 
 record SmallLists (l : Lists) : Type 0 where
   pub sized : SizedLists l
@@ -141,27 +141,38 @@ part-small false false l h = no-part-small l h
 -- ---- the record
 
 abbrev SmallRest : Rest → Type 0
-SmallRest q = (length (q .1 .1 .1 .0 .list) ≡ 7) × SmallLists (q .1 .1 .1 .1)
+SmallRest q = (length (q .1 .1 .0 .list) ≡ 7) × SmallLists (q .1 .1 .1)
+
+define-small : (q : Rest) → Legal define q → SmallRest q
+unfolding define
+define-small q h =
+    let s = legal-seq _ _ _ (legal-seq _ _ _ (legal-seq _ _ _ h .1) .1) in
+    let part = definedPart 1 (q .1 .0 .1 .1) in
+    (services-sized _ (s .0), part-small (eqb part 1) (eqb part 2) _ (s .1))
 
 interrogate-small : (q : Rest) → Legal interrogate q → SmallRest q
 unfolding interrogate
 interrogate-small q h =
-    let s = legal-seq _ _ _ (legal-seq _ _ _ (legal-seq _ _ _ (legal-seq _ _ _ h .1) .1) .1)
-    in (no-services-sized _ (s .0), no-part-small _ (s .1))
+    let s = legal-seq _ _ _ (legal-seq _ _ _ (legal-seq _ _ _ h .1) .1) in
+    (no-services-sized _ (s .0), no-part-small _ (s .1))
 
 ack-small : (q : Rest) → Legal interrogateAck q → SmallRest q
 unfolding interrogateAck
 ack-small q h =
-    let s = legal-seq _ _ _ (legal-seq _ _ _ (legal-seq _ _ _ (legal-seq _ _ _ h .1) .1) .1) in
-    (services-sized _ (s .0), part-small (eqb (q .1 .0) 1) (eqb (q .1 .0) 2) _ (s .1))
+    let s = legal-seq _ _ _ (legal-seq _ _ _ (legal-seq _ _ _ h .1) .1) in
+    let part = q .0 .1 .0 in
+    (services-sized _ (s .0), part-small (eqb part 1) (eqb part 2) _ (s .1))
 
 module _ (r : Record) (h : Legal pdu r) where
-  users : Legal (identities Users) (r .affected) × Legal (pick (eqb (r .kind) 11) interrogate interrogateAck) (fromRecord r .1 .1)
+  users : Legal (identities Users) (r .affected) × Legal (restOf (r .kind)) (fromRecord r .1 .1)
   unfolding pdu
   users = legal-seq _ _ _ (legal-seq _ _ _ (legal-shaped _ _ _ _ _ _ (legal-mark _ _ _ _ h)) .1)
 
   rest : SmallRest (fromRecord r .1 .1)
-  rest = let q = fromRecord r .1 .1 in by-test (λ (c : Codec Rest). Legal c q → SmallRest q) (eqb (r .kind) 11) (interrogate-small q) (ack-small q) (users .1)
+  rest =
+      let q = fromRecord r .1 .1 in
+      let P : Codec Rest → Type 0 = λ c. Legal c q → SmallRest q in
+      by-test P (eqb (r .kind) 5) (define-small q) (by-test P (eqb (r .kind) 11) (interrogate-small q) (ack-small q)) (users .1)
 
   pub record-sized : SizedRecord r
   record-sized = record { affected = identities-sized _ _ (users .0); services = rest .0; lists = rest .1 .sized }

@@ -1,6 +1,6 @@
 -- A record's words read back as that record, and as many words as a record has are written again as they were. Assumes nothing.
-use mathlib.Core.Path.{_≡_, sym, ap, _∙_}
-use mathlib.Core.List.{List, [], _∷_, _++_, append-nil}
+use mathlib.Core.Path.{_≡_, ap, _∙_}
+use mathlib.Core.List.{List, [], _∷_, _++_, append-assoc}
 use Prim.Native.Nat.{ℕ, suc, _+_, _-_, _≤_}
 use native.Mathlib.Omega.{arith}
 use lib.ListN.{length, take, drop, length-append, length-drop}
@@ -9,10 +9,11 @@ use Rattle.bits.specs.Bits.{Bytes}
 use Rattle.grammar.specs.declared.record.Identities.{Identities}
 use Rattle.grammar.specs.declared.record.Record.{Record}
 use Rattle.words.specs.Places.{identitiesWidth, entriesWidth, numbersWidth, servicesWidth, restrictedAt, exceptionsAt, numbersAt}
-use Rattle.words.specs.Places.{exceptedAt, listsWidth, affectedAt, askedAt, resultAt, deliveryAt, servicesAt, listsAt, recordWidth}
+use Rattle.words.specs.Places.{exceptedAt, listsWidth, affectedAt, askedAt, resultAt, statusAt, servicesAt, listsAt, deliveryAt}
+use Rattle.words.specs.Places.{acknowledgementAt, definitionAt, recordWidth}
 use Rattle.words.specs.Places.{numberEntriesAt, exceptedEntriesAt}
 use Rattle.words.specs.RecordWords.{identitiesWords, numbersWords, servicesWords, listsWords, recordWords, identitiesFrom, numbersFrom}
-use Rattle.words.specs.RecordWords.{servicesFrom, listsFrom, recordFrom}
+use Rattle.words.specs.RecordWords.{word, servicesFrom, listsFrom, recordFrom}
 use Rattle.words.specs.Sized.{SizedIdentities, SizedRecord}
 use Rattle.words.proofs.Layouts.{drop-after, word-after, spelt-word, spelt-then}
 use Rattle.words.proofs.ListInverse.{identities-long, identities-back, identities-forth, numbers-long, numbers-back, numbers-forth}
@@ -46,11 +47,11 @@ module _ (r : Record) (f : SizedRecord r) where
       let y = numbers-long (l .excepted) (f .lists .excepted) in
       simp length-append (omega arith)
 
-  lists-back : listsFrom (listsWords (r .lists)) ≡ r .lists
+  lists-back : (rest : List ℕ) → listsFrom (listsWords (r .lists) ++ rest) ≡ r .lists
   unfolding listsWords listsFrom
-  lists-back =
+  lists-back rest =
       let l = r .lists in
-      let y = numbersWords (l .excepted) in
+      let y = numbersWords (l .excepted) ++ rest in
       let from-n = numbersWords (l .numbers) ++ y in
       let from-x = identitiesWords (l .exceptions) ++ from-n in
       let from-e = identitiesWords (l .restricted) ++ from-x in
@@ -64,13 +65,14 @@ module _ (r : Record) (f : SizedRecord r) where
       let last : drop numbersWidth from-n ≡ y =
       drop-after (numbersWords (l .numbers)) y numbersWidth 0 (numbers-long (l .numbers) (f .lists .numbers))
       in
-      let y-at = e (exceptionsAt + numbersWidth) ∙ x (restrictedAt + numbersWidth) ∙ n numbersWidth ∙ last ∙ sym (append-nil y) in
-      λ i. record {
+      let y-at = e (exceptionsAt + numbersWidth) ∙ x (restrictedAt + numbersWidth) ∙ n numbersWidth ∙ last in
+      let all : listsWords l ++ rest ≡ w = simp append-assoc in
+      ap listsFrom all ∙ λ i. record {
         groups = identities-back (l .groups) (f .lists .groups) from-e i;
         restricted = (ap identitiesFrom (e 0) ∙ identities-back (l .restricted) (f .lists .restricted) from-x) i;
         exceptions = (ap identitiesFrom (e restrictedAt ∙ x 0) ∙ identities-back (l .exceptions) (f .lists .exceptions) from-n) i;
         numbers = (ap numbersFrom (e exceptionsAt ∙ x restrictedAt ∙ n 0) ∙ numbers-back (l .numbers) (f .lists .numbers) y) i;
-        excepted = (ap numbersFrom y-at ∙ numbers-back (l .excepted) (f .lists .excepted) []) i;
+        excepted = (ap numbersFrom y-at ∙ numbers-back (l .excepted) (f .lists .excepted) rest) i;
       }
 
   pub record-long : length (recordWords r) ≡ recordWidth
@@ -83,17 +85,25 @@ module _ (r : Record) (f : SizedRecord r) where
       let a = identitiesWords (r .affected) in
       let s = servicesWords (r .services) in
       let l = listsWords (r .lists) in
-      let q = r .asked ∷ r .result ∷ r .delivery ∷ s ++ l in
+      let d = r .delivery ∷ r .acknowledgement ∷ r .definition ∷ [] in
+      let t = l ++ d in
+      let q = r .asked ∷ r .result ∷ r .status ∷ s ++ t in
       let long = identities-long (r .affected) (f .affected) in
-      let after-a = drop-after a q identitiesWidth (listsAt - askedAt) long ∙ drop-after s l servicesWidth 0 (ap suc (f .services)) in
+      let few : length s ≡ servicesWidth = ap suc (f .services) in
+      let after-a = drop-after a q identitiesWidth (listsAt - askedAt) long ∙ drop-after s t servicesWidth 0 few in
+      let last : (k : ℕ) → word t (listsWidth + k) ≡ word d k = λ k. word-after l d listsWidth k lists-long in
       λ i. record {
         kind = r .kind;
         affected = identities-back (r .affected) (f .affected) q i;
         asked = word-after a q identitiesWidth 0 long i;
         result = word-after a q identitiesWidth 1 long i;
-        delivery = word-after a q identitiesWidth 2 long i;
-        services = (ap servicesFrom (drop-after a q identitiesWidth 3 long) ∙ services-back (r .services) l (f .services)) i;
-        lists = (ap listsFrom after-a ∙ lists-back) i;
+        status = word-after a q identitiesWidth 2 long i;
+        services = (ap servicesFrom (drop-after a q identitiesWidth 3 long) ∙ services-back (r .services) t (f .services)) i;
+        lists = (ap listsFrom after-a ∙ lists-back d) i;
+        delivery = (word-after a q identitiesWidth (deliveryAt - askedAt) long ∙ word-after s t servicesWidth listsWidth few ∙ last 0) i;
+        acknowledgement =
+            (word-after a q identitiesWidth (acknowledgementAt - askedAt) long ∙ word-after s t servicesWidth (listsWidth + 1) few ∙ last 1) i;
+        definition = (word-after a q identitiesWidth (definitionAt - askedAt) long ∙ word-after s t servicesWidth (listsWidth + 2) few ∙ last 2) i;
       }
 
 -- the lengths and digits of numbers have to be bytes
@@ -109,7 +119,10 @@ record-forth w h b b′ =
     spelt-then w 0 1 (recordWidth - affectedAt) (spelt-word w 0 (omega arith))
     (spelt-then w affectedAt identitiesWidth (recordWidth - askedAt) (identities-forth (drop affectedAt w) (omega (arith, room affectedAt)))
     (spelt-then w askedAt 1 (recordWidth - resultAt) (spelt-word w askedAt (omega arith))
-    (spelt-then w resultAt 1 (recordWidth - deliveryAt) (spelt-word w resultAt (omega arith))
-    (spelt-then w deliveryAt 1 (recordWidth - servicesAt) (spelt-word w deliveryAt (omega arith))
-    (spelt-then w servicesAt servicesWidth listsWidth (services-forth (drop servicesAt w) (omega (arith, room servicesAt))) lists)))))
+    (spelt-then w resultAt 1 (recordWidth - statusAt) (spelt-word w resultAt (omega arith))
+    (spelt-then w statusAt 1 (recordWidth - servicesAt) (spelt-word w statusAt (omega arith))
+    (spelt-then w servicesAt servicesWidth (recordWidth - listsAt) (services-forth (drop servicesAt w) (omega (arith, room servicesAt)))
+    (spelt-then w listsAt listsWidth 3 lists
+    (spelt-then w deliveryAt 1 2 (spelt-word w deliveryAt (omega arith))
+    (spelt-then w acknowledgementAt 1 1 (spelt-word w acknowledgementAt (omega arith)) (spelt-word w definitionAt (omega arith))))))))))
     ∙ take-all recordWidth w (omega arith)

@@ -16,7 +16,8 @@ use Rattle.rules.specs.declared.request.Destination.the-variants as to
 use Rattle.rules.specs.declared.request.Group.{Group}
 use Rattle.rules.specs.declared.request.Group.the-variants.{Of, NoGroup}
 use Rattle.rules.specs.declared.request.Request.{Request}
-use Rattle.words.specs.Places.{affectedAt, askedAt, resultAt, deliveryAt, servicesAt, listsAt, recordWidth, serviceAt, kindAt, identityAt}
+use Rattle.words.specs.Places.{affectedAt, askedAt, resultAt, statusAt, servicesAt, listsAt, deliveryAt, acknowledgementAt, definitionAt}
+use Rattle.words.specs.Places.{recordWidth, serviceAt, kindAt, identityAt}
 use Rattle.words.specs.Places.{lengthAt, digitsAt, givenAt, groupAt, requestWidth}
 use Rattle.words.specs.RecordWords.{word, recordWords, recordFrom, narrowed, records}
 use Rattle.words.specs.RequestWords.{areRequest, requestFrom, requestWords, requests}
@@ -27,7 +28,8 @@ counted n zero = []
 counted n (suc k) = n ∷ counted (n + 1) k
 
 -- where the parts begin that have a name, and how many words there are, as the tables of include/boc.h say
-record-places : affectedAt ∷ askedAt ∷ resultAt ∷ deliveryAt ∷ servicesAt ∷ listsAt ∷ recordWidth ∷ [] ≡ 1 ∷ 26 ∷ 27 ∷ 28 ∷ 29 ∷ 37 ∷ 514 ∷ []
+record-places : affectedAt ∷ askedAt ∷ resultAt ∷ statusAt ∷ servicesAt ∷ listsAt ∷ deliveryAt ∷ acknowledgementAt ∷ definitionAt ∷ recordWidth ∷ []
+    ≡ 1 ∷ 26 ∷ 27 ∷ 28 ∷ 29 ∷ 37 ∷ 514 ∷ 515 ∷ 516 ∷ 517 ∷ []
 record-places = refl
 
 request-places : serviceAt ∷ kindAt ∷ identityAt ∷ lengthAt ∷ digitsAt ∷ givenAt ∷ groupAt ∷ requestWidth ∷ [] ≡ 2 ∷ 3 ∷ 4 ∷ 6 ∷ 7 ∷ 31 ∷ 32 ∷ 34 ∷ []
@@ -125,7 +127,7 @@ module _ (word byte : ℕ → ℕ) where
     affected = identities 1;
     asked = word 26;
     result = word 27;
-    delivery = word 28;
+    status = word 28;
     services = record { count = word 29; list = map word (30 ∷ 31 ∷ 32 ∷ 33 ∷ 34 ∷ 35 ∷ 36 ∷ []) };
     lists = record {
       groups = identities 37;
@@ -134,19 +136,22 @@ module _ (word byte : ℕ → ℕ) where
       numbers = numbers 112;
       excepted = numbers 313;
     };
+    delivery = word 514;
+    acknowledgement = word 515;
+    definition = word 516;
   }
 
--- its words are the values in their places, 514 of them
-placed-words : recordWords (placed (λ n. n) (λ n. n)) ≡ counted 0 514
+-- its words are the values in their places, 517 of them
+placed-words : recordWords (placed (λ n. n) (λ n. n)) ≡ counted 0 517
 unfolding records counted
 placed-words = refl
 
 -- and read back; lengths and digits are bytes there, so words from 255 on show their places by counting down
-placed-record : recordFrom (counted 0 514) ≡ placed (λ n. n) (λ n. min n 255)
+placed-record : recordFrom (counted 0 517) ≡ placed (λ n. n) (λ n. min n 255)
 unfolding records counted
 placed-record = refl
 
-placed-down : recordFrom (map (λ n. 513 - n) (counted 0 514)) ≡ placed (λ n. 513 - n) (λ n. min (513 - n) 255)
+placed-down : recordFrom (map (λ n. 516 - n) (counted 0 517)) ≡ placed (λ n. 516 - n) (λ n. min (516 - n) 255)
 unfolding records counted
 placed-down = refl
 

@@ -69,17 +69,28 @@ askedAt = affectedAt + identitiesWidth
 abbrev pub resultAt : ℕ
 resultAt = askedAt + 1
 
-abbrev pub deliveryAt : ℕ
-deliveryAt = resultAt + 1
+-- delivery status
+abbrev pub statusAt : ℕ
+statusAt = resultAt + 1
 
 abbrev pub servicesAt : ℕ
-servicesAt = deliveryAt + 1
+servicesAt = statusAt + 1
 
 abbrev pub listsAt : ℕ
 listsAt = servicesAt + servicesWidth
 
+-- delivery to affected users, acknowledgement from them, definition type
+abbrev pub deliveryAt : ℕ
+deliveryAt = listsAt + listsWidth
+
+abbrev pub acknowledgementAt : ℕ
+acknowledgementAt = deliveryAt + 1
+
+abbrev pub definitionAt : ℕ
+definitionAt = acknowledgementAt + 1
+
 abbrev pub recordWidth : ℕ
-recordWidth = listsAt + listsWidth
+recordWidth = definitionAt + 1
 
 -- where the lengths and digits of restricted numbers and of exceptions to them begin
 abbrev pub numberEntriesAt : ℕ

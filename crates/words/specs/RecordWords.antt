@@ -1,5 +1,6 @@
 -- A record as words of 32 bits, in this order: PDU type; affected users; interrogation type, result, delivery status;
--- number of services and 7 services; groups, restricted, exceptions; restricted numbers and exceptions to them.
+-- number of services and 7 services; groups, restricted, exceptions; restricted numbers and exceptions to them;
+-- delivery to affected users, acknowledgement from them, definition type.
 use Prim.Native.Nat.{ℕ, zero, suc, min}
 use mathlib.Core.Bool.{Bool, true, false}
 use mathlib.Core.List.{List, [], _∷_, _++_}
@@ -15,7 +16,8 @@ use Rattle.grammar.specs.declared.record.Services.{Services}
 use Rattle.grammar.specs.declared.record.Lists.{Lists}
 use Rattle.grammar.specs.declared.record.Record.{Record}
 use Rattle.words.specs.Places.{listPlaces, digitPlaces, servicePlaces, identityWidth, numberWidth, restrictedAt, exceptionsAt, numbersAt}
-use Rattle.words.specs.Places.{exceptedAt, affectedAt, askedAt, resultAt, deliveryAt, servicesAt, listsAt, recordWidth}
+use Rattle.words.specs.Places.{exceptedAt, affectedAt, askedAt, resultAt, statusAt, servicesAt, listsAt, deliveryAt, acknowledgementAt, definitionAt}
+use Rattle.words.specs.Places.{recordWidth}
 use Rattle.words.specs.declared.record.GivenRecord.{GivenRecord}
 
 -- ---- to words
@@ -48,7 +50,8 @@ listsWords l =
 unfoldable pub recordWords : Record → List ℕ
 recordWords r =
     r .kind ∷ identitiesWords (r .affected)
-    ++ (r .asked ∷ r .result ∷ r .delivery ∷ servicesWords (r .services) ++ listsWords (r .lists))
+    ++ (r .asked ∷ r .result ∷ r .status ∷ servicesWords (r .services)
+    ++ (listsWords (r .lists) ++ (r .delivery ∷ r .acknowledgement ∷ r .definition ∷ [])))
 
 -- ---- from words
 
@@ -98,9 +101,12 @@ recordFrom w = record {
   affected = identitiesFrom (drop affectedAt w);
   asked = word w askedAt;
   result = word w resultAt;
-  delivery = word w deliveryAt;
+  status = word w statusAt;
   services = servicesFrom (drop servicesAt w);
   lists = listsFrom (drop listsAt w);
+  delivery = word w deliveryAt;
+  acknowledgement = word w acknowledgementAt;
+  definition = word w definitionAt;
 }
 
 -- ---- a slice of words: as many as a record has are one; another number of them gives no record and is left alone

@@ -1,4 +1,5 @@
-// A record as words: PDU type; affected users; interrogation type, result, delivery status; services; the five lists.
+// A record as words: PDU type; affected users; interrogation type, result, delivery status; services; the five lists;
+// delivery to affected users, acknowledgement from them, definition type.
 use bits::DigitCount;
 use grammar::record::Identities;
 use grammar::record::Identity;
@@ -61,7 +62,13 @@ const SERVICE_COUNT: usize = DELIVERY_STATUS + 1;
 
 const GROUPS: usize = SERVICE_COUNT + SERVICES_WORDS;
 
-pub const RECORD_WORDS: usize = GROUPS + LISTS_WORDS;
+const DELIVERY: usize = GROUPS + LISTS_WORDS;
+
+const ACKNOWLEDGEMENT: usize = DELIVERY + 1;
+
+const DEFINITION_TYPE: usize = ACKNOWLEDGEMENT + 1;
+
+pub const RECORD_WORDS: usize = DEFINITION_TYPE + 1;
 
 // Whether words are a record's, and that record. Beside other words all of it is zero.
 pub struct GivenRecord {
@@ -79,13 +86,20 @@ fn put_word(words: &mut [u32], at: usize, word: u32) -> usize
     at + 1
 }
 
+fn put_three(words: &mut [u32], at: usize, first: u32, second: u32, third: u32) -> usize
+    requires { ⌜ at + 3 ≤ length (now words) ⌝ }
+    ensures { λ r. ⌜ Put (now (words .entry)) at (first ∷ second ∷ third ∷ []) 3 (now (words .exit)) r ⌝ }
+{
+    let second_at = put_word(words, at, first);
+    let third_at = put_word(words, second_at, second);
+    put_word(words, third_at, third)
+}
+
 fn put_identity(words: &mut [u32], at: usize, e: Identity) -> usize
     requires { ⌜ at + identityWidth ≤ length (now words) ⌝ }
     ensures { λ r. ⌜ Put (now (words .entry)) at (identityWords e) identityWidth (now (words .exit)) r ⌝ }
 {
-    let present_at = put_word(words, at, e.ssi);
-    let extension_at = put_word(words, present_at, e.present);
-    put_word(words, extension_at, e.extension)
+    put_three(words, at, e.ssi, e.present, e.extension)
 }
 
 fn put_identities(words: &mut [u32], at: usize, list: Identities) -> usize
@@ -169,11 +183,16 @@ fn put_fields(words: &mut [u32], found: Record)
     let lists = found.lists;
     let affected_at = put_word(words, PDU_TYPE, found.kind);
     let asked_at = put_identities(words, affected_at, affected);
-    let result_at = put_word(words, asked_at, found.asked);
-    let delivery_at = put_word(words, result_at, found.result);
-    let services_at = put_word(words, delivery_at, found.delivery);
+    let services_at = put_three(words, asked_at, found.asked, found.result, found.status);
     let lists_at = put_services(words, services_at, services);
-    put_lists(words, lists_at, lists);
+    let delivery_at = put_lists(words, lists_at, lists);
+    put_three(
+        words,
+        delivery_at,
+        found.delivery,
+        found.acknowledgement,
+        found.definition,
+    );
 }
 
 // The words of a record in place of those that were there, if there are as many.
@@ -316,9 +335,12 @@ fn fields_from(words: &[u32]) -> Record
         affected: identities_from(words, AFFECTED),
         asked: words[INTERROGATION_TYPE],
         result: words[INTERROGATION_RESULT],
-        delivery: words[DELIVERY_STATUS],
+        status: words[DELIVERY_STATUS],
         services: services_from(words, SERVICE_COUNT),
         lists: lists_from(words, GROUPS),
+        delivery: words[DELIVERY],
+        acknowledgement: words[ACKNOWLEDGEMENT],
+        definition: words[DEFINITION_TYPE],
     }
 }
 

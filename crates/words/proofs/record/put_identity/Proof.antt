@@ -1,20 +1,12 @@
--- Three words, one after the other. Assumes nothing.
-use native.Mathlib.Omega.{arith}
+-- Three words. Assumes nothing.
 use borrow.Author.Needs.{needs}
 use Rattle.words.specs.RecordWords.{identityWords}
-use Rattle.words.proofs.Putting.{then}
 use Rattle.words.proofs.record.put_identity.Statement.{statement}
 use Rattle.words.proofs.record.put_identity.Tie as tie
 
 returns : tie.Need-returns
 unfolding identityWords
-returns c =
-    let third = c .before .before in
-    let second = third .before .before .before .before in
-    let first = second .before .before .before .before in
-    then (omega arith) (first .put-word .ensures) (then (omega arith) (second .put-word2 .ensures) (third .put-word3 .ensures))
+returns c = c .before .before .put-three .ensures
 
 pub put-identity-spec : {M : Type 1} → statement M
-put-identity-spec =
-    tie.close
-    (tie.spec (λ c κs. search needs) (λ c κs. search needs) (λ c κs. search needs) (λ c. search needs) returns)
+put-identity-spec = tie.close (tie.spec (λ c κs. search needs) (λ c. search needs) returns)
