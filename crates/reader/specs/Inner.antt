@@ -7,8 +7,11 @@ use lib.ListN.{length}
 use Rattle.bits.specs.Bits.{bits}
 use Rattle.bits.proofs.Table.{values}
 use Rattle.codec.specs.Codec.{Codec}
+use Rattle.codec.specs.Parts.{seq}
 use Rattle.codec.specs.Reading.{got, readAt}
-use Rattle.grammar.specs.Grammar.{Rest}
+use Rattle.grammar.specs.Grammar.{services, partOf, Rest}
+use Rattle.grammar.specs.declared.record.Services.{Services}
+use Rattle.grammar.specs.declared.record.Lists.{Lists}
 use Rattle.words.specs.Inner.{Put}
 use Rattle.words.specs.RecordWords.{servicesWords, listsWords}
 
@@ -16,9 +19,20 @@ use Rattle.words.specs.RecordWords.{servicesWords, listsWords}
 abbrev pub one : ℕ → List ℕ
 one x = x ∷ []
 
--- what follows the affected users, as words
+-- three numbers as words: those of an interrogation, or of a definition
+abbrev pub three : ℕ × (ℕ × ℕ) → List ℕ
+three (a, (b, c)) = a ∷ b ∷ c ∷ []
+
+-- services and the lists of a part, and their words
+abbrev pub listed : ℕ → Codec (Services × Lists)
+listed part = seq services (λ s. partOf part)
+
+abbrev pub listedWords : Services × Lists → List ℕ
+listedWords (s, l) = servicesWords s ++ listsWords l
+
+-- what follows the affected users, as words: those of a definition come last
 abbrev pub restWords : Rest → List ℕ
-restWords (asked, (result, (delivery, (services, lists)))) = asked ∷ result ∷ delivery ∷ servicesWords services ++ listsWords lists
+restWords (i, (d, (s, l))) = three i ++ (servicesWords s ++ (listsWords l ++ three d))
 
 -- the part c at a place is the value v, up to `end`
 pub record Read {A : Type 0} (c : Codec A) (s : List Bool) (at : ℕ) (v : A) (end : ℕ) : Type 0 where

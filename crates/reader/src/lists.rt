@@ -1,4 +1,4 @@
-// The lists that an interrogation result provides: 477 words, zero where the PDU carries none.
+// The lists of a part: 477 words, zero where the PDU carries none.
 use crate::identities::fill_identities;
 use crate::numbers::fill_numbers;
 use crate::stores::zero_words;
@@ -39,15 +39,15 @@ fn fill_number_part(s: &[u8], c: Cursor, words: &mut [u32], to: usize) -> Cursor
     fill_numbers(s, excepted, words, excepted_to)
 }
 
-// The lists that an interrogation result provides (table 35).
-pub(crate) fn fill_part(s: &[u8], c: Cursor, words: &mut [u32], to: usize, result: u32) -> Cursor
-    requires { ⌜ Fillable (partOf result) (now s) (c .at) (now words) to 477 ⌝ }
-    ensures { λ r. ⌜ Fills (partOf result) listsWords 477 (bits (now (s .entry))) (c .at) (now (words .entry)) to (now (words .exit)) (r .at) ⌝ }
+// The lists of a part: 1 identities, 2 external numbers, any other none.
+pub(crate) fn fill_part(s: &[u8], c: Cursor, words: &mut [u32], to: usize, part: u32) -> Cursor
+    requires { ⌜ Fillable (partOf part) (now s) (c .at) (now words) to 477 ⌝ }
+    ensures { λ r. ⌜ Fills (partOf part) listsWords 477 (bits (now (s .entry))) (c .at) (now (words .entry)) to (now (words .exit)) (r .at) ⌝ }
 {
-    if result == 1 {
+    if part == 1 {
         return fill_identity_part(s, c, words, to);
     }
-    if result == 2 {
+    if part == 2 {
         return fill_number_part(s, c, words, to);
     }
     zero_words(words, to, 477);

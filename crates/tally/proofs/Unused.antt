@@ -114,14 +114,19 @@ uncarried-byte (x ∷ w) l = record {
   empty = refl;
 }
 
+-- two words, and three
+pub uncarried-two : Uncarried 2 (seq absent (λ a. absent)) (λ w. (word w 0, word w 1))
+uncarried-two = uncarried-as (λ w l. λ i. (word w 0, getD-drop 1 w 0 0 i)) (uncarried-seq uncarried-word uncarried-word)
+
+pub uncarried-three : Uncarried 3 (seq absent (λ a. seq absent (λ b. absent))) (λ w. (word w 0, (word w 1, word w 2)))
+uncarried-three =
+    uncarried-as (λ w l. λ i. (word w 0, (getD-drop 1 w 0 0 i, getD-drop 1 w 1 0 i))) (uncarried-seq uncarried-word uncarried-two)
+
 -- ---- the parts of a record
 
 pub uncarried-identity : Uncarried 3 noIdentity identityFrom
 unfolding noIdentity identityFrom
-uncarried-identity =
-    uncarried-shape _ _ _ _ (uncarried-as
-    (λ w l. λ i. (word w 0, (getD-drop 1 w 0 0 i, (getD-drop 1 (drop 1 w) 0 0 ∙ getD-drop 1 w 1 0) i)))
-    (uncarried-seq uncarried-word (uncarried-seq uncarried-word uncarried-word)))
+uncarried-identity = uncarried-shape _ _ _ _ uncarried-three
 
 pub uncarried-number : Uncarried 25 noExternal numberFrom
 unfolding noExternal numberFrom
@@ -167,10 +172,6 @@ uncarried-part =
     (uncarried-seq uncarried-identities (uncarried-seq uncarried-identities
     (uncarried-seq uncarried-identities (uncarried-seq uncarried-numbers uncarried-numbers)))))
 
--- interrogation result, delivery status, services and lists
-pub uncarried-rest : Uncarried 487 (seq absent (λ x. seq absent (λ y. seq noServices (λ z. noPart))))
-    (λ w. (word w 0, (word w 1, (servicesFrom (drop 2 w), listsFrom (drop 10 w)))))
-uncarried-rest =
-    uncarried-as
-    (λ w l. λ i. (word w 0, (getD-drop 1 w 0 0 i, (servicesFrom (drop-drop 1 1 w i), listsFrom ((drop-drop 8 1 (drop 1 w) ∙ drop-drop 9 1 w) i)))))
-    (uncarried-seq uncarried-word (uncarried-seq uncarried-word (uncarried-seq uncarried-services uncarried-part)))
+-- services and lists
+pub uncarried-rest : Uncarried 485 (seq noServices (λ s. noPart)) (λ w. (servicesFrom w, listsFrom (drop 8 w)))
+uncarried-rest = uncarried-seq uncarried-services uncarried-part

@@ -1,4 +1,4 @@
-// What the lists among the words come to, by the interrogation result.
+// What the lists among the words come to, by their part.
 use crate::Tally;
 use crate::elements::tally_unused;
 use crate::identities::tally_identities;
@@ -11,7 +11,7 @@ ghost use Rattle.words.specs.RecordWords.{listsFrom};
 ghost use Rattle.tally.specs.Tally.{Tallies};
 ghost use Rattle.tally.specs.Inner.{Fits};
 
-// Accepted, TETRA identities provided.
+// Part 1: TETRA identities.
 fn tally_identity_part(start: Tally, words: &[u32], at: usize) -> Tally
     requires { ⌜ (at + 477 ≤ length (now words)) × Fits identityPart (listsFrom (drop at (now words))) start ⌝ }
     ensures { λ r. ⌜ Tallies identityPart (listsFrom (drop at (now (words .entry)))) start r ⌝ }
@@ -22,7 +22,7 @@ fn tally_identity_part(start: Tally, words: &[u32], at: usize) -> Tally
     tally_unused(after_exceptions, words, at + 75, 402)
 }
 
-// Accepted, external subscriber numbers provided.
+// Part 2: external subscriber numbers.
 fn tally_number_part(start: Tally, words: &[u32], at: usize) -> Tally
     requires { ⌜ (at + 477 ≤ length (now words)) × Fits numberPart (listsFrom (drop at (now words))) start ⌝ }
     ensures { λ r. ⌜ Tallies numberPart (listsFrom (drop at (now (words .entry)))) start r ⌝ }
@@ -34,15 +34,15 @@ fn tally_number_part(start: Tally, words: &[u32], at: usize) -> Tally
     tally_numbers(after_numbers, words, at + 276)
 }
 
-// The part that the interrogation result says; any other result has none.
-pub(crate) fn tally_part(start: Tally, result: u32, words: &[u32], at: usize) -> Tally
-    requires { ⌜ (at + 477 ≤ length (now words)) × Fits (partOf result) (listsFrom (drop at (now words))) start ⌝ }
-    ensures { λ r. ⌜ Tallies (partOf result) (listsFrom (drop at (now (words .entry)))) start r ⌝ }
+// The part of this number; any other has no lists.
+pub(crate) fn tally_part(start: Tally, part: u32, words: &[u32], at: usize) -> Tally
+    requires { ⌜ (at + 477 ≤ length (now words)) × Fits (partOf part) (listsFrom (drop at (now words))) start ⌝ }
+    ensures { λ r. ⌜ Tallies (partOf part) (listsFrom (drop at (now (words .entry)))) start r ⌝ }
 {
-    if result == 1 {
+    if part == 1 {
         return tally_identity_part(start, words, at);
     }
-    if result == 2 {
+    if part == 2 {
         return tally_number_part(start, words, at);
     }
     tally_unused(start, words, at, 477)

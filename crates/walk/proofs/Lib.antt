@@ -7,3 +7,4 @@ pub mod Ending
 pub mod Rows
 pub mod Aheads
 pub mod Sights
+pub mod Following

@@ -15,28 +15,24 @@ use Rattle.bits.proofs.Tests.{both, picked}
 use Rattle.bits.proofs.Bytes.{length-bits}
 use Rattle.bits.proofs.Numbers.{value-take-fits}
 use Rattle.bits.proofs.Windows.{window-part}
-use Rattle.codec.specs.Parts.{absent, element, only}
+use Rattle.codec.specs.Parts.{absent, element}
 use Rattle.codec.specs.Places.{places}
-use Rattle.codec.specs.Reading.{got, readAt, resume, reachedOf}
+use Rattle.codec.specs.Reading.{got, readAt, reachedOf}
 use Rattle.codec.specs.declared.Reached.{Reached}
-use Rattle.codec.specs.declared.Reached.the-variants.{At}
 use Rattle.codec.proofs.Reading.{readAt-absent}
-use Rattle.codec.proofs.Onward.{element-got}
-use Rattle.grammar.specs.SiteSheet.{ssType, entriesOf, rangeRefusal, digitRefusal, allDigits, serviceRefusal}
-use Rattle.grammar.specs.SiteSheet.{kindRefusal, resultRefusal, askedRefusal, countRefusal, lengthRefusal, between}
+use Rattle.grammar.specs.SiteSheet.{entriesOf, rangeRefusal, digitRefusal, allDigits, lengthRefusal, between}
 use Rattle.grammar.specs.Grammar.{identity, noIdentity, zeroIdentity, endsRefusal, identities, external, noExternal}
-use Rattle.grammar.specs.Grammar.{externals, services, partOf, interrogate, interrogateAck, restOf}
+use Rattle.grammar.specs.Grammar.{externals}
 use Rattle.grammar.specs.Zero.{zeroNumber}
 use Rattle.grammar.specs.declared.record.Identity.{Identity}
 use Rattle.grammar.specs.declared.site.ListKind.{ListKind}
 use Rattle.grammar.specs.declared.site.ListKind.the-variants as of
 use Rattle.grammar.proofs.Codes.{entriesOf-le, single, not-single, above-nine, not-nine}
-use Rattle.grammar.proofs.Steps.{noIdentity-at, noExternal-at, identities-at, external-at, externals-at, services-at}
+use Rattle.grammar.proofs.Steps.{noIdentity-at, noExternal-at, identities-at, external-at, externals-at}
 use Rattle.grammar.proofs.Windows as window
-use Rattle.walk.specs.Inner.{pass, steps, range, coded, identityIn, passing, resultFrom, resultIn, Ends, Finds}
-use Rattle.walk.proofs.Passes.{pass-at, past, pass-untested, pass-places, steps-count}
+use Rattle.walk.specs.Inner.{pass, steps, range, coded, identityIn, Ends}
+use Rattle.walk.proofs.Passes.{pass-at, pass-untested, pass-places, steps-count}
 use Rattle.walk.proofs.Ranges.{range-by-place}
-use Rattle.walk.proofs.Results.{interrogate-result, ack-result, pdu-result}
 use Rattle.walk.proofs.Rows.{all-passing, steps-add}
 use Rattle.walk.proofs.Aheads.{ends-as, ends-then, Holds, in-window, in-front, coded-ends, row-ends}
 
@@ -176,76 +172,3 @@ externals-end {code = code} holds legal r =
     coded-ends externals 4 (rangeRefusal of.Numbers) (λ code. places external noExternal 8 (entriesOf code)) _ externals-at holds legal
     (ends-as (λ l r. pass-places external noExternal zeroNumber l (noExternal-at l) 8 (entriesOf code) r (entriesOf-le code)
     ∙ steps-count _ r (single code (single-code code legal) .2)) (omega arith) r)
-
--- ---- what follows the affected users, and the whole
-
-services-end : {s : List ℕ} {at count list : ℕ} → Holds s at 3 count → countRefusal count ≡ 0 → Holds s (at + 3) (3 * count) list
-    → passing serviceRefusal 3 7 list ≡ true → Ends (pass services) s at (3 + 3 * count) (at + 3 + 3 * count)
-services-end {count = count} holds legal listed passes =
-    let c = within 7 count legal in
-    coded-ends services 3 countRefusal (places (element 3 serviceRefusal) absent 7) _ services-at holds legal
-    (ends-as (λ l r. pass-places (element 3 serviceRefusal) absent 0 l (readAt-absent l) 7 count r (c .1)) (omega arith)
-    (row-ends serviceRefusal 3 count 7 (omega arith) (c .0) (c .1) refl listed passes))
-
--- result, delivery status, number of services and services stand in one window
-pub ack-finds : {s : List ℕ} {at result count m end : ℕ} → result ≡ windowAt s at / 2 ^ 54 → resultRefusal result ≡ 0
-    → count ≡ windowAt s at / 2 ^ 49 % 2 ^ 3 → countRefusal count ≡ 0 → passing serviceRefusal 3 7 (windowAt s at % 2 ^ 49 / 2 ^ (49 - 3 * count))
-    ≡ true
-    → Ends (pass (partOf result)) s (at + 8 + 3 * count) m end → Finds (λ l. resultFrom interrogateAck l (At (record { at = at }))) s at result end
-unfolding resultFrom resume
-ack-finds {s} {at} {result} {count} {end = end} is legal many counted passes r =
-    let w : ℕ = windowAt s at in
-    let c = within 7 count counted in
-    let width : 3 * count + (49 - 3 * count) ≡ 49 = omega arith in
-    let rest : 49 - 3 * count ≡ 57 - 8 - 3 * count = omega arith in
-    let place : at + 5 + 3 + 3 * count ≡ at + 8 + 3 * count = omega arith in
-    let list : w % 2 ^ 49 / 2 ^ (49 - 3 * count) ≡ w / 2 ^ (57 - 8 - 3 * count) % 2 ^ (3 * count) =
-    ap (λ (j : ℕ). w % 2 ^ j / 2 ^ (49 - 3 * count)) (sym width) ∙ field w (3 * count) (49 - 3 * count)
-    ∙ ap (λ (j : ℕ). w / 2 ^ j % 2 ^ (3 * count)) rest in
-    let listed = services-end (in-window s at 5 3 (at + 5) refl (omega arith) (omega arith) many) counted
-    (in-window s at 8 (3 * count) (at + 5 + 3) (omega arith) (omega arith) (omega arith) list) passes in
-    let after = r .after in
-    record {
-      after = omega arith;
-      there = λ n few i.
-          let l : List Bool = bitsIn n s in
-          let a = element-got 3 resultRefusal l at result (at + 3) (in-front s at 3 54 refl (omega arith) is n (omega arith)) legal in
-          let b = in-window s at 3 2 (at + 3) refl (omega arith) (omega arith) refl n (omega arith) in
-          let two : at + 3 + 2 ≡ at + 5 = omega arith in
-          let d = listed .there n few (omega arith) ∙ ap (λ (p : ℕ). At (record { at = p })) place in
-          ack-result l at ∙ rw (a, b, two)
-          (past services l (At (record { at = at + 5 })) (At (record { at = at + 8 + 3 * count })) _ (sym d)
-          ∙ past (partOf result) l (At (record { at = at + 8 + 3 * count })) (At (record { at = end })) _ (sym (r .there n few i)));
-    }
-
-pub asked-finds : {s : List ℕ} {at asked : ℕ} → asked ≡ windowAt s at / 2 ^ 55 → askedRefusal asked ≡ 0
-    → Finds (λ l. resultFrom interrogate l (At (record { at = at }))) s at 0 (at + 2)
-unfolding resultFrom resume
-asked-finds {s} {at} {asked} is legal = record {
-  after = omega arith;
-  there = λ n few i.
-      let a = element-got 2 askedRefusal (bitsIn n s) at asked (at + 2) (in-front s at 2 55 refl (omega arith) is n i) legal in
-      interrogate-result (bitsIn n s) at ∙ rw a;
-}
-
--- SS type, PDU type and range type stand in the first window
-pub pdu-finds : (kind : ℕ) {s : List ℕ} {code m p result end : ℕ} → windowAt s 0 / 2 ^ 46 ≡ 576 + kind → kind < 32 → kindRefusal kind ≡ 0
-    → code ≡ windowAt s 0 / 2 ^ 42 % 2 ^ 4 → rangeRefusal of.Users code ≡ 0 → Ends (pass (coded code)) s 15 m p
-    → Finds (λ l. resultFrom (restOf kind) l (At (record { at = p }))) s p result end → Finds resultIn s 0 result end
-unfolding resultFrom resume
-pdu-finds kind {s} {p = p} is small legal coded single r f =
-    let listed = list-ends of.Users (in-window s 0 11 4 11 refl (omega arith) (omega arith) coded) single r in
-    let after = r .after in
-    let later = f .after in
-    let ss : ssType ≡ windowAt s 0 / 2 ^ (57 - 0 - 6) % 2 ^ 6 = omega arith in
-    let is : kind ≡ windowAt s 0 / 2 ^ (57 - 6 - 5) % 2 ^ 5 = omega arith in
-    record {
-      after = omega arith;
-      there = λ n few i.
-          let l : List Bool = bitsIn n s in
-          let a = element-got 6 (only ssType) l 0 ssType 6 (in-window s 0 0 6 0 refl (omega arith) (omega arith) ss n (omega arith)) refl in
-          let b = element-got 5 kindRefusal l 6 kind 11 (in-window s 0 6 5 6 refl (omega arith) (omega arith) is n (omega arith)) legal in
-          pdu-result l ∙ rw (a, b)
-          (past (identities of.Users) l (At (record { at = 11 })) (At (record { at = p })) _ (sym (listed .there n few (omega arith)))
-          ∙ f .there n few i);
-    }

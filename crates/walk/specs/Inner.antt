@@ -2,7 +2,7 @@
 use mathlib.Core.Path.{_≡_}
 use mathlib.Core.Bool.{Bool, true, _&&_}
 use mathlib.Core.List.{List}
-use Prim.Native.Nat.{ℕ, zero, suc, _+_, _/_, _%_, _^_, _≤_}
+use Prim.Native.Nat.{ℕ, zero, suc, _+_, _-_, _*_, _/_, _%_, _^_, _≤_}
 use lib.ListN.{length}
 use lib.Dec.{ltb, eqb}
 use Rattle.bits.specs.Bits.{pick}
@@ -14,7 +14,7 @@ use Rattle.codec.specs.Places.{places}
 use Rattle.codec.specs.Reading.{Found, got, andNext, readAt, resume, reachedOf}
 use Rattle.codec.specs.declared.Reached.{Reached}
 use Rattle.codec.specs.declared.Reached.the-variants as reached
-use Rattle.grammar.specs.SiteSheet.{entriesOf}
+use Rattle.grammar.specs.SiteSheet.{entriesOf, countRefusal, serviceRefusal}
 use Rattle.grammar.specs.Grammar.{identity, noIdentity, rangeEnds, secondEnd, Rest, pdu}
 use Rattle.grammar.specs.declared.record.Identity.{Identity}
 use Rattle.walk.specs.Walk.{refusing}
@@ -64,7 +64,7 @@ endedIs s n (reached.Refused k p) result = refusing k (place.At p)
 
 -- what follows the affected users, read from where reading stands, and the interrogation result in it
 unfoldable pub resultFrom : Codec Rest → List Bool → Reached → Found ℕ
-resultFrom c l start = resume start (λ at. andNext (readAt c l at) (λ rest p. got (rest .1 .0) p))
+resultFrom c l start = resume start (λ at. andNext (readAt c l at) (λ rest p. got (rest .0 .1 .0) p))
 
 -- the interrogation result of the PDU l
 unfoldable pub resultIn : List Bool → Found ℕ
@@ -76,6 +76,11 @@ resultIn l = andNext (readAt pdu l 0) (λ r p. got (r .result) p)
 unfoldable pub passing : (ℕ → ℕ) → ℕ → ℕ → ℕ → Bool
 passing refuse w zero v = true
 passing refuse w (suc k) v = eqb (refuse (v % 2 ^ w)) 0 && passing refuse w k (v / 2 ^ w)
+
+-- number of services and services in 24 bits: their width, or 0 if one of them is refused
+unfoldable pub servicesIn : ℕ → ℕ
+servicesIn v =
+    pick (eqb (countRefusal (v / 2 ^ 21)) 0 && passing serviceRefusal 3 7 (v % 2 ^ 21 / 2 ^ (21 - 3 * (v / 2 ^ 21)))) (3 + 3 * (v / 2 ^ 21)) 0
 
 -- a part of a PDU in the bytes s that begins at a place ends at another, at most so many bits on, if that is inside the PDU
 pub record Ends (part : List Bool → Reached → Reached) (s : List ℕ) (at most end : ℕ) : Type 0 where

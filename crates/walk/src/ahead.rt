@@ -5,14 +5,14 @@ use grammar::site;
 use grammar::site::ListKind;
 use grammar::site::SS_TYPE;
 ghost use mathlib.Core.Path.{_≡_};
-ghost use Prim.Native.Nat.{_+_, _*_, _≤_, _<_};
+ghost use Prim.Native.Nat.{_+_, _*_, _^_, _≤_, _<_};
 ghost use lib.ListN.{length, take};
 ghost use Rattle.bits.specs.Bits.{bits};
 ghost use Rattle.grammar.specs.SiteSheet.{serviceRefusal};
-ghost use Rattle.grammar.specs.Grammar.{identity, identities, external, externals, interrogate, interrogateAck, partOf};
+ghost use Rattle.grammar.specs.Grammar.{identity, identities, external, externals, partOf, define, interrogate, interrogateAck};
 ghost use Rattle.grammar.specs.declared.site.ListKind.the-variants as of;
 ghost use Rattle.codec.specs.declared.Reached.the-variants as reached;
-ghost use Rattle.walk.specs.Inner.{pass, steps, range, coded, passing, resultFrom, resultIn, Ends, Finds};
+ghost use Rattle.walk.specs.Inner.{pass, steps, range, coded, passing, servicesIn, resultFrom, resultIn, Ends, Finds};
 
 // So far beyond its start that no PDU has it, a part ends that is not legal.
 const BEYOND: usize = 4097;
@@ -173,15 +173,15 @@ fn externals_ahead(s: &[u8], start: usize) -> usize
     numbers_ahead(s, start + 4, code)
 }
 
-// The lists that an interrogation result provides.
-fn part_ahead(s: &[u8], start: usize, result: u32) -> usize
+// The lists of a part.
+fn part_ahead(s: &[u8], start: usize, part: u32) -> usize
     requires { ⌜ start ≤ 100000 ⌝ }
-    ensures { λ r. ⌜ Ends (pass (partOf result)) (now (s .entry)) start 69661 r ⌝ }
+    ensures { λ r. ⌜ Ends (pass (partOf part)) (now (s .entry)) start 69661 r ⌝ }
 {
-    if result == 1 {
+    if part == 1 {
         return list_ahead(s, list_ahead(s, list_ahead(s, start)));
     }
-    if result == 2 {
+    if part == 2 {
         return externals_ahead(s, externals_ahead(s, list_ahead(s, start)));
     }
     start
@@ -200,6 +200,47 @@ fn are_services(list: u64) -> bool
     list & 0x124924 == 0
 }
 
+// The width of the number of services and the services, in 24 bits that begin with them; 0 if one of them is refused.
+fn services_in(run: u64) -> usize
+    requires { ⌜ run < 2 ^ 24 ⌝ }
+    ensures { λ r. ⌜ (r ≡ servicesIn run) × (r ≤ 24) ⌝ }
+{
+    let count = (run >> 21u32) as usize;
+    if site::between_refusal(1, 7, count as u32) != 0 {
+        return 0;
+    }
+    if !are_services((run % 2097152) >> (21 - 3 * count)) {
+        return 0;
+    }
+    3 + 3 * count
+}
+
+// What follows the affected users in a DEFINE: all up to the lists stands in one window.
+fn define_ahead(s: &[u8], start: usize) -> Ahead
+    requires { ⌜ start ≤ 10000 ⌝ }
+    ensures { λ r. ⌜ Finds (λ l. resultFrom define l (reached.At (record { at = start }))) (now (s .entry)) start (r .result) (r .end) ⌝ }
+{
+    let window = bits::window(s, start);
+    let delivery = (window >> 56u32) as u32;
+    let acknowledgement = ((window >> 55u32) % 2) as u32;
+    let definition = ((window >> 53u32) % 4) as u32;
+    let services_width = services_in((window >> 29u32) % 16777216);
+    if site::between_refusal(0, delivery, acknowledgement) != 0 {
+        return beyond(start);
+    }
+    if site::between_refusal(0, 2, definition) != 0 {
+        return beyond(start);
+    }
+    if services_width == 0 {
+        return beyond(start);
+    }
+    let part = site::defined_part(1, definition);
+    Ahead {
+        result: 0,
+        end: part_ahead(s, start + 4 + services_width, part),
+    }
+}
+
 // What follows the affected users in an INTERROGATE ACK: all up to the lists stands in one window.
 fn ack_ahead(s: &[u8], start: usize) -> Ahead
     requires { ⌜ start ≤ 10000 ⌝ }
@@ -207,19 +248,16 @@ fn ack_ahead(s: &[u8], start: usize) -> Ahead
 {
     let window = bits::window(s, start);
     let result = (window >> 54u32) as u32;
-    let count = ((window >> 49u32) % 8) as usize;
+    let services_width = services_in((window >> 28u32) % 16777216);
     if site::result_refusal(result) != 0 {
         return beyond(start);
     }
-    if site::between_refusal(1, 7, count as u32) != 0 {
-        return beyond(start);
-    }
-    if !are_services((window % 562949953421312) >> (49 - 3 * count)) {
+    if services_width == 0 {
         return beyond(start);
     }
     Ahead {
         result,
-        end: part_ahead(s, start + 8 + 3 * count, result),
+        end: part_ahead(s, start + 5 + services_width, result),
     }
 }
 
@@ -248,10 +286,12 @@ fn beyond(start: usize) -> Ahead
     }
 }
 
-// The first 11 bits of an INTERROGATE ACK and of an INTERROGATE: SS type and PDU type.
-const ACK: u64 = (SS_TYPE as u64) * 32 + 12;
+// The first 11 bits of each PDU: SS type and PDU type.
+const DEFINE: u64 = (SS_TYPE as u64) * 32 + 5;
 
 const INTERROGATE: u64 = (SS_TYPE as u64) * 32 + 11;
+
+const ACK: u64 = (SS_TYPE as u64) * 32 + 12;
 
 // The whole of a PDU.
 pub(crate) fn pdu_ahead(s: &[u8]) -> Ahead
@@ -269,6 +309,9 @@ pub(crate) fn pdu_ahead(s: &[u8]) -> Ahead
     }
     if kind == INTERROGATE {
         return interrogate_ahead(s, users);
+    }
+    if kind == DEFINE {
+        return define_ahead(s, users);
     }
     beyond(0)
 }

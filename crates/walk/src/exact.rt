@@ -13,7 +13,7 @@ ghost use Rattle.codec.specs.Parts.{element};
 ghost use Rattle.codec.specs.Reading.{resume, readAt};
 ghost use Rattle.codec.proofs.Onward.{placed};
 ghost use Rattle.grammar.specs.SiteSheet.{digitRefusal, serviceRefusal};
-ghost use Rattle.grammar.specs.Grammar.{identity, identities, external, externals, services, interrogate, interrogateAck, partOf};
+ghost use Rattle.grammar.specs.Grammar.{identity, identities, external, externals, services, partOf, define, interrogate, interrogateAck};
 ghost use Rattle.walk.specs.Inner.{pass, steps, range, resultFrom, resultIn};
 
 // An identity, and where reading then stands; it says nothing beside a refusal.
@@ -172,16 +172,16 @@ fn pass_externals(s: &[u8], n: BitCount, start: Reached) -> Reached
     number_list(s, n, after, row.entries)
 }
 
-// The lists that an interrogation result provides.
-fn pass_part(s: &[u8], n: BitCount, start: Reached, result: u32) -> Reached
-    ensures { λ r. ⌜ r ≡ pass (partOf result) (bitsIn (n .0) (now (s .entry))) start ⌝ }
+// The lists of a part.
+fn pass_part(s: &[u8], n: BitCount, start: Reached, part: u32) -> Reached
+    ensures { λ r. ⌜ r ≡ pass (partOf part) (bitsIn (n .0) (now (s .entry))) start ⌝ }
 {
-    if result == 1 {
+    if part == 1 {
         let groups = pass_identities(s, n, start, ListKind::Identities);
         let restricted = pass_identities(s, n, groups, ListKind::Identities);
         return pass_identities(s, n, restricted, ListKind::Identities);
     }
-    if result == 2 {
+    if part == 2 {
         let groups = pass_identities(s, n, start, ListKind::Identities);
         let numbers = pass_externals(s, n, groups);
         return pass_externals(s, n, numbers);
@@ -189,7 +189,7 @@ fn pass_part(s: &[u8], n: BitCount, start: Reached, result: u32) -> Reached
     start
 }
 
-// The whole of a PDU, and its interrogation result, 0 for an INTERROGATE.
+// The whole of a PDU, and its interrogation result, 0 where it has none.
 pub(crate) fn pass_pdu(s: &[u8], n: BitCount) -> NumberRead
     ensures { λ r. ⌜ resultIn (bitsIn (n .0) (now (s .entry))) ≡ placed (r .reached) (r .value) ⌝ }
 {
@@ -201,10 +201,41 @@ pub(crate) fn pass_pdu(s: &[u8], n: BitCount) -> NumberRead
     let kind = codec::tested(after_ss, kind_read, site::kind_refusal(kind_read.value));
     let after_kind = kind.reached;
     let users = pass_identities(s, n, after_kind, ListKind::Users);
+    if kind.value == 5 {
+        return pass_define(s, n, users);
+    }
     if kind.value == 11 {
         return pass_interrogate(s, n, users);
     }
     pass_interrogate_ack(s, n, users)
+}
+
+// What follows the affected users in a DEFINE (table 10).
+fn pass_define(s: &[u8], n: BitCount, start: Reached) -> NumberRead
+    ensures { λ r. ⌜ resultFrom define (bitsIn (n .0) (now (s .entry))) start ≡ placed (r .reached) (r .value) ⌝ }
+{
+    let delivery = codec::number(s, n, start, 1);
+    let after_delivery = delivery.reached;
+    let acknowledgement_read = codec::number(s, n, after_delivery, 1);
+    let acknowledgement = codec::tested(
+        after_delivery,
+        acknowledgement_read,
+        site::between_refusal(0, delivery.value, acknowledgement_read.value),
+    );
+    let after_acknowledgement = acknowledgement.reached;
+    let definition_read = codec::number(s, n, after_acknowledgement, 2);
+    let definition = codec::tested(
+        after_acknowledgement,
+        definition_read,
+        site::between_refusal(0, 2, definition_read.value),
+    );
+    let after_definition = definition.reached;
+    let lists = pass_services(s, n, after_definition);
+    let end = pass_part(s, n, lists, site::defined_part(1, definition.value));
+    NumberRead {
+        reached: end,
+        value: 0,
+    }
 }
 
 // What follows the affected users in an INTERROGATE (table 16).
@@ -227,9 +258,9 @@ fn pass_interrogate_ack(s: &[u8], n: BitCount, start: Reached) -> NumberRead
     let read = codec::number(s, n, start, 3);
     let result = codec::tested(start, read, site::result_refusal(read.value));
     let after_result = result.reached;
-    let delivery = codec::number(s, n, after_result, 2);
-    let after_delivery = delivery.reached;
-    let lists = pass_services(s, n, after_delivery);
+    let status = codec::number(s, n, after_result, 2);
+    let after_status = status.reached;
+    let lists = pass_services(s, n, after_status);
     let end = pass_part(s, n, lists, result.value);
     NumberRead {
         reached: end,

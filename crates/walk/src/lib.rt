@@ -25,7 +25,7 @@ pub struct Refusal {
     pub place: BitPlace,
 }
 
-// What steers the reading of a PDU: PDU type, range type of the affected users, the first of them, interrogation result.
+// What steers the reading of a PDU: PDU type, range type of the affected users, the first of them, interrogation result (0 where it has none).
 pub struct Head {
     pub kind: u32,
     pub code: u32,

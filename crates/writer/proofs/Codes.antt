@@ -16,6 +16,7 @@ use Rattle.bits.proofs.Lists.{take-used}
 use Rattle.codec.specs.Parts.{number, absent, element, seq, tested, shaped}
 use Rattle.codec.specs.Places.{nil, cons, places}
 use Rattle.grammar.specs.Grammar.{external, services}
+use Rattle.grammar.specs.declared.record.Services.{Services}
 use Rattle.words.specs.RecordWords.{word, narrow, narrowed}
 use Rattle.words.proofs.LegalRecords.{Small, SmallNumber}
 use Rattle.tally.proofs.Words.{numberAt, servicesAt}
@@ -200,19 +201,26 @@ module _ (s : List ℕ) (at : ℕ) (long : at + 25 ≤ length s) (small : SmallN
 
 -- ---- services
 
--- five bits, the number of services, and as many of them
-pub services-run : (s : List ℕ) (at used lead x : ℕ) → at + 8 ≤ length s → used ≡ min (word s at) 7
+-- a lead of k bits, the number of services, and as many of them
+pub services-run : (s : List ℕ) (at used k lead x : ℕ) → at + 8 ≤ length s → used ≡ min (word s at) 7
     → CodesAfter 3 7 (lead * 8 + word s at % 8) (take 7 (drop (at + 1) s)) x
-    → seq (number 5) (λ v. services) .print (lead, servicesAt s at) ≡ bitsOf (8 + 3 * used) (x / 2 ^ (21 - 3 * used))
+    → seq (number k) (λ v. services) .print (lead, servicesAt s at) ≡ bitsOf (k + 3 + 3 * used) (x / 2 ^ (21 - 3 * used))
 unfolding services shaped seq element tested number
-services-run s at used lead x long few hx =
+services-run s at used k lead x long few hx =
     let n : ℕ = word s at in
     let v : List ℕ = drop (at + 1) s in
     let codes : List Bool = codeBits 3 (take used v) in
     let full : length (take 7 v) ≡ 7 = length-take-le 7 v (omega (arith, length-drop (at + 1) s)) in
-    ap (λ (l : List Bool). bitsOf 5 lead ++ (bitsOf 3 n ++ l))
+    ap (λ (l : List Bool). bitsOf k lead ++ (bitsOf 3 n ++ l))
     (print-codes 3 _ 7 n (take 7 v) full
     ∙ ap (codeBits 3) (sym (take-used (take 7 v) n full few) ∙ take-take used 7 v (omega arith)))
-    ∙ sym (append-assoc (bitsOf 5 lead) (bitsOf 3 n) codes)
-    ∙ ap (λ (l : List Bool). l ++ codes) (sym (bitsOf-join 5 3 lead n))
-    ∙ sym (first-codes 3 7 (21 - 3 * used) v used (lead * 8 + n % 8) x (omega arith) (omega (arith, length-drop (at + 1) s)) (omega arith) hx 8)
+    ∙ sym (append-assoc (bitsOf k lead) (bitsOf 3 n) codes)
+    ∙ ap (λ (l : List Bool). l ++ codes) (sym (bitsOf-join k 3 lead n))
+    ∙ sym (first-codes 3 7 (21 - 3 * used) v used (lead * 8 + n % 8) x (omega arith) (omega (arith, length-drop (at + 1) s)) (omega arith) hx
+    (k + 3))
+
+-- elements that are the bits of a lead, before the services and what follows them
+pub services-led : (k lead : ℕ) (s : Services) {front : List Bool} (last : List Bool) → front ≡ bitsOf k lead
+    → front ++ (services .print s ++ last) ≡ seq (number k) (λ v. services) .print (lead, s) ++ last
+unfolding seq number
+services-led k lead s last e = ap (λ (l : List Bool). l ++ (services .print s ++ last)) e ∙ sym (append-assoc (bitsOf k lead) (services .print s) last)

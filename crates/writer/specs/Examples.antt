@@ -1,4 +1,4 @@
--- Writing worked out by antt: profile A and the INTERROGATE of document 01's P13 and P14, the order of refusals, and words.
+-- Writing worked out by antt: profile A and the INTERROGATE of document 01's P13 and P14, the order of refusals, DEFINE, and words.
 use mathlib.Core.Path.{_≡_, refl}
 use mathlib.Core.List.{List, [], _∷_, _++_}
 use Prim.Native.Nat.{ℕ}
@@ -46,9 +46,12 @@ reversed excepted = record {
   affected = record { code = 9; entries = user 200 ∷ user 199 ∷ replicate 6 zeroIdentity };
   asked = 0;
   result = 1;
-  delivery = 0;
+  status = 0;
   services = record { count = 1; list = 1 ∷ replicate 6 0 };
   lists = record { groups = zeroIdentities; restricted = zeroIdentities; exceptions = zeroIdentities; numbers = zeroNumbers; excepted = excepted };
+  delivery = 0;
+  acknowledgement = 0;
+  definition = 0;
 }
 
 -- 4, before 8
@@ -73,9 +76,12 @@ typed kind = record {
   affected = record { code = 1; entries = user 5 ∷ replicate 7 zeroIdentity };
   asked = 1;
   result = 0;
-  delivery = 0;
+  status = 0;
   services = zeroServices;
   lists = zeroLists;
+  delivery = 0;
+  acknowledgement = 0;
+  definition = 0;
 }
 
 types : (answer (typed 11) ≡ Bits (record { 0 = 42 }))
@@ -89,14 +95,17 @@ types = (refl, refl, refl, refl, refl, refl)
 
 -- a failed ACK for affected users, with this result, delivery status and service
 abbrev told : Identities → ℕ → ℕ → ℕ → Record
-told affected result delivery service = record {
+told affected result status service = record {
   kind = 12;
   affected = affected;
   asked = 0;
   result = result;
-  delivery = delivery;
+  status = status;
   services = record { count = 1; list = service ∷ replicate 6 0 };
   lists = zeroLists;
+  delivery = 0;
+  acknowledgement = 0;
+  definition = 0;
 }
 
 abbrev pair : ℕ → ℕ → ℕ → Identities
@@ -118,6 +127,47 @@ too-wide : (answer (told (pair 2 16777215 0) 0 3 0) ≡ Bits (record { 0 = 76 })
 unfolding writing
 too-wide = (refl, refl, refl)
 
+-- a DEFINE of service 1 for affected users: delivery, acknowledgement, definition type, groups
+abbrev defining : Identities → ℕ → ℕ → ℕ → Identities → Record
+defining affected delivery acknowledgement definition groups = record {
+  kind = 5;
+  affected = affected;
+  asked = 0;
+  result = 0;
+  status = 0;
+  services = record { count = 1; list = 1 ∷ replicate 6 0 };
+  lists = record { groups = groups; restricted = zeroIdentities; exceptions = zeroIdentities; numbers = zeroNumbers; excepted = zeroNumbers };
+  delivery = delivery;
+  acknowledgement = acknowledgement;
+  definition = definition;
+}
+
+-- an addition has its range types though all lists are empty, a removal has none
+define-lengths : (answer (defining (pair 2 5 6) 1 1 0 zeroIdentities) ≡ Bits (record { 0 = 87 }))
+    × (answer (defining (pair 2 5 6) 1 1 0 (pair 2 8 9)) ≡ Bits (record { 0 = 137 }))
+    × (answer (defining (pair 2 5 6) 1 1 2 zeroIdentities) ≡ Bits (record { 0 = 75 }))
+unfolding writing
+define-lengths = (refl, refl, refl)
+
+-- delivery is the first of its four bits, acknowledgement the second, and the definition type the others
+define-bytes : outIs (defining (pair 1 5 0) 1 0 2 zeroIdentities) (replicate 7 0xff) ≡ 0x48 ∷ 0xa2 ∷ 0x00 ∷ 0x00 ∷ 0x0a ∷ 0xa2 ∷ 0x40 ∷ []
+unfolding writing
+define-bytes = refl
+
+-- an acknowledgement without delivery, definition type 3, and a delivery wider than its element: 3
+define-codes : (answer (defining (pair 2 5 6) 0 1 0 zeroIdentities) ≡ Refused 3)
+    × (answer (defining (pair 2 5 6) 1 1 3 zeroIdentities) ≡ Refused 3)
+    × (answer (defining (pair 2 5 6) 2 1 0 zeroIdentities) ≡ Refused 3)
+unfolding writing
+define-codes = (refl, refl, refl)
+
+-- groups under removal: 3, also before the 4 of reversed users; a removal of reversed users without them: 4
+define-removal : (answer (defining (pair 2 5 6) 1 1 2 (pair 2 8 9)) ≡ Refused 3)
+    × (answer (defining (pair 9 6 5) 1 1 2 (pair 2 8 9)) ≡ Refused 3)
+    × (answer (defining (pair 9 6 5) 1 1 2 zeroIdentities) ≡ Refused 4)
+unfolding writing
+define-removal = (refl, refl, refl)
+
 -- a refusal changes no byte
 nothing-written : outIs (told (pair 9 200 199) 0 0 0) (replicate 12 0xff) ≡ replicate 12 0xff
 unfolding writing
@@ -128,7 +178,7 @@ nothing-written = refl
 -- an ACK for user 5 with service 1 and one restricted number: its length and the digit 1
 abbrev oneNumber : ℕ → List ℕ
 oneNumber length =
-    12 ∷ 1 ∷ 5 ∷ replicate 23 0 ++ (0 ∷ 2 ∷ 0 ∷ 1 ∷ 1 ∷ replicate 81 0 ++ (1 ∷ length ∷ 1 ∷ replicate 399 0))
+    12 ∷ 1 ∷ 5 ∷ replicate 23 0 ++ (0 ∷ 2 ∷ 0 ∷ 1 ∷ 1 ∷ replicate 81 0 ++ (1 ∷ length ∷ 1 ∷ replicate 402 0))
 
 from-words : writeWordsIs (oneNumber 1) (replicate 9 0) ≡ Bits (record { 0 = 72 })
 unfolding writing records writeWordsIs

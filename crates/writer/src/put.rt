@@ -2,6 +2,7 @@
 use bits::DigitCount;
 use grammar::site::RangeType;
 use grammar::site::SS_TYPE;
+use grammar::site::defined_part;
 use grammar::site::range_type;
 ghost use mathlib.Core.Path.{_≡_};
 ghost use Prim.Native.Nat.{ℕ, _+_, _*_, _^_, _≤_, _<_};
@@ -11,7 +12,7 @@ ghost use Rattle.codec.specs.Parts.{number, seq};
 ghost use Rattle.codec.specs.Places.{places};
 ghost use Rattle.grammar.specs.SiteSheet.{entriesOf};
 ghost use Rattle.grammar.specs.Grammar.{identity, noIdentity, identities, external, noExternal, externals, services};
-ghost use Rattle.grammar.specs.Grammar.{identityPart, numberPart, partOf, interrogateAck, fromRecord, pdu};
+ghost use Rattle.grammar.specs.Grammar.{identityPart, numberPart, partOf, define, interrogateAck, fromRecord, pdu};
 ghost use Rattle.grammar.specs.declared.site.ListKind.the-variants as of;
 ghost use Rattle.words.specs.RecordWords.{entriesFrom, identityFrom, identitiesFrom, numberFrom, numbersFrom, servicesFrom, listsFrom, recordFrom};
 ghost use Rattle.words.proofs.LegalRecords.{SmallNumber};
@@ -232,21 +233,28 @@ fn put_numbers(out: &mut [u8], at: usize, words: &[u32], from: usize) -> usize
 
 // ---- services
 
-// Five bits, the number of services, and as many services, as one run.
-fn put_services(out: &mut [u8], at: usize, lead: u32, words: &[u32], from: usize) -> usize
-    requires { ⌜ (lead < 32) × (from + 8 ≤ length (now words)) × Room (seq (number 5) (λ x. services)) (lead, servicesFrom (drop from (now words))) (now out) at ⌝ }
-    ensures { λ r. ⌜ Puts (seq (number 5) (λ x. services)) (lead, servicesFrom (drop from (now (words .entry)))) (now (out .entry)) (now (out .exit)) at r ⌝ }
+// The low bits of a lead, up to five; the number of services, and as many services: one run.
+fn put_services(
+    out: &mut [u8],
+    at: usize,
+    lead: u32,
+    width: usize,
+    words: &[u32],
+    from: usize,
+) -> usize
+    requires { ⌜ (lead < 32) × (width ≤ 5) × (from + 8 ≤ length (now words)) × Room (seq (number width) (λ x. services)) (lead, servicesFrom (drop from (now words))) (now out) at ⌝ }
+    ensures { λ r. ⌜ Puts (seq (number width) (λ x. services)) (lead, servicesFrom (drop from (now (words .entry)))) (now (out .entry)) (now (out .exit)) at r ⌝ }
 {
     let count = words[from];
     let used_bits = 3 * bits::least(count as usize, 7);
     let start = (lead * 8 + count % 8) as u64;
     let run = with_codes(start, words, from + 1, 7, 8) >> (21 - used_bits);
-    put_run(out, at, 8 + used_bits, run)
+    put_run(out, at, width + 3 + used_bits, run)
 }
 
-// ---- the lists, by the interrogation result
+// ---- the lists, by their part
 
-// Accepted, TETRA identities provided.
+// Part 1: TETRA identities.
 fn put_identity_part(out: &mut [u8], at: usize, words: &[u32], from: usize) -> usize
     requires { ⌜ (from + 477 ≤ length (now words)) × Room identityPart (listsFrom (drop from (now words))) (now out) at ⌝ }
     ensures { λ r. ⌜ Puts identityPart (listsFrom (drop from (now (words .entry)))) (now (out .entry)) (now (out .exit)) at r ⌝ }
@@ -256,7 +264,7 @@ fn put_identity_part(out: &mut [u8], at: usize, words: &[u32], from: usize) -> u
     put_identities(out, after_restricted, words, from + 50)
 }
 
-// Accepted, external subscriber numbers provided.
+// Part 2: external subscriber numbers.
 fn put_number_part(out: &mut [u8], at: usize, words: &[u32], from: usize) -> usize
     requires { ⌜ (from + 477 ≤ length (now words)) × Small (listsFrom (drop from (now words))) × Room numberPart (listsFrom (drop from (now words))) (now out) at ⌝ }
     ensures { λ r. ⌜ Puts numberPart (listsFrom (drop from (now (words .entry)))) (now (out .entry)) (now (out .exit)) at r ⌝ }
@@ -266,42 +274,56 @@ fn put_number_part(out: &mut [u8], at: usize, words: &[u32], from: usize) -> usi
     put_numbers(out, after_numbers, words, from + 276)
 }
 
-// The part that the interrogation result says; any other result has none.
-fn put_part(out: &mut [u8], at: usize, result: u32, words: &[u32], from: usize) -> usize
-    requires { ⌜ (from + 477 ≤ length (now words)) × Small (listsFrom (drop from (now words))) × Room (partOf result) (listsFrom (drop from (now words))) (now out) at ⌝ }
-    ensures { λ r. ⌜ Puts (partOf result) (listsFrom (drop from (now (words .entry)))) (now (out .entry)) (now (out .exit)) at r ⌝ }
+// The part of this number; any other has no lists.
+fn put_part(out: &mut [u8], at: usize, part: u32, words: &[u32], from: usize) -> usize
+    requires { ⌜ (from + 477 ≤ length (now words)) × Small (listsFrom (drop from (now words))) × Room (partOf part) (listsFrom (drop from (now words))) (now out) at ⌝ }
+    ensures { λ r. ⌜ Puts (partOf part) (listsFrom (drop from (now (words .entry)))) (now (out .entry)) (now (out .exit)) at r ⌝ }
 {
-    if result == 1 {
+    if part == 1 {
         return put_identity_part(out, at, words, from);
     }
-    if result == 2 {
+    if part == 2 {
         return put_number_part(out, at, words, from);
     }
     at
 }
 
-// ---- the two PDUs
+// ---- the three PDUs
 
-// What follows the affected users in an INTERROGATE ACK; result, delivery status and services are one run.
+// What follows the affected users in a DEFINE; delivery, acknowledgement, definition type and services are one run.
+fn put_define(out: &mut [u8], at: usize, words: &[u32]) -> usize
+    requires { ⌜ (length (now words) ≡ 517) × Small (recordFrom (now words) .lists) × Room define (fromRecord (recordFrom (now words)) .1 .1) (now out) at ⌝ }
+    ensures { λ r. ⌜ Puts define (fromRecord (recordFrom (now (words .entry))) .1 .1) (now (out .entry)) (now (out .exit)) at r ⌝ }
+{
+    let definition = words[516];
+    let lead = (words[514] % 2) * 8 + (words[515] % 2) * 4 + definition % 4;
+    let after_services = put_services(out, at, lead, 4, words, 29);
+    put_part(out, after_services, defined_part(1, definition), words, 37)
+}
+
+// And in an INTERROGATE ACK; result, delivery status and services are one run.
 fn put_interrogate_ack(out: &mut [u8], at: usize, words: &[u32]) -> usize
-    requires { ⌜ (length (now words) ≡ 514) × Small (recordFrom (now words) .lists) × Room interrogateAck (fromRecord (recordFrom (now words)) .1 .1) (now out) at ⌝ }
+    requires { ⌜ (length (now words) ≡ 517) × Small (recordFrom (now words) .lists) × Room interrogateAck (fromRecord (recordFrom (now words)) .1 .1) (now out) at ⌝ }
     ensures { λ r. ⌜ Puts interrogateAck (fromRecord (recordFrom (now (words .entry))) .1 .1) (now (out .entry)) (now (out .exit)) at r ⌝ }
 {
     let result = words[27];
     let lead = (result % 8) * 4 + words[28] % 4;
-    let after_services = put_services(out, at, lead, words, 29);
+    let after_services = put_services(out, at, lead, 5, words, 29);
     put_part(out, after_services, result, words, 37)
 }
 
 // The whole record, from the first bit on: SS type, PDU type, affected users, and what follows them.
 pub(crate) fn put_record(out: &mut [u8], words: &[u32]) -> usize
-    requires { ⌜ (length (now words) ≡ 514) × Small (recordFrom (now words) .lists) × Room pdu (recordFrom (now words)) (now out) 0 ⌝ }
+    requires { ⌜ (length (now words) ≡ 517) × Small (recordFrom (now words) .lists) × Room pdu (recordFrom (now words)) (now out) 0 ⌝ }
     ensures { λ r. ⌜ Puts pdu (recordFrom (now (words .entry))) (now (out .entry)) (now (out .exit)) 0 r ⌝ }
 {
     let kind = words[0];
     let after_ss = put_element(out, 0, 6, SS_TYPE);
     let after_kind = put_element(out, after_ss, 5, kind);
     let after_users = put_identities(out, after_kind, words, 1);
+    if kind == 5 {
+        return put_define(out, after_users, words);
+    }
     if kind == 11 {
         return put_element(out, after_users, 2, words[26]);
     }

@@ -1,5 +1,6 @@
 -- SS type, PDU type, affected users, and what follows them by the PDU type. Assumes nothing.
 use mathlib.Core.Path.{refl}
+use Prim.Native.Nat.{ℕ}
 use borrow.Author.Tests.{eq-eqb, ne-eqb}
 use Rattle.codec.specs.Parts.{seq, element, mark, only}
 use Rattle.grammar.specs.SiteSheet.{ssType, kindRefusal}
@@ -8,8 +9,9 @@ use Rattle.grammar.specs.declared.record.Record.{Record}
 use Rattle.grammar.specs.declared.site.ListKind.the-variants.{Users}
 use Rattle.grammar.proofs.Sizes.{pdu-size}
 use Rattle.words.specs.RecordWords.{word, recordFrom}
-use Rattle.tally.specs.Tally.{nothing}
+use Rattle.tally.specs.Tally.{nothing, Tallies}
 use Rattle.tally.specs.Inner.{Fits}
+use Rattle.tally.specs.declared.Tally.{Tally}
 use Rattle.tally.proofs.Parts.{refusing, then, shape, fits-element, fits-first, fits-next, fits-shape}
 use borrow.Author.Needs.{needs}
 use native.Mathlib.Omega.{arith}
@@ -43,47 +45,57 @@ tally-identities-requires : tie.Need-tally-identities-requires
 unfolding recordFrom
 tally-identities-requires c κs = (omega arith, fits-first _ (after-kind c))
 
-tally-interrogate-requires : tie.Need-tally-interrogate-requires
+abbrev start : tie.After-tally-identities → tie.Start
+start c = c .before .before .before .before .before .before
+
+abbrev kind : tie.After-tally-identities → ℕ
+kind c = word (now (start c .args .words)) 0
+
+-- what follows the affected users
+after-users : (c : tie.After-tally-identities) →
+    Fits (restOf (kind c)) (fromRecord (recordFrom (now (start c .args .words))) .1 .1) (c .tally-identities .result)
 unfolding recordFrom
-tally-interrogate-requires c κs =
-    let b = c .before .before .before .before .before .before .before in
-    let h = fits-next _ (after-kind (c .before .before)) (c .before .tally-identities .ensures) in
-    (b .pre, rw (eq-eqb (word (now (b .args .words)) 0) 11 (c .if1 .taken)) at h)
+after-users c = fits-next _ (after-kind (c .before)) (c .tally-identities .ensures)
+
+-- and then the whole
+done : (c : tie.After-tally-identities) → let r = recordFrom (now (start c .args .words)) in (t : Tally)
+    → Tallies (restOf (kind c)) (fromRecord r .1 .1) (c .tally-identities .result) t → Tallies pdu r nothing t
+unfolding pdu mark recordFrom
+done c t h =
+    let k = c .before .before in
+    shape _ _ _ _ (then _ (refusing 6 (only ssType) (k .before .tally-element .ensures) refl)
+    (shape _ _ _ _ (then _ (refusing 5 kindRefusal (c .before .tally-element2 .ensures) (k .kind-refusal .ensures))
+    (then _ (c .tally-identities .ensures) h))))
+
+tally-define-requires : tie.Need-tally-define-requires
+tally-define-requires c κs = let u = c .before in (start u .pre, rw (eq-eqb (kind u) 5 (c .if1 .taken)) at (after-users u))
 
 returns : tie.Need-returns
-unfolding pdu mark recordFrom
-returns c =
-    let p = c .before .before .before in
-    let q = p .before in
-    let r = q .before in
-    let b = r .before .before .before in
-    shape _ _ _ _ (then _ (refusing 6 (only ssType) (r .tally-element .ensures) refl)
-    (shape _ _ _ _ (then _ (refusing 5 kindRefusal (p .tally-element2 .ensures) (q .kind-refusal .ensures))
-    (then _ (c .before .before .tally-identities .ensures)
-    (rw (eq-eqb (word (now (b .args .words)) 0) 11 (c .before .if1 .taken)) (c .tally-interrogate .ensures))))))
+returns c = let u = c .before .before in done u _ (rw (eq-eqb (kind u) 5 (c .before .if1 .taken)) (c .tally-define .ensures))
 
-tally-interrogate-ack-requires : tie.Need-tally-interrogate-ack-requires
-unfolding recordFrom
-tally-interrogate-ack-requires c κs =
-    let b = c .before .before .before .before .before .before .before in
-    let h = fits-next _ (after-kind (c .before .before)) (c .before .tally-identities .ensures) in
-    (b .pre, rw (ne-eqb (word (now (b .args .words)) 0) 11 (c .if1 .left)) at h)
+tally-interrogate-requires : tie.Need-tally-interrogate-requires
+tally-interrogate-requires c κs =
+    let u = c .before .before in
+    (start u .pre, rw (ne-eqb (kind u) 5 (c .before .if1 .left), eq-eqb (kind u) 11 (c .if2 .taken)) at (after-users u))
 
 returns-2 : tie.Need-returns-2
-unfolding pdu mark recordFrom
 returns-2 c =
-    let p = c .before .before .before in
-    let q = p .before in
-    let r = q .before in
-    let b = r .before .before .before in
-    shape _ _ _ _ (then _ (refusing 6 (only ssType) (r .tally-element .ensures) refl)
-    (shape _ _ _ _ (then _ (refusing 5 kindRefusal (p .tally-element2 .ensures) (q .kind-refusal .ensures))
-    (then _ (c .before .before .tally-identities .ensures)
-    (rw (ne-eqb (word (now (b .args .words)) 0) 11 (c .before .if1 .left)) (c .tally-interrogate-ack .ensures))))))
+    let u = c .before .before .before in
+    done u _ (rw (ne-eqb (kind u) 5 (c .before .before .if1 .left), eq-eqb (kind u) 11 (c .before .if2 .taken)) (c .tally-interrogate .ensures))
+
+tally-interrogate-ack-requires : tie.Need-tally-interrogate-ack-requires
+tally-interrogate-ack-requires c κs =
+    let u = c .before .before in
+    (start u .pre, rw (ne-eqb (kind u) 5 (c .before .if1 .left), ne-eqb (kind u) 11 (c .if2 .left)) at (after-users u))
+
+returns-3 : tie.Need-returns-3
+returns-3 c =
+    let u = c .before .before .before in
+    done u _ (rw (ne-eqb (kind u) 5 (c .before .before .if1 .left), ne-eqb (kind u) 11 (c .before .if2 .left)) (c .tally-interrogate-ack .ensures))
 
 pub tally-record-spec : {M : Type 1} → statement M
 tally-record-spec =
     tie.close
     (tie.spec
     (λ c. search needs) (λ c κs. search needs) (λ c κs. search needs) tally-element-requires-2 tally-identities-requires
-    tally-interrogate-requires returns tally-interrogate-ack-requires returns-2)
+    tally-define-requires returns tally-interrogate-requires returns-2 tally-interrogate-ack-requires returns-3)

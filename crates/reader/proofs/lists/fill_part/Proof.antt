@@ -1,4 +1,4 @@
--- The result decides which part follows. Assumes nothing.
+-- Each part has its own lists. Assumes nothing.
 use mathlib.Core.Path.{refl, ap}
 use Prim.Native.Nat.{ℕ}
 use borrow.Author.Needs.{needs}
@@ -28,7 +28,7 @@ unfolding records
 returns-3 c =
     let z = c .before .before in let n = z .before .before in
     let a = n .before .before .before .before .args in
-    rw (ne-eqb (a .result) 1 (n .before .if1 .left), ne-eqb (a .result) 2 (n .if2 .left))
+    rw (ne-eqb (a .part) 1 (n .before .if1 .left), ne-eqb (a .part) 2 (n .if2 .left))
     (none-fill noPart listsWords zeroLists (noPart-at _ _) refl (z .zero-words .ensures))
 
 pub fill-part-spec : {M : Type 1} → statement M

@@ -3,7 +3,7 @@ use mathlib.Core.Path.{sym, ap, _∙_}
 use Prim.Native.Nat.{ℕ, _/_, _^_}
 use borrow.Author.Needs.{needs}
 use Rattle.walk.proofs.Aheads.{found-off}
-use Rattle.walk.proofs.Sights.{asked-finds}
+use Rattle.walk.proofs.Following.{asked-finds}
 use Rattle.walk.proofs.ahead.interrogate_ahead.Statement.{statement}
 use Rattle.walk.proofs.ahead.interrogate_ahead.Tie as tie
 

@@ -29,8 +29,8 @@ returns-2 c =
 returns-3 : tie.Need-returns-3
 returns-3 c =
     let e = c .before in
-    let result = e .before .before .args .result in
-    rw (ne-eqb result 1 (e .if1 .left), ne-eqb result 2 (c .if2 .left)) (record {
+    let part = e .before .before .args .part in
+    rw (ne-eqb part 1 (e .if1 .left), ne-eqb part 2 (c .if2 .left)) (record {
       after = omega arith;
       near = omega arith;
       there = λ n few i. pass-nothing noPart zeroLists _ (noPart-at _) _;

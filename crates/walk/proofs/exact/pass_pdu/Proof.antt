@@ -30,14 +30,18 @@ after-users c =
     ∙ past _ _ _ _ _ (c .pass-identities .ensures)
 
 returns : tie.Need-returns
-returns c = let t = c .before in rw (after-users (t .before .before), t .if1 .taken) (c .pass-interrogate .ensures)
+returns c = let t = c .before in rw (after-users (t .before .before), t .if1 .taken) (c .pass-define .ensures)
 
 returns-2 : tie.Need-returns-2
-returns-2 c =
-    let e = c .before in let u = e .before .before in
-    rw (after-users u, ne-eqb (u .before .tested2 .result .value) 11 (e .if1 .left)) (c .pass-interrogate-ack .ensures)
+returns-2 c = let t = c .before in rw (after-users (t .before .before .before .before), t .if2 .taken) (c .pass-interrogate .ensures)
+
+returns-3 : tie.Need-returns-3
+returns-3 c =
+    let e = c .before in let d = e .before .before in let u = d .before .before in
+    let kind = u .before .tested2 .result .value in
+    rw (after-users u, ne-eqb kind 5 (d .if1 .left), ne-eqb kind 11 (e .if2 .left)) (c .pass-interrogate-ack .ensures)
 
 pub pass-pdu-spec : {M : Type 1} → statement M
 pass-pdu-spec =
     tie.close (tie.spec (λ c κs. search needs) (λ c κs. search needs) (λ c κs. search needs) (λ c κs. search needs) (λ c κs. search needs)
-    (λ c κs. search needs) (λ c κs. search needs) (λ c κs. search needs) returns (λ c κs. search needs) returns-2)
+    (λ c κs. search needs) (λ c κs. search needs) (λ c κs. search needs) returns (λ c κs. search needs) returns-2 (λ c κs. search needs) returns-3)

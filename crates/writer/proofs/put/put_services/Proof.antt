@@ -1,4 +1,4 @@
--- Five bits, the number of services and the services are one run. Assumes nothing.
+-- The lead, the number of services and the services are one run. Assumes nothing.
 use mathlib.Core.Path.{_≡_, refl}
 use Prim.Native.Nat.{_+_, _*_, _-_, _/_, _^_}
 use Rattle.bits.specs.Bits.{bitsOf}
@@ -14,16 +14,17 @@ use denote.Ref.{now}
 use Rattle.writer.proofs.put.put_services.Statement.{statement}
 use Rattle.writer.proofs.put.put_services.Tie as tie
 
-room : (c : tie.Start) → Room (seq (number 5) (λ x. services)) (c .args .lead, servicesAt (now (c .args .words)) (c .args .from)) (now (c .args .out))
-    (c .args .at)
-room c = rw services-at at (c .pre .2)
+room : (c : tie.Start) → let a = c .args in
+    Room (seq (number (a .width)) (λ x. services)) (a .lead, servicesAt (now (a .words)) (a .from)) (now (a .out)) (a .at)
+room c = rw services-at at (c .pre .3)
 
 whole : (c : tie.After-with-codes) → let used = c .before .least .result in let a = c .before .before .before .before .before .args in
-    seq (number 5) (λ x. services) .print (a .lead, servicesAt (now (a .words)) (a .from))
-    ≡ bitsOf (8 + 3 * used) (c .with-codes .result / 2 ^ (21 - 3 * used))
+    seq (number (a .width)) (λ x. services) .print (a .lead, servicesAt (now (a .words)) (a .from))
+    ≡ bitsOf (a .width + 3 + 3 * used) (c .with-codes .result / 2 ^ (21 - 3 * used))
 whole c =
     let b = c .before .before .before .before .before in
-    services-run (now (b .args .words)) (b .args .from) _ (b .args .lead) _ (b .pre .1) (c .before .least .ensures) (c .with-codes .ensures 3 refl)
+    services-run (now (b .args .words)) (b .args .from) _ (b .args .width) (b .args .lead) _ (b .pre .2) (c .before .least .ensures)
+    (c .with-codes .ensures 3 refl)
 
 lead-fits : tie.Need-mul-start
 lead-fits c = omega (arith, c .before .before .before .before .pre .0)
@@ -34,12 +35,12 @@ lead-fits-2 c = omega (arith, c .before .before .before .before .pre .0)
 with-codes-requires : tie.Need-with-codes-requires
 with-codes-requires c κs =
     let p = c .before .before .before .before in
-    (omega (arith, p .pre .0), omega arith, omega arith, omega arith, omega (arith, p .pre .1))
+    (omega (arith, p .pre .0), omega arith, omega arith, omega arith, omega (arith, p .pre .2))
 
 put-run-requires : tie.Need-put-run-requires
 put-run-requires c κs =
     let p = c .before .before .before .before .before .before in
-    (omega (arith, c .before .before .least .ensures), room-run _ _ (whole (c .before)) (room p))
+    (omega (arith, c .before .before .least .ensures, p .pre .1), room-run _ _ (whole (c .before)) (room p))
 
 returns : tie.Need-returns
 returns c = rw services-at (put-as-run _ _ (whole (c .before .before .before .before)) (c .before .before .put-run .ensures))
@@ -51,4 +52,4 @@ put-services-spec =
     (λ c. search needs) (λ c. search needs)
     (λ c. omega (arith, c .shared-slice-known2 .given (c .before .before .before .args .from) .fits)) (λ c κs. search needs)
     (λ c. search needs) lead-fits lead-fits-2 (λ c. search needs) (λ c. search needs) with-codes-requires (λ c. search needs) (λ c. search needs)
-    (λ c. search needs) put-run-requires (λ c. search needs) returns)
+    (λ c. search needs) (λ c. search needs) put-run-requires (λ c. search needs) returns)
