@@ -36,7 +36,7 @@ pub struct Entry {
 }
 
 // Whether a user and part are in range.
-pub(crate) fn in_range(key: Key) -> bool
+pub fn in_range(key: Key) -> bool
     ensures { λ r. ⌜ r ≡ inRange key ⌝ }
 {
     if 16777216 <= key.network {

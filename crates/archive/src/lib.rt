@@ -12,6 +12,7 @@ pub use checking::check;
 use contents::Entry;
 pub use contents::Key;
 pub use contents::home;
+pub use contents::in_range;
 use filing::Filing;
 pub use refusal::EntryPlace;
 pub use refusal::Refusal;
@@ -36,7 +37,7 @@ pub enum Stored {
     Refused(Refusal),
 }
 
-// The length in bits of a PDU that was restored, or a refusal.
+// The length in bits of a PDU that was written from an archive, or a refusal.
 pub enum Restored {
     Bits(BitCount),
     Refused(Refusal),
@@ -111,7 +112,7 @@ pub fn fetch(archive: &[u8], key: Key) -> Fetched
     if let Checked::Refused(refusal) = checked {
         return Fetched::Refused(refusal);
     }
-    if !contents::in_range(key) {
+    if !in_range(key) {
         return Fetched::NotHeld;
     }
     let place = checking::find(archive, key);
@@ -142,7 +143,7 @@ pub fn restore(archive: &[u8], key: Key, out: &mut [u8]) -> Restored
     ensures { λ r. ⌜ r ≡ restoreIs (now (archive .entry)) key (length (now (out .entry))) ⌝ }
     ensures { λ _. ⌜ now (out .exit) ≡ restoreOut (now (archive .entry)) key (now (out .entry)) ⌝ }
 {
-    if !contents::in_range(key) {
+    if !in_range(key) {
         return Restored::Refused(refusal::plain(9));
     }
     let found = fetch(archive, key);

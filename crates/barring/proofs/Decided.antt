@@ -1,5 +1,5 @@
 -- A request in range asks for a user and part in range, and what is fetched for it is the part held. Assumes nothing.
-use mathlib.Core.Path.{_≡_, refl, sym, ap, ap₂, _∙_, subst}
+use mathlib.Core.Path.{_≡_, refl, sym, ap, ap₂, _∙_}
 use mathlib.Core.Bool.{Bool, true, false, _&&_}
 use mathlib.Core.List.{List}
 use Prim.Native.Nat.{ℕ, _+_, _≤_}
@@ -8,7 +8,7 @@ use lib.ListN.{length, take, drop}
 use lib.Dec.{leb, ltb}
 use Rattle.bits.specs.Bits.{pick}
 use Rattle.bits.specs.Frame.{bytesFor}
-use Rattle.bits.proofs.Tests.{never, both}
+use Rattle.bits.proofs.Tests.{both}
 use Rattle.bits.specs.declared.BitCount.{BitCount}
 use Rattle.reader.specs.Read.{readIs}
 use Rattle.rules.specs.Request.{requestRefusal, isUser}
@@ -24,10 +24,9 @@ use Rattle.archive.specs.declared.Fetched.the-variants.{Body}
 use Rattle.archive.specs.declared.Fetched.the-variants as fetched
 use Rattle.archive.specs.Checking.{checkIs}
 use Rattle.archive.specs.declared.refusal.Refusal.{Refusal}
-use Rattle.archive.specs.declared.checking.Checked.{Checked}
 use Rattle.archive.specs.declared.checking.Checked.the-variants as checked
-use Rattle.archive.proofs.Model.Checked.{archive-checked, checked-archive}
-use Rattle.archive.proofs.Calls.Fetch.{Right, BodyIs, fetch-right, fetch-none}
+use Rattle.archive.proofs.Model.Checked.{archive-checked}
+use Rattle.archive.proofs.Calls.Fetch.{BodyIs, fetch-damaged, fetch-missing, fetch-found}
 use Rattle.archive.proofs.Calls.Capture.{home-read}
 use Rattle.barring.specs.Decision.{decisionOf}
 use Rattle.barring.specs.Decide.{partFor, judgedBy, keyFor, partIn, decideIs}
@@ -54,30 +53,17 @@ unfolding decideIs
 not-archive b q e a = rw (e, a)
 
 module _ (b : List ℕ) (q : Request) (e : requestRefusal q ≡ 0) where
-  abbrev pub fetchedFor : Fetched
+  abbrev fetchedFor : Fetched
   fetchedFor = fetchIs b (keyFor q)
 
-  module _ (a : isArchive b ≡ true) where
-    pub decide-held : decideIs b q ≡ judgedBy (reading b .home) q (partIn b q)
-    unfolding decideIs
-    decide-held = rw (e, archive-checked b a)
-
-    found : Right b fetchedFor (partIn b q)
-    found = fetch-right b _ a (request-ranged q e)
-
-  found-as : (f : Fetched) → fetchedFor ≡ f → ((g : Refusal) → f ≡ fetched.Refused g → ⊥) → (isArchive b ≡ true) × Right b f (partIn b q)
-  found-as f h held = go (checkIs b) refl
-    where
-      go : (c : Checked) → checkIs b ≡ c → (isArchive b ≡ true) × Right b f (partIn b q)
-      go checked.Archive a =
-          let yes = checked-archive b a in
-          (yes, subst (λ (x : Fetched). Right b x (partIn b q)) h (found yes))
-      go (checked.Refused g) a = absurd (held g (sym h ∙ fetch-none b _ a))
+  pub decide-held : isArchive b ≡ true → decideIs b q ≡ judgedBy (reading b .home) q (partIn b q)
+  unfolding decideIs
+  decide-held a = rw (e, archive-checked b a)
 
   -- the body that is fetched lies within the archive, and the rule applied to it is the decision
   module _ (at : ℕ) (n : BitCount) (f : fetchedFor ≡ Body at n) where
     body : (isArchive b ≡ true) × BodyIs b at n (partIn b q)
-    body = found-as (Body at n) f (λ g x. never cc)
+    body = fetch-found b _ (request-ranged q e) f
 
     pub body-within : at + bytesFor (n .0) ≤ length b
     body-within = body .1 .inside
@@ -91,14 +77,8 @@ module _ (b : List ℕ) (q : Request) (e : requestRefusal q ≡ 0) where
 
   pub decide-missing : fetchedFor ≡ fetched.NotHeld → NotHeld ≡ decideIs b q
   decide-missing f =
-      let k = found-as fetched.NotHeld f (λ g x. never cc) in
+      let k = fetch-missing b _ (request-ranged q e) f in
       sym (decide-held (k .0) ∙ ap (judgedBy (reading b .home) q) (k .1))
 
   pub decide-damaged : {f : Refusal} → fetchedFor ≡ fetched.Refused f → Refused f ≡ decideIs b q
-  decide-damaged {f} h = go (checkIs b) refl
-    where
-      go : (c : Checked) → checkIs b ≡ c → Refused f ≡ decideIs b q
-      go checked.Archive a = absurd (subst (λ (x : Fetched). Right b x (partIn b q)) h (found (checked-archive b a)))
-      go (checked.Refused g) a =
-          let same : fetched.Refused g ≡ fetched.Refused f = sym (fetch-none b _ a) ∙ h in
-          sym (cc same) ∙ not-archive b q e a
+  decide-damaged f = not-archive b q e (fetch-damaged b _ (request-ranged q e) f)

@@ -1,5 +1,5 @@
 -- What the search finds is what is held for the key, and where its body stands. Assumes nothing.
-use mathlib.Core.Path.{_≡_, refl}
+use mathlib.Core.Path.{_≡_, refl, sym, _∙_, subst}
 use mathlib.Core.Bool.{Bool, true, false}
 use mathlib.Core.List.{List, [], _∷_}
 use mathlib.Core.Option.{Option, none, some}
@@ -11,6 +11,7 @@ use borrow.Author.Tests.{ltb-true, ltb-false, ne-eqb}
 use Rattle.bits.specs.Bits.{pick}
 use Rattle.bits.specs.Frame.{bytesFor}
 use Rattle.bits.specs.declared.BitCount.{BitCount}
+use Rattle.bits.proofs.Tests.{never}
 use Rattle.archive.specs.Model.{Held, rankOf, rank, entryWidth, bodySize, sizes, inRange}
 use Rattle.archive.specs.Filing.{keepsRules}
 use Rattle.archive.specs.Reading.{heldAt, sizeAt, heldFrom, bodiesAt, heldIn, reading, isArchive}
@@ -22,9 +23,10 @@ use Rattle.archive.specs.declared.Fetched.the-variants.{Body, NotHeld, R
 use Rattle.archive.specs.declared.checking.Place.{Place}
 use Rattle.archive.specs.Checking.{checkIs}
 use Rattle.archive.specs.declared.refusal.Refusal.{Refusal}
+use Rattle.archive.specs.declared.checking.Checked.{Checked}
 use Rattle.archive.specs.declared.checking.Checked.the-variants as checked
 use Rattle.archive.proofs.Model.Rules.{Kept, kept}
-use Rattle.archive.proofs.Model.Checked.{archive-checked}
+use Rattle.archive.proofs.Model.Checked.{archive-checked, checked-archive}
 use Rattle.archive.proofs.Bytes.Checking.{sound}
 use Rattle.archive.proofs.Bytes.Spliced.{placeIn}
 
@@ -110,3 +112,28 @@ module _ (b : List ℕ) (k : Key) where
   pub fetch-right : isArchive b ≡ true → inRange k ≡ true → Right b (fetchIs b k) (lookup k (reading b .held))
   unfolding fetchIs reading
   fetch-right e f = rw (archive-checked b e, f) (right-from b k _ _ (bodiesAt b) (omega (arith, sound b e .whole)))
+
+  -- what it found, of a user and part in range: the refusal of what is no archive, or what an archive holds
+  module _ (e : inRange k ≡ true) where
+    right : {f : Fetched} → fetchIs b k ≡ f → isArchive b ≡ true → Right b f (lookup k (reading b .held))
+    right t ok = subst (λ (f : Fetched). Right b f (lookup k (reading b .held))) t (fetch-right ok e)
+
+    pub fetch-damaged : {f : Refusal} → fetchIs b k ≡ Refused f → checkIs b ≡ checked.Refused f
+    fetch-damaged {f} t = go (checkIs b) refl
+      where
+        go : (c : Checked) → checkIs b ≡ c → checkIs b ≡ checked.Refused f
+        go checked.Archive ok = absurd (right t (checked-archive b ok))
+        go (checked.Refused g) bad = let same : Refused g ≡ Refused f = sym (fetch-none bad) ∙ t in bad ∙ cc same
+
+    found-as : {f : Fetched} → fetchIs b k ≡ f → ((g : Refusal) → f ≡ Refused g → ⊥) → (isArchive b ≡ true) × Right b f (lookup k (reading b .held))
+    found-as {f} t other = go (checkIs b) refl
+      where
+        go : (c : Checked) → checkIs b ≡ c → (isArchive b ≡ true) × Right b f (lookup k (reading b .held))
+        go checked.Archive ok = let a = checked-archive b ok in (a, right t a)
+        go (checked.Refused g) bad = absurd (other g (sym t ∙ fetch-none bad))
+
+    pub fetch-missing : fetchIs b k ≡ NotHeld → (isArchive b ≡ true) × (lookup k (reading b .held) ≡ none)
+    fetch-missing t = found-as t (λ g (x : NotHeld ≡ Refused g). never cc)
+
+    pub fetch-found : {off : ℕ} {n : BitCount} → fetchIs b k ≡ Body off n → (isArchive b ≡ true) × BodyIs b off n (lookup k (reading b .held))
+    fetch-found {off} {n} t = found-as t (λ g (x : Body off n ≡ Refused g). never cc)

@@ -12,7 +12,8 @@ use Rattle.archive.specs.Restoring.{fetchIs, restores, restoreIs}
 use Rattle.archive.specs.declared.refusal.Refusal.{Refusal}
 use Rattle.archive.specs.declared.Restored.the-variants.{Refused}
 use Rattle.archive.specs.declared.Fetched.{Fetched}
-use Rattle.archive.proofs.Calls.Restore.{out-of-range, none-found, not-found, found-at, found-body, restore-leaves}
+use Rattle.archive.proofs.Calls.Fetch.{fetch-found}
+use Rattle.archive.proofs.Calls.Restore.{out-of-range, none-found, not-found, found-body, restore-leaves}
 use Rattle.archive.proofs.restore.Statement.{statement}
 use Rattle.archive.proofs.restore.Tie as tie
 
@@ -52,7 +53,7 @@ deliver-requires c κs =
     let found-in = c .before .before in
     let fetch = found-in .before .before in
     let a = fetch .before .before .before .before .before .args in
-    found-at (now (a .archive)) (a .key) (within (fetch .before)) (found fetch (found-in .found2 .given .1)) .1 .inside
+    fetch-found (now (a .archive)) (a .key) (within (fetch .before)) (found fetch (found-in .found2 .given .1)) .1 .inside
 
 returns-4 : tie.Need-returns-4
 returns-4 c =
