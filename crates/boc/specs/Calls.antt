@@ -24,6 +24,8 @@ use Rattle.archive.specs.declared.Stored.{Stored}
 use Rattle.archive.specs.declared.Stored.the-variants as stored
 use Rattle.archive.specs.declared.Restored.{Restored}
 use Rattle.archive.specs.declared.Restored.the-variants as restored
+use Rattle.reload.specs.Reload.{reloadIs, reloadOut}
+use Rattle.reload.specs.declared.Definition.{Definition}
 use Rattle.words.specs.RecordWords.{areRecord, recordFrom}
 use Rattle.words.specs.RequestWords.{isRequest, requestFrom}
 use Rattle.barring.specs.Decide.{decideIs}
@@ -100,7 +102,7 @@ emptyLength home out old = storedLength (emptyIs home (length out)) old
 abbrev pub captureAnswer : List ℕ → List ℕ → ℕ → List ℕ → Stored
 captureAnswer b s n out = captureIs b s n (length out)
 
--- ---- boc_restore
+-- ---- boc_restore and boc_reload
 
 abbrev pub restoredNumber : Restored → ℕ
 restoredNumber a = restoredRefusal a .number
@@ -123,6 +125,19 @@ keyOf network ssi part = record { network = network; ssi = ssi; part = part }
 
 abbrev pub restoreAnswer : List ℕ → ℕ → ℕ → ℕ → List ℕ → Restored
 restoreAnswer b network ssi part out = restoreIs b (keyOf network ssi part) (length out)
+
+-- the definition that the call names
+abbrev pub definitionOf : ℕ → ℕ → ℕ → Definition
+definitionOf definition delivery acknowledgement = record { definition = definition; delivery = delivery; acknowledgement = acknowledgement }
+
+abbrev pub reloadAnswer : List ℕ → ℕ → ℕ → ℕ → ℕ → ℕ → ℕ → List ℕ → Restored
+reloadAnswer b network ssi part definition delivery acknowledgement out =
+    reloadIs b (keyOf network ssi part) (definitionOf definition delivery acknowledgement) out
+
+-- what boc_reload leaves in the buffer
+abbrev pub reloadLeaves : List ℕ → ℕ → ℕ → ℕ → ℕ → ℕ → ℕ → List ℕ → List ℕ
+reloadLeaves b network ssi part definition delivery acknowledgement out =
+    reloadOut b (keyOf network ssi part) (definitionOf definition delivery acknowledgement) out
 
 -- ---- boc_decide
 

@@ -12,6 +12,7 @@ use bits::BitCount;
 use pdu::Answer;
 use pdu::BitPlace;
 use pdu::Written;
+use reload::Definition;
 use words::request;
 ghost use mathlib.Core.Path.{_≡_};
 ghost use lib.ListN.{length};
@@ -21,7 +22,7 @@ ghost use Rattle.archive.specs.Restoring.{restoreOut};
 ghost use Rattle.archive.specs.Listing.{listOut};
 ghost use Rattle.boc.specs.Calls.{placeWord, entryWord, readNumber, readPlace, writeNumber, writeOut, writeBits, emptyNumber, emptyLength};
 ghost use Rattle.boc.specs.Calls.{storedNumber, storedLength, storedEntry, storedPlace, captureAnswer, contentsAnswer};
-ghost use Rattle.boc.specs.Calls.{restoredNumber, restoredLength, restoredEntry, restoredPlace, keyOf, restoreAnswer};
+ghost use Rattle.boc.specs.Calls.{restoredNumber, restoredLength, restoredEntry, restoredPlace, keyOf, restoreAnswer, reloadAnswer, reloadLeaves};
 ghost use Rattle.boc.specs.Calls.{decidedNumber, decidedVerdict, decidedEntry, decidedPlace, decideAnswer};
 
 // No entry, or no place: BOC_NOWHERE.
@@ -153,6 +154,42 @@ pub extern "C" fn boc_restore(
 {
     let key = Key { network, ssi, part };
     match archive::restore(archive, key, out) {
+        Restored::Bits(n) => {
+            *bits = n.0;
+            0
+        },
+        Restored::Refused(refusal) => refuse(refusal, entry, place),
+    }
+}
+
+// Writes the DEFINE of the part held for a user; its length in bits goes to `bits`.
+#[no_mangle]
+pub extern "C" fn boc_reload(
+    archive: &[u8],
+    network: u32,
+    ssi: u32,
+    part: u32,
+    definition: u32,
+    delivery: u32,
+    acknowledgement: u32,
+    out: &mut [u8],
+    bits: &mut usize,
+    entry: &mut usize,
+    place: &mut usize,
+) -> u32
+    ensures { λ r. ⌜ r ≡ restoredNumber (reloadAnswer (now (archive .entry)) network ssi part definition delivery acknowledgement (now (out .entry))) ⌝ }
+    ensures { λ _. ⌜ now (out .exit) ≡ reloadLeaves (now (archive .entry)) network ssi part definition delivery acknowledgement (now (out .entry)) ⌝ }
+    ensures { λ _. ⌜ now (bits .exit) ≡ restoredLength (reloadAnswer (now (archive .entry)) network ssi part definition delivery acknowledgement (now (out .entry))) (now (bits .entry)) ⌝ }
+    ensures { λ _. ⌜ now (entry .exit) ≡ restoredEntry (reloadAnswer (now (archive .entry)) network ssi part definition delivery acknowledgement (now (out .entry))) (now (entry .entry)) ⌝ }
+    ensures { λ _. ⌜ now (place .exit) ≡ restoredPlace (reloadAnswer (now (archive .entry)) network ssi part definition delivery acknowledgement (now (out .entry))) (now (place .entry)) ⌝ }
+{
+    let key = Key { network, ssi, part };
+    let wanted = Definition {
+        definition,
+        delivery,
+        acknowledgement,
+    };
+    match reload::reload(archive, key, wanted, out) {
         Restored::Bits(n) => {
             *bits = n.0;
             0

@@ -1,0 +1,64 @@
+-- Whatever was offered, reload speaks of the last PDU accepted for the user and part, or gives 11. Assumes nothing.
+use mathlib.Core.Path.{_≡_, refl, ap, ap₂, _∙_}
+use mathlib.Core.Bool.{true}
+use mathlib.Core.List.{List, []}
+use mathlib.Core.Option.{Option, none, some}
+use Prim.Native.Nat.{ℕ}
+use lib.ListN.{length, take}
+use Rattle.bits.specs.Frame.{pack}
+use Rattle.bits.specs.declared.BitCount.{BitCount}
+use Rattle.grammar.specs.Grammar.{pdu}
+use Rattle.grammar.specs.declared.record.Record.{Record}
+use Rattle.reader.specs.Read.{readIs}
+use Rattle.archive.specs.Model.{Held, inRange}
+use Rattle.archive.specs.Refusals.{plain}
+use Rattle.archive.specs.Keeping.{emptyIs, emptyOut}
+use Rattle.archive.specs.Restoring.{restores}
+use Rattle.archive.specs.History.{Offer, afterAll, lastAccepted}
+use Rattle.archive.specs.declared.contents.Key.{Key}
+use Rattle.archive.specs.declared.Stored.the-variants.{Bytes}
+use Rattle.archive.specs.declared.Restored.{Restored}
+use Rattle.archive.specs.declared.Restored.the-variants.{Refused}
+use Rattle.archive.proofs.History.{Matches, kept}
+use Rattle.reload.specs.Define.{isDefinition, defineOf}
+use Rattle.reload.specs.Reload.{redefined, reloaded, reloadIs, defineBytes, reloadOut}
+use Rattle.reload.specs.declared.Definition.{Definition}
+use Rattle.reload.proofs.Reloaded.{heldFor, reload-held, reload-leaves}
+
+-- the record of an offered PDU
+abbrev pub recordIn : Offer → Record
+recordIn o = readIs (o .pdu) (o .bits) .found
+
+-- what reload says of the last PDU accepted, and the bytes of its DEFINE
+abbrev pub saidOf : Definition → Option Offer → List ℕ → Restored
+saidOf d none out = Refused (plain 11)
+saidOf d (some o) out = redefined d (recordIn o) out
+
+abbrev pub bytesFrom : Definition → Option Offer → List ℕ
+bytesFrom d none = []
+bytesFrom d (some o) = pack (pdu .print (defineOf d (recordIn o)))
+
+matched : (d : Definition) (out : List ℕ) (l : Option Held) (last : Option Offer) → Matches l last
+    → (reloaded d l out ≡ saidOf d last out) × (defineBytes d l ≡ bytesFrom d last)
+matched d out none none m = (refl, refl)
+matched d out (some h) (some o) m =
+    let same = ap₂ (λ (s : List ℕ) (n : BitCount). readIs s (n .0) .found) (m .0) (m .1) in
+    (ap (λ (r : Record). redefined d r out) same, ap (λ (r : Record). pack (pdu .print (defineOf d r))) same)
+matched d out none (some o) m = absurd m
+matched d out (some h) none m = absurd m
+
+-- from an empty archive, for any offers, every user and part in range and every definition that may be asked for
+module _ (home : ℕ) (lent : List ℕ) (m : ℕ) (e : emptyIs home (length lent) ≡ Bytes m) (os : List Offer) (k : Key) (r : inRange k ≡ true)
+    (d : Definition) (f : isDefinition d ≡ true) (out : List ℕ) where
+  abbrev b : List ℕ
+  b = afterAll (take m (emptyOut home lent)) os
+
+  abbrev last : Option Offer
+  last = lastAccepted k (take m (emptyOut home lent)) none os
+
+  pub reload-history : (reloadIs b k d out ≡ saidOf d last out) × (reloadOut b k d out ≡ restores (saidOf d last out) (bytesFrom d last) out)
+  reload-history =
+      let h = kept home lent m e os k r in
+      let s = matched d out (heldFor b k d out) last (h .held) in
+      let x = reload-held b k d out r f (h .archive) ∙ s .0 in
+      (x, reload-leaves b k d out x ∙ ap (λ (w : List ℕ). restores (saidOf d last out) w out) (s .1))

@@ -1,0 +1,5 @@
+pub mod Lists
+pub mod Standing
+pub mod Reloaded
+pub mod Held
+pub mod History

@@ -1,0 +1,102 @@
+-- What reload answers, by what fetch finds, and what the DEFINE of a part comes to. Assumes nothing.
+use mathlib.Core.Path.{_≡_, refl, sym, ap, ap₂, _∙_}
+use mathlib.Core.Bool.{true, false, _&&_}
+use mathlib.Core.List.{List, _++_}
+use mathlib.Core.Option.{Option}
+use Prim.Native.Nat.{ℕ, zero, suc}
+use lib.ListN.{length, drop}
+use Rattle.bits.specs.Bits.{pick}
+use Rattle.bits.specs.Frame.{bytesFor, pack}
+use Rattle.bits.proofs.Frames.{length-pack}
+use Rattle.bits.specs.declared.BitCount.{BitCount}
+use Rattle.codec.specs.Parts.{isZero}
+use Rattle.grammar.specs.Grammar.{pdu}
+use Rattle.grammar.specs.declared.record.Record.{Record}
+use Rattle.reader.specs.Read.{readIs}
+use Rattle.writer.specs.Write.{lengthOf, writeRefusal, written, writeIs, outIs}
+use Rattle.writer.specs.declared.Written.{Written}
+use Rattle.archive.specs.Model.{Held, inRange}
+use Rattle.archive.specs.Reading.{reading, isArchive}
+use Rattle.archive.specs.Refusals.{plain}
+use Rattle.archive.specs.Checking.{checkIs}
+use Rattle.archive.specs.Restoring.{fetchIs, lookup, restores}
+use Rattle.archive.specs.declared.contents.Key.{Key}
+use Rattle.archive.specs.declared.Fetched.the-variants as fetched
+use Rattle.archive.specs.declared.checking.Checked.the-variants as checked
+use Rattle.archive.specs.declared.refusal.Refusal.{Refusal}
+use Rattle.archive.specs.declared.Restored.{Restored}
+use Rattle.archive.specs.declared.Restored.the-variants.{Refused}
+use Rattle.archive.proofs.Model.Checked.{archive-checked}
+use Rattle.archive.proofs.Calls.Fetch.{fetch-damaged, fetch-missing, fetch-found}
+use Rattle.reload.specs.Define.{isDefinition, defineOf, stands}
+use Rattle.reload.specs.Reload.{asWritten, redefined, reloaded, reloadIs, defineBytes, reloadOut}
+use Rattle.reload.specs.Inner.{partAt, reloadedFrom, reloadedOut}
+use Rattle.reload.specs.declared.Definition.{Definition}
+
+module _ (b : List ℕ) (k : Key) (d : Definition) (out : List ℕ) where
+  -- the part held for the user
+  abbrev pub heldFor : Option Held
+  heldFor = lookup k (reading b .held)
+
+  pub out-of-range : inRange k && isDefinition d ≡ false → reloadIs b k d out ≡ Refused (plain 9)
+  unfolding reloadIs
+  out-of-range e = rw e
+
+  pub reload-leaves : {r : Restored} → reloadIs b k d out ≡ r → reloadOut b k d out ≡ restores r (defineBytes d heldFor) out
+  unfolding reloadOut
+  reload-leaves e = ap (λ (r : Restored). restores r (defineBytes d heldFor) out) e
+
+  module _ (e : inRange k ≡ true) (f : isDefinition d ≡ true) where
+    pub reload-held : isArchive b ≡ true → reloadIs b k d out ≡ reloaded d heldFor out
+    unfolding reloadIs
+    reload-held a = rw (e, f, archive-checked b a)
+
+    pub no-archive : {g : Refusal} → checkIs b ≡ checked.Refused g → reloadIs b k d out ≡ Refused g
+    unfolding reloadIs
+    no-archive t = rw (e, f, t)
+
+    pub damaged : {g : Refusal} → fetchIs b k ≡ fetched.Refused g → reloadIs b k d out ≡ Refused g
+    damaged t = no-archive (fetch-damaged b k e t)
+
+    pub missing : fetchIs b k ≡ fetched.NotHeld → reloadIs b k d out ≡ Refused (plain 11)
+    missing t = let r = fetch-missing b k e t in reload-held (r .0) ∙ ap (λ (o : Option Held). reloaded d o out) (r .1)
+
+    -- the body that is fetched is the part that is held
+    pub found : {at : ℕ} {n : BitCount} → fetchIs b k ≡ fetched.Body at n
+        → (reloadIs b k d out ≡ reloadedFrom b at (n .0) d out) × (reloadOut b k d out ≡ reloadedOut b at (n .0) d out)
+    found {at} {n} t =
+        let r = fetch-found b k e t in
+        let x = r .1 in
+        let part : readIs (x .held .body) (x .held .entry .bits .0) .found ≡ partAt b at (n .0) =
+        ap₂ (λ (s : List ℕ) (m : BitCount). readIs s (m .0) .found) (x .body) (x .bits) in
+        let same : reloadIs b k d out ≡ reloadedFrom b at (n .0) d out =
+        reload-held (r .0) ∙ ap (λ (o : Option Held). reloaded d o out) (x .is) ∙ ap (λ (p : Record). redefined d p out) part in (
+          same,
+          reload-leaves same ∙ ap (λ (w : List ℕ). restores (reloadedFrom b at (n .0) d out) w out)
+              (ap (defineBytes d) (x .is) ∙ ap (λ (p : Record). pack (pdu .print (defineOf d p))) part),
+        )
+
+-- ---- a part that was read
+
+-- what writing leaves
+left-as : (r : Record) (out : List ℕ) → outIs r out ≡ restores (asWritten (writeIs r out)) (pack (pdu .print r)) out
+unfolding outIs writeIs
+left-as r out = go (writeRefusal r (length out))
+  where
+    go : (k : ℕ) → pick (isZero k) (pack (pdu .print r) ++ drop (bytesFor (lengthOf r)) out) out
+        ≡ restores (asWritten (written (lengthOf r) k)) (pack (pdu .print r)) out
+    go zero = ap (λ (m : ℕ). pack (pdu .print r) ++ drop m out) (sym (length-pack (pdu .print r)))
+    go (suc k) = refl
+
+module _ (b : List ℕ) (at n : ℕ) (d : Definition) (out : List ℕ) {part : Record} (is : part ≡ partAt b at n) where
+  -- a list has no place
+  pub lost : stands (d .definition) (part .lists) ≡ false → (Refused (plain 12) ≡ reloadedFrom b at n d out) × (out ≡ reloadedOut b at n d out)
+  lost e = rw (← is, e) (refl, refl)
+
+  -- its DEFINE was written
+  pub stood : stands (d .definition) (part .lists) ≡ true → {define : Record} → define ≡ defineOf d part → {answer : Written} → answer ≡ writeIs define out
+      → {left : List ℕ} → left ≡ outIs define out → (asWritten answer ≡ reloadedFrom b at n d out) × (left ≡ reloadedOut b at n d out)
+  stood e {define} made wrote leaves = rw (← is, e) (
+    ap asWritten (wrote ∙ ap (λ (r : Record). writeIs r out) made),
+    leaves ∙ ap (λ (r : Record). outIs r out) made ∙ left-as (defineOf d part) out,
+  )

@@ -1,0 +1,23 @@
+-- What a private function gives and leaves: the DEFINE of a body that stands in an archive's bytes.
+use mathlib.Core.List.{List}
+use Prim.Native.Nat.{ℕ}
+use lib.ListN.{take, drop}
+use Rattle.bits.specs.Frame.{bytesFor, pack}
+use Rattle.grammar.specs.Grammar.{pdu}
+use Rattle.grammar.specs.declared.record.Record.{Record}
+use Rattle.reader.specs.Read.{readIs}
+use Rattle.archive.specs.Restoring.{restores}
+use Rattle.archive.specs.declared.Restored.{Restored}
+use Rattle.reload.specs.Define.{defineOf}
+use Rattle.reload.specs.Reload.{redefined}
+use Rattle.reload.specs.declared.Definition.{Definition}
+
+-- the record of the body of n bits at a place
+abbrev pub partAt : List ℕ → ℕ → ℕ → Record
+partAt b at n = readIs (take (bytesFor n) (drop at b)) n .found
+
+abbrev pub reloadedFrom : List ℕ → ℕ → ℕ → Definition → List ℕ → Restored
+reloadedFrom b at n d out = redefined d (partAt b at n) out
+
+abbrev pub reloadedOut : List ℕ → ℕ → ℕ → Definition → List ℕ → List ℕ
+reloadedOut b at n d out = restores (reloadedFrom b at n d out) (pack (pdu .print (defineOf d (partAt b at n)))) out

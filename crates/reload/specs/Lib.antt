@@ -1,0 +1,4 @@
+pub mod Define
+pub mod Reload
+pub mod Inner
+pub mod Examples

@@ -1,0 +1,56 @@
+-- What `reload` answers, and what it leaves in the lent buffer: 9, 7, 11, 12, 8.
+use mathlib.Core.Bool.{_&&_}
+use mathlib.Core.List.{List, []}
+use mathlib.Core.Option.{Option, none, some}
+use Prim.Native.Nat.{ℕ}
+use Rattle.bits.specs.Bits.{guard}
+use Rattle.bits.specs.Frame.{pack}
+use Rattle.grammar.specs.Grammar.{pdu}
+use Rattle.grammar.specs.declared.record.Record.{Record}
+use Rattle.reader.specs.Read.{readIs}
+use Rattle.writer.specs.Write.{writeIs}
+use Rattle.writer.specs.declared.Written.{Written}
+use Rattle.writer.specs.declared.Written.the-variants as written
+use Rattle.archive.specs.Model.{Held, inRange}
+use Rattle.archive.specs.Reading.{reading}
+use Rattle.archive.specs.Refusals.{plain}
+use Rattle.archive.specs.Checking.{checkIs, ifArchive}
+use Rattle.archive.specs.Restoring.{lookup, restores}
+use Rattle.archive.specs.declared.contents.Key.{Key}
+use Rattle.archive.specs.declared.Restored.{Restored}
+use Rattle.archive.specs.declared.Restored.the-variants.{Bits, Refused}
+use Rattle.reload.specs.Define.{isDefinition, defineOf, stands}
+use Rattle.reload.specs.declared.Definition.{Definition}
+
+-- the record of a held PDU
+abbrev pub recordOf : Held → Record
+recordOf h = readIs (h .body) (h .entry .bits .0) .found
+
+-- what writing answers, as the answer of a reload
+abbrev pub asWritten : Written → Restored
+asWritten (written.Bits n) = Bits n
+asWritten (written.Refused k) = Refused (plain k)
+
+-- of a part: 12 where a list that is not empty has no place in the DEFINE; then what writing it answers
+abbrev pub redefined : Definition → Record → List ℕ → Restored
+redefined d part out = guard (stands (d .definition) (part .lists)) (Refused (plain 12)) (asWritten (writeIs (defineOf d part) out))
+
+-- 11 for a part that is not held
+abbrev pub reloaded : Definition → Option Held → List ℕ → Restored
+reloaded d none out = Refused (plain 11)
+reloaded d (some h) out = redefined d (recordOf h) out
+
+unfoldable pub reloadIs : List ℕ → Key → Definition → List ℕ → Restored
+reloadIs b k d out =
+    guard (inRange k && isDefinition d) (Refused (plain 9))
+    (ifArchive (checkIs b) Refused
+    (reloaded d (lookup k (reading b .held)) out))
+
+-- the bytes of the DEFINE
+abbrev pub defineBytes : Definition → Option Held → List ℕ
+defineBytes d none = []
+defineBytes d (some h) = pack (pdu .print (defineOf d (recordOf h)))
+
+-- a refusal changes no byte
+unfoldable pub reloadOut : List ℕ → Key → Definition → List ℕ → List ℕ
+reloadOut b k d out = restores (reloadIs b k d out) (defineBytes d (lookup k (reading b .held))) out
