@@ -4,5 +4,6 @@ pub mod Writing
 pub mod Empty
 pub mod Capture
 pub mod Restore
+pub mod Reload
 pub mod Listing
 pub mod Decision

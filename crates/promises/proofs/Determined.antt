@@ -11,4 +11,5 @@ pub mod Rules
 pub mod Archive
 pub mod Words
 pub mod Barring
+pub mod Reload
 pub mod Boc

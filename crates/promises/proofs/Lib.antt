@@ -4,6 +4,7 @@ pub mod Archive
 pub mod Broken
 pub mod Demand1
 pub mod Visitors
+pub mod Reload
 pub mod Words
 pub mod Calls
 pub mod Sequences

@@ -8,8 +8,9 @@ use borrow.Author.Tests.{eqb-true, ne-eqb}
 use lib.ListN.{length, take}
 use lib.Dec.{eqb}
 use Rattle.bits.specs.Bits.{pick}
-use Rattle.bits.specs.Frame.{bytesFor}
+use Rattle.bits.specs.Frame.{bytesFor, pack}
 use Rattle.bits.proofs.Tests.{never}
+use Rattle.grammar.specs.Grammar.{pdu}
 use Rattle.reader.specs.Read.{readIs}
 use Rattle.rules.specs.Request.{requestRefusal}
 use Rattle.rules.specs.Rule.{ruling}
@@ -22,7 +23,7 @@ use Rattle.archive.specs.Filing.{names}
 use Rattle.archive.specs.Refusals.{plain}
 use Rattle.archive.specs.Checking.{checkIs, ifArchive}
 use Rattle.archive.specs.Keeping.{storedRefusal, over, emptyIs, emptyOut, captureOut}
-use Rattle.archive.specs.Restoring.{restoreOut}
+use Rattle.archive.specs.Restoring.{restores, restoreOut}
 use Rattle.archive.specs.History.{Offer, keptOf, answerTo, after, afterAll, entryOf, latest, lastAccepted}
 use Rattle.archive.specs.declared.contents.Key.{Key}
 use Rattle.archive.specs.declared.refusal.Refusal.{Refusal}
@@ -30,6 +31,9 @@ use Rattle.archive.specs.declared.Stored.{Stored}
 use Rattle.archive.specs.declared.Stored.the-variants.{Bytes, Refused}
 use Rattle.archive.specs.declared.Restored.{Restored}
 use Rattle.archive.proofs.Model.Keys.{in-range}
+use Rattle.reload.specs.Define.{defineOf}
+use Rattle.reload.specs.Reload.{redefined, reloadIs, reloadOut}
+use Rattle.reload.specs.declared.Definition.{Definition}
 use Rattle.words.specs.RequestWords.{requestFrom}
 use Rattle.barring.specs.Decide.{keyFor, partIn, judgedBy, decideIs}
 use Rattle.barring.specs.Decision.{decisionOf, verdictOf}
@@ -37,11 +41,19 @@ use Rattle.boc.specs.Calls.{storedNumber, storedLength, emptyNumber, restoredNu
 use Rattle.boc.specs.Calls.{decidedNumber, decidedVerdict, decideAnswer}
 use Rattle.promises.specs.Sequences.{Call, returned, goneOn, goneOnAll, lastZero, begun, Promise}
 use Rattle.promises.specs.Demand1.Decision.{Verdict, outside-group, restricted-service, restricted-address, allowed, not-held}
+use Rattle.promises.specs.Archive as archive
+use Rattle.promises.specs.Archive.{Ranged}
+use Rattle.promises.specs.Demand1.Reload.{Asked}
 use Rattle.promises.specs.Demand3 as demand3
+use Rattle.promises.proofs.Archive as archive-kept
+use Rattle.promises.proofs.Demand1.Reload.{asked-is}
 use Rattle.promises.proofs.Calls.{decide-kept}
 use Rattle.promises.proofs.Calls.OfWords.{asked}
 use Rattle.promises.proofs.Demand1.Empty as empty
 use Rattle.promises.proofs.Demand1.Capture as capture
+
+abbrev archives : archive.Promise
+archives = archive-kept.promise
 
 -- ---- what C goes on with
 
@@ -157,6 +169,23 @@ module _ (home : ℕ) (lent : List ℕ) (old : ℕ) (calls : List Call) (e : emp
         let p = demand3.restores-nothing-else home lent m written (offers calls) (keyOf network ssi part) r out (last-is (keyOf network ssi part) ∙ l) in
         subst (Gives 11 bits out) archive-is (ap restoredNumber (p .0), ap (λ (x : Restored). restoredLength x bits) (p .0), p .1)
 
+  module _ (k : Key) (d : Definition) (r : Ranged k) (a : Asked d) (out : List ℕ) where
+    abbrev Answers : Restored → List ℕ → List ℕ → Type 0
+    Answers x left b = (reloadIs b k d out ≡ x) × (reloadOut b k d out ≡ left)
+
+    reloaded : (o : Offer) → last k ≡ some o → let part = readIs (o .pdu) (o .bits) .found in
+        Answers (redefined d part out) (restores (redefined d part out) (pack (pdu .print (defineOf d part))) out) b
+    reloaded o l =
+        subst (Answers _ _) archive-is
+        (demand3.reloads-the-last home lent m written (offers calls) k (archives.in-range k .1 r) d (asked-is d a) out o (last-is k ∙ l))
+
+    none-reloaded : (bits : ℕ) → last k ≡ none
+        → (restoredNumber (reloadIs b k d out) ≡ 11) × (restoredLength (reloadIs b k d out) bits ≡ bits) × (reloadOut b k d out ≡ out)
+    none-reloaded bits l =
+        let p = subst (Answers _ _) archive-is
+        (demand3.reloads-nothing-else home lent m written (offers calls) k (archives.in-range k .1 r) d (asked-is d a) out (last-is k ∙ l)) in
+        (ap restoredNumber (p .0), ap (λ (x : Restored). restoredLength x bits) (p .0), p .1)
+
   module _ (w : List ℕ) (before : ℕ) (d : decidedNumber (decideAnswer b w) ≡ 0) where
     abbrev q : Request
     q = requestFrom w
@@ -181,6 +210,8 @@ pub promise : (home : ℕ) (lent : List ℕ) (old : ℕ) (calls : List Call) →
 promise home lent old calls = record {
   restores-the-last = λ e network ssi part n s l h. restored home lent old calls e network ssi part (in-range (keyOf network ssi part) n s l h);
   restores-nothing-else = λ e network ssi part n s l h. none-held home lent old calls e network ssi part (in-range (keyOf network ssi part) n s l h);
+  reloads-the-last = reloaded home lent old calls;
+  reloads-nothing-else = none-reloaded home lent old calls;
   decides-by-the-last = by-the-last home lent old calls;
   decides-by-nothing-else = by-nothing home lent old calls;
 }

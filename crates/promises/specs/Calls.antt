@@ -1,4 +1,4 @@
--- Demand 1 as C meets it, about the seven calls of include/boc.h: each returns 0 or a number of its list, exactly then. If it is not 0, the
+-- Demand 1 as C meets it, about the eight calls of include/boc.h: each returns 0 or a number of its list, exactly then. If it is not 0, the
 -- lent memory and the length or decision behind the pointer are what they were, and the pointers to entry and place hold those of the refusal,
 -- or BOC_NOWHERE; if it is 0, the pointer holds exactly the length or the decision, and entry and place are what they were.
 use mathlib.Core.Path.{_≡_}
@@ -19,13 +19,15 @@ use Rattle.archive.specs.Keeping.{storedRefusal, over, captured, emptyOut, capt
 use Rattle.archive.specs.Restoring.{restoredRefusal, restoreOut}
 use Rattle.archive.specs.Listing.{listOut}
 use Rattle.archive.specs.Listing as lists
+use Rattle.reload.specs.Define.{defineOf}
+use Rattle.reload.specs.Reload.{recordOf}
 use Rattle.words.specs.RecordWords.{word, recordWords, recordFrom}
 use Rattle.words.specs.RequestWords.{requestFrom}
 use Rattle.barring.specs.Decide.{partIn, decideIs}
 use Rattle.barring.specs.Decision.{decidedRefusal}
 use Rattle.boc.specs.Calls.{placeWord, entryWord, readNumber, readPlace, writeNumber, writeOut, writeBits, emptyNumber, emptyLength}
 use Rattle.boc.specs.Calls.{storedNumber, storedLength, storedEntry, storedPlace, captureAnswer, contentsAnswer}
-use Rattle.boc.specs.Calls.{restoredNumber, restoredLength, restoredEntry, restoredPlace, keyOf, restoreAnswer}
+use Rattle.boc.specs.Calls.{restoredNumber, restoredLength, restoredEntry, restoredPlace, keyOf, restoreAnswer, definitionOf, reloadAnswer, reloadLeaves}
 use Rattle.boc.specs.Calls.{decidedNumber, decidedVerdict, decidedEntry, decidedPlace, decideAnswer}
 use Rattle.promises.specs.Answers.{Exactly}
 use Rattle.promises.specs.Archive.{IsArchive, HeldFor}
@@ -35,6 +37,7 @@ use Rattle.promises.specs.Demand1.Writing as writing
 use Rattle.promises.specs.Demand1.Empty as empty
 use Rattle.promises.specs.Demand1.Capture as capture
 use Rattle.promises.specs.Demand1.Restore as restore
+use Rattle.promises.specs.Demand1.Reload as reload
 use Rattle.promises.specs.Demand1.Decision as decision
 use Rattle.promises.specs.Demand1.Listing as listing
 
@@ -45,9 +48,9 @@ pub data Checked {ℓ} {A : Type 0} (nine : A) (Right : Type 0) (Given : A → T
   wrong : (Right → ⊥) → Checked nine Right Given nine
   right : (a : A) → Right → Given a → Checked nine Right Given a
 
--- 514 words are a record
+-- 517 words are a record
 abbrev pub OfRecord : List ℕ → Type 0
-OfRecord w = length w ≡ 514
+OfRecord w = length w ≡ 517
 
 -- 34 words are a request if the kind of destination (3) is 1, and the length (6) is 0, or it is 2, and network (4) and SSI (5) are 0;
 pub data OfDestination (w : List ℕ) : Type 0 where
@@ -66,7 +69,7 @@ pub record OfRequest (w : List ℕ) : Type 0 where
 
 -- ---- the calls; proved in proofs/Calls.antt
 
--- boc_read: 0, 9 for another count of words than 514, and the numbers of reading
+-- boc_read: 0, 9 for another count of words than 517, and the numbers of reading
 pub record Read (pdu′ : List ℕ) (bits : ℕ) (words : List ℕ) (place : ℕ) : Type 1 where
   pub table : Exactly reading.numberOf (refusalOf (readWordsIs pdu′ bits (length words))) (reading.numbers ++ (9 ∷ []))
       (Checked (reading.told 9 bit.Nowhere) (OfRecord words) (reading.Given pdu′ bits))
@@ -78,7 +81,7 @@ pub record Read (pdu′ : List ℕ) (bits : ℕ) (words : List ℕ) (place : ℕ
       → (readWords pdu′ bits words ≡ words)
       × (readPlace pdu′ bits (length words) place ≡ placeWord (refusalOf (readWordsIs pdu′ bits (length words)) .place))
 
--- boc_write: 0, 9 for another count of words than 514, and the numbers of writing
+-- boc_write: 0, 9 for another count of words than 517, and the numbers of writing
 pub record Write (words out : List ℕ) (bits : ℕ) : Type 1 where
   pub table : Exactly (λ k. k) (writeNumber words out) (0 ∷ 3 ∷ 4 ∷ 8 ∷ 9 ∷ []) (Checked 9 (OfRecord words) (writing.Given (recordFrom words) out))
   pub success : writeNumber words out ≡ 0 → let r = recordFrom words in
@@ -117,6 +120,23 @@ pub record Restore (archive : List ℕ) (network ssi part : ℕ) (out : List ℕ
   pub refusal : let answer = restoreAnswer archive network ssi part out in
       (restoredNumber answer ≡ 0 → ⊥) → let f = restoredRefusal answer in
       (restoreOut archive (keyOf network ssi part) out ≡ out) × (restoredLength answer old ≡ old)
+      × (restoredEntry answer entry ≡ entryWord (f .entry)) × (restoredPlace answer place ≡ placeWord (f .place))
+
+-- boc_reload
+pub record Reload (archive : List ℕ) (network ssi part definition delivery acknowledgement : ℕ) (out : List ℕ) (old entry place : ℕ) : Type 0 where
+  pub table : let answer = reloadAnswer archive network ssi part definition delivery acknowledgement out in
+      Exactly numberOf (restoredRefusal answer) (0 ∷ 9 ∷ 7 ∷ 11 ∷ 12 ∷ 8 ∷ [])
+      (reload.Given archive (keyOf network ssi part) (definitionOf definition delivery acknowledgement) (length out))
+  -- the DEFINE of the PDU that is held for that user and part, and its bits
+  pub success : let answer = reloadAnswer archive network ssi part definition delivery acknowledgement out in
+      restoredNumber answer ≡ 0 → let d = definitionOf definition delivery acknowledgement in
+      (k : IsArchive archive) × (h : Held) × HeldFor (k .archive .held) (keyOf network ssi part) h
+      × (reloadLeaves archive network ssi part definition delivery acknowledgement out ≡ over (pack (pdu .print (defineOf d (recordOf h)))) out)
+      × (restoredLength answer old ≡ lengthOf (defineOf d (recordOf h)))
+      × (restoredEntry answer entry ≡ entry) × (restoredPlace answer place ≡ place)
+  pub refusal : let answer = reloadAnswer archive network ssi part definition delivery acknowledgement out in
+      (restoredNumber answer ≡ 0 → ⊥) → let f = restoredRefusal answer in
+      (reloadLeaves archive network ssi part definition delivery acknowledgement out ≡ out) × (restoredLength answer old ≡ old)
       × (restoredEntry answer entry ≡ entryWord (f .entry)) × (restoredPlace answer place ≡ placeWord (f .place))
 
 -- boc_decide: 0, 9 for words that are no request's or a request out of its range, 7

@@ -25,7 +25,9 @@ use Rattle.barring.specs.Decide.{partFor, decideIs}
 use Rattle.barring.specs.declared.Decision.{Decision}
 use Rattle.boc.specs.Calls.{nowhere, readNumber, readPlace, writeNumber, writeBits, emptyNumber, emptyLength}
 use Rattle.boc.specs.Calls.{storedNumber, storedLength, storedEntry, storedPlace, captureAnswer, contentsAnswer}
-use Rattle.boc.specs.Calls.{restoredNumber, restoredLength, restoredEntry, restoredPlace, restoreAnswer}
+use Rattle.reload.specs.Define.{isDefinition, defineOf, stands}
+use Rattle.reload.specs.Reload.{reloadIs}
+use Rattle.boc.specs.Calls.{restoredNumber, restoredLength, restoredEntry, restoredPlace, restoreAnswer, reloadAnswer}
 use Rattle.boc.specs.Calls.{decidedNumber, decidedVerdict, decidedEntry, decidedPlace, decideAnswer}
 
 -- the PDU of an INTERROGATE, one for the users 200 to 199, and so many zeros: 5 of them are an archive that holds nothing
@@ -38,29 +40,29 @@ reversed = 0x49 ∷ 0x72 ∷ 0x00 ∷ 0x01 ∷ 0x90 ∷ 0x00 ∷ 0x00 ∷ 0xc7 �
 abbrev lent : ℕ → List ℕ
 lent n = replicate n 0
 
-read-met : readNumber asked 42 514 ∷ readNumber [] 1 514 ∷ readNumber [] 0 514 ∷ readNumber (0x00 ∷ []) 6 514 ∷ readNumber reversed 65 514
-    ∷ readNumber asked 43 514 ∷ readNumber (0x48 ∷ 0x00 ∷ []) 11 514 ∷ readNumber asked 42 513 ∷ [] ≡ 0 ∷ 1 ∷ 2 ∷ 3 ∷ 4 ∷ 5 ∷ 10 ∷ 9 ∷ []
+read-met : readNumber asked 42 517 ∷ readNumber [] 1 517 ∷ readNumber [] 0 517 ∷ readNumber (0x00 ∷ []) 6 517 ∷ readNumber reversed 65 517
+    ∷ readNumber asked 43 517 ∷ readNumber (0x48 ∷ 0x00 ∷ []) 11 517 ∷ readNumber asked 42 516 ∷ [] ≡ 0 ∷ 1 ∷ 2 ∷ 3 ∷ 4 ∷ 5 ∷ 10 ∷ 9 ∷ []
 unfolding grammar readIs framed bits readWordsIs
 read-met = refl
 
 -- the place: as it was after a success; 1 and 9 have none
-read-places : readPlace asked 42 514 77 ∷ readPlace [] 1 514 77 ∷ readPlace [] 0 514 77 ∷ readPlace (0x00 ∷ []) 6 514 77 ∷ readPlace reversed 65 514 77
-    ∷ readPlace asked 43 514 77 ∷ readPlace (0x48 ∷ 0x00 ∷ []) 11 514 77 ∷ readPlace asked 42 513 77 ∷ []
+read-places : readPlace asked 42 517 77 ∷ readPlace [] 1 517 77 ∷ readPlace [] 0 517 77 ∷ readPlace (0x00 ∷ []) 6 517 77 ∷ readPlace reversed 65 517 77
+    ∷ readPlace asked 43 517 77 ∷ readPlace (0x48 ∷ 0x00 ∷ []) 11 517 77 ∷ readPlace asked 42 516 77 ∷ []
     ≡ 77 ∷ nowhere ∷ 0 ∷ 0 ∷ 40 ∷ 42 ∷ 6 ∷ nowhere ∷ []
 unfolding grammar readIs framed bits readWordsIs
 read-places = refl
 
 -- the users 200 to 199 in words: PDU type, range type 9, SSI, extension present, extension, SSI; interrogation type
 abbrev backwards : List ℕ
-backwards = 11 ∷ 9 ∷ 200 ∷ 0 ∷ 0 ∷ 199 ∷ lent 20 ++ (1 ∷ lent 487)
+backwards = 11 ∷ 9 ∷ 200 ∷ 0 ∷ 0 ∷ 199 ∷ lent 20 ++ (1 ∷ lent 490)
 
-write-met : writeNumber (recordWords asking) (lent 6) ∷ writeNumber (lent 514) [] ∷ writeNumber backwards []
-    ∷ writeNumber (recordWords asking) (lent 5) ∷ writeNumber (lent 513) (lent 6) ∷ [] ≡ 0 ∷ 3 ∷ 4 ∷ 8 ∷ 9 ∷ []
+write-met : writeNumber (recordWords asking) (lent 6) ∷ writeNumber (lent 517) [] ∷ writeNumber backwards []
+    ∷ writeNumber (recordWords asking) (lent 5) ∷ writeNumber (lent 516) (lent 6) ∷ [] ≡ 0 ∷ 3 ∷ 4 ∷ 8 ∷ 9 ∷ []
 unfolding grammar records writeIs writeRefusal recordRefusal writeNumber
 write-met = refl
 
 -- the pointer's number after a success, and after a refusal
-write-bits : writeBits (recordWords asking) (lent 6) 77 ∷ writeBits (recordWords asking) (lent 5) 77 ∷ writeBits (lent 513) (lent 6) 77 ∷ []
+write-bits : writeBits (recordWords asking) (lent 6) 77 ∷ writeBits (recordWords asking) (lent 5) 77 ∷ writeBits (lent 516) (lent 6) 77 ∷ []
     ≡ 42 ∷ 77 ∷ 77 ∷ []
 unfolding grammar records writeIs writeRefusal recordRefusal writeBits
 write-bits = refl
@@ -73,7 +75,7 @@ empty-length : emptyLength 1 (lent 5) 77 ∷ emptyLength 1 (lent 4) 77 ∷ [] �
 unfolding calls
 empty-length = refl
 
--- number, entry and place of what boc_capture, boc_restore, boc_contents and boc_decide answer; a success leaves 77
+-- number, entry and place of what boc_capture, boc_restore, boc_reload, boc_contents and boc_decide answer; a success leaves 77
 abbrev stored : Stored → List ℕ
 stored a = storedNumber a ∷ storedEntry a 77 ∷ storedPlace a 77 ∷ []
 
@@ -122,6 +124,24 @@ restore-met = (refl, refl, refl, refl, refl, refl)
 restore-bits : restoredLength (restoreAnswer bytesA 1 5 1 (lent 18)) 77 ∷ restoredLength (restoreAnswer bytesA 1 5 2 (lent 18)) 77 ∷ [] ≡ 138 ∷ 77 ∷ []
 unfolding calls bodyAgrees filingOf restoreIs inRange
 restore-bits = refl
+
+-- 9: part 3, a reserved definition type, an acknowledgement without delivery; 12: profile A's lists under removal
+reload-met : (restored (reloadAnswer bytesA 1 5 1 1 1 1 (lent 18)) ≡ 0 ∷ 77 ∷ 77 ∷ [])
+    × (restored (reloadAnswer bytesA 1 5 3 1 1 1 (lent 18)) ≡ 9 ∷ nowhere ∷ nowhere ∷ [])
+    × (restored (reloadAnswer bytesA 1 5 1 3 1 1 (lent 18)) ≡ 9 ∷ nowhere ∷ nowhere ∷ [])
+    × (restored (reloadAnswer bytesA 1 5 1 1 0 1 (lent 18)) ≡ 9 ∷ nowhere ∷ nowhere ∷ [])
+    × (restored (reloadAnswer [] 1 5 1 1 1 1 (lent 18)) ≡ 7 ∷ nowhere ∷ nowhere ∷ [])
+    × (restored (reloadAnswer damagedA 1 5 1 1 1 1 (lent 18)) ≡ 7 ∷ 0 ∷ 6 ∷ [])
+    × (restored (reloadAnswer bytesA 1 5 2 1 1 1 (lent 18)) ≡ 11 ∷ nowhere ∷ nowhere ∷ [])
+    × (restored (reloadAnswer bytesA 1 5 1 2 1 1 (lent 18)) ≡ 12 ∷ nowhere ∷ nowhere ∷ [])
+    × (restored (reloadAnswer bytesA 1 5 1 1 1 1 (lent 17)) ≡ 8 ∷ nowhere ∷ nowhere ∷ [])
+unfolding calls bodyAgrees filingOf inRange writeIs writeRefusal recordRefusal isDefinition defineOf stands reloadIs
+reload-met = (refl, refl, refl, refl, refl, refl, refl, refl, refl)
+
+reload-bits : restoredLength (reloadAnswer bytesA 1 5 1 1 1 1 (lent 18)) 77 ∷ restoredLength (reloadAnswer bytesA 1 5 1 2 1 1 (lent 18)) 77 ∷ []
+    ≡ 137 ∷ 77 ∷ []
+unfolding calls bodyAgrees filingOf inRange writeIs writeRefusal recordRefusal isDefinition defineOf stands reloadIs
+reload-bits = refl
 
 -- speech of user 1/5 to an identity of network 1, and to the number 112
 abbrev to : ℕ → List ℕ

@@ -56,9 +56,12 @@ partOf affected result services lists = record {
   affected = identities (affected ∷ []);
   asked = 0;
   result = result;
-  delivery = 0;
+  status = 0;
   services = record { count = length services; list = services ++ replicate (7 - length services) 0 };
   lists = lists;
+  delivery = 0;
+  acknowledgement = 0;
+  definition = 0;
 }
 
 -- an identity part with groups, restricted identities and exceptions

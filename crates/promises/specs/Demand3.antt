@@ -1,12 +1,13 @@
--- Demand 3: after any sequence of offered PDUs, restoring gives exactly the last one accepted for that user and part, or "not held", and every
--- decision is the barring rule applied to that same PDU.
+-- Demand 3: after any sequence of offered PDUs, restoring gives exactly the last one accepted for that user and part, or "not held", every
+-- decision is the barring rule applied to that same PDU, and a reload puts that same PDU's part back.
 use mathlib.Core.Path.{_≡_, ap, _∙_}
 use mathlib.Core.Bool.{true}
 use mathlib.Core.List.{List}
 use mathlib.Core.Option.{Option, none, some}
 use Prim.Native.Nat.{ℕ, _≤_}
 use lib.ListN.{length, take}
-use Rattle.bits.specs.Frame.{bytesFor}
+use Rattle.bits.specs.Frame.{bytesFor, pack}
+use Rattle.grammar.specs.Grammar.{pdu}
 use Rattle.reader.specs.Read.{readIs}
 use Rattle.rules.specs.Request.{requestRefusal}
 use Rattle.rules.specs.Rule.{ruling}
@@ -14,7 +15,7 @@ use Rattle.rules.specs.declared.request.Request.{Request}
 use Rattle.archive.specs.Model.{inRange}
 use Rattle.archive.specs.Refusals.{plain}
 use Rattle.archive.specs.Keeping.{over, emptyIs, emptyOut}
-use Rattle.archive.specs.Restoring.{restoreIs, restoreOut}
+use Rattle.archive.specs.Restoring.{restores, restoreIs, restoreOut}
 use Rattle.archive.specs.History.{Offer, afterAll, lastAccepted}
 use Rattle.archive.specs.declared.contents.Key.{Key}
 use Rattle.archive.specs.declared.Stored.the-variants.{Bytes}
@@ -24,6 +25,10 @@ use Rattle.barring.specs.Decision.{decisionOf}
 use Rattle.barring.specs.Decide.{keyFor, partIn, decideIs}
 use Rattle.barring.specs.declared.Decision.the-variants.{Allowed, NotHeld}
 use Rattle.barring.proofs.History as deciding
+use Rattle.reload.specs.Define.{isDefinition, defineOf}
+use Rattle.reload.specs.Reload.{redefined, reloadIs, reloadOut}
+use Rattle.reload.specs.declared.Definition.{Definition}
+use Rattle.reload.proofs.History as reloading
 
 -- The empty archive of a home network, the m bytes that `empty` wrote; and PDUs offered one after another, each with the buffer lent for it.
 -- After a refusal one goes on with the old archive.
@@ -45,6 +50,21 @@ module _ (home : ℕ) (lent : List ℕ) (m : ℕ) (e : emptyIs home (length lent
     pub restores-nothing-else : last k ≡ none
         → (restoreIs archive k (length out) ≡ Refused (plain 11)) × (restoreOut archive k out ≡ out)
     restores-nothing-else = history.never home lent m e offers k r out
+
+  module _ (k : Key) (r : inRange k ≡ true) (d : Definition) (f : isDefinition d ≡ true) (out : List ℕ) where
+    -- A reload answers by the record of that same PDU, and writes its DEFINE,
+    pub reloads-the-last : (o : Offer) → last k ≡ some o → let part = readIs (o .pdu) (o .bits) .found in
+        (reloadIs archive k d out ≡ redefined d part out)
+        × (reloadOut archive k d out ≡ restores (redefined d part out) (pack (pdu .print (defineOf d part))) out)
+    reloads-the-last o l =
+        let h = reloading.reload-history home lent m e offers k r d f out in
+        rw l at h
+
+    -- or says "not held", and no byte changed.
+    pub reloads-nothing-else : last k ≡ none → (reloadIs archive k d out ≡ Refused (plain 11)) × (reloadOut archive k d out ≡ out)
+    reloads-nothing-else l =
+        let h = reloading.reload-history home lent m e offers k r d f out in
+        rw l at h
 
   module _ (q : Request) (f : requestRefusal q ≡ 0) where
     -- The decision is the barring rule applied to the record of that same PDU,

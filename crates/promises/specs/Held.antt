@@ -114,6 +114,11 @@ interrogating : number (0x49 ∷ 0x62 ∷ 0x00 ∷ 0x00 ∷ 0x0a ∷ 0x40 ∷ []
 unfolding calls
 interrogating = refl
 
+-- a DEFINE, the removal of service 2 with delivery: 6
+defining : number (0x48 ∷ 0xa2 ∷ 0x00 ∷ 0x00 ∷ 0x0a ∷ 0xa2 ∷ 0x80 ∷ []) 50 ≡ 6
+unfolding calls
+defining = refl
+
 -- ---- the entry under which a PDU is filed: nine bytes, network (3), SSI (3), part (1), bit length (2)
 
 abbrev filed : List ℕ → ℕ → List ℕ

@@ -9,6 +9,7 @@ pub mod Profiles
 pub mod Cases
 pub mod Rules
 pub mod Visitors
+pub mod Reload
 pub mod Words
 pub mod Calls
 pub mod CallsMet

@@ -1,5 +1,5 @@
 -- Demand 3 as C meets it: boc_empty, then boc_capture any number of times; boc_restore gives the last PDU for which boc_capture gave 0, for
--- that user and part, and boc_decide decides by it, or says 4, not held.
+-- that user and part, boc_reload puts its part back, and boc_decide decides by it, or says 4, not held.
 use mathlib.Core.Path.{_≡_}
 use mathlib.Core.Bool.{_&&_}
 use mathlib.Core.List.{List, [], _∷_}
@@ -8,19 +8,25 @@ use Prim.Native.Nat.{ℕ, _≤_, _<_}
 use lib.ListN.{length, take}
 use lib.Dec.{eqb}
 use Rattle.bits.specs.Bits.{pick}
-use Rattle.bits.specs.Frame.{bytesFor}
+use Rattle.bits.specs.Frame.{bytesFor, pack}
+use Rattle.grammar.specs.Grammar.{pdu}
 use Rattle.reader.specs.Read.{readIs}
 use Rattle.rules.specs.Rule.{ruling}
 use Rattle.archive.specs.Filing.{names}
 use Rattle.archive.specs.Keeping.{over, emptyOut, captureOut}
-use Rattle.archive.specs.Restoring.{restoreOut}
+use Rattle.archive.specs.Restoring.{restores, restoreOut}
 use Rattle.archive.specs.History.{Offer, entryOf}
 use Rattle.archive.specs.declared.contents.Key.{Key}
+use Rattle.reload.specs.Define.{defineOf}
+use Rattle.reload.specs.Reload.{redefined, reloadIs, reloadOut}
+use Rattle.reload.specs.declared.Definition.{Definition}
 use Rattle.words.specs.RequestWords.{requestFrom}
 use Rattle.barring.specs.Decide.{keyFor}
 use Rattle.barring.specs.Decision.{decisionOf, verdictOf}
 use Rattle.boc.specs.Calls.{emptyNumber, emptyLength, storedNumber, storedLength, captureAnswer, restoredNumber, restoredLength, keyOf, restoreAnswer}
 use Rattle.boc.specs.Calls.{decidedNumber, decidedVerdict, decideAnswer}
+use Rattle.promises.specs.Archive.{Ranged}
+use Rattle.promises.specs.Demand1.Reload.{Asked}
 
 -- a call of boc_capture: the PDU, its bits and the buffer; and the number behind the pointer before it
 pub record Call : Type 0 where
@@ -65,6 +71,17 @@ pub record Promise (home : ℕ) (lent : List ℕ) (old : ℕ) (calls : List Call
       → lastZero (keyOf network ssi part) (begun home lent old) none calls ≡ none
       → let answer = restoreAnswer b network ssi part out in
       (restoredNumber answer ≡ 11) × (restoredLength answer bits ≡ bits) × (restoreOut b (keyOf network ssi part) out ≡ out)
+  -- boc_reload answers by the record of that same PDU, and leaves its DEFINE,
+  pub reloads-the-last : emptyNumber home lent ≡ 0 → let b = goneOnAll (begun home lent old) calls in
+      (k : Key) (d : Definition) → Ranged k → Asked d → (out : List ℕ) (o : Offer) → lastZero k (begun home lent old) none calls ≡ some o
+      → let part = readIs (o .pdu) (o .bits) .found in
+      (reloadIs b k d out ≡ redefined d part out)
+      × (reloadOut b k d out ≡ restores (redefined d part out) (pack (pdu .print (defineOf d part))) out)
+  -- or gives 11, and changes nothing.
+  pub reloads-nothing-else : emptyNumber home lent ≡ 0 → let b = goneOnAll (begun home lent old) calls in
+      (k : Key) (d : Definition) → Ranged k → Asked d → (out : List ℕ) (bits : ℕ) → lastZero k (begun home lent old) none calls ≡ none
+      → let answer = reloadIs b k d out in
+      (restoredNumber answer ≡ 11) × (restoredLength answer bits ≡ bits) × (reloadOut b k d out ≡ out)
   -- Where boc_decide returns 0, the decision is the number of what the barring rule says by the record of that same PDU,
   pub decides-by-the-last : emptyNumber home lent ≡ 0 → let b = goneOnAll (begun home lent old) calls in
       (words : List ℕ) (before : ℕ) → decidedNumber (decideAnswer b words) ≡ 0 → let q = requestFrom words in

@@ -45,18 +45,28 @@ module _ (b : List ℕ) (key : Key) where
   held = lookup key (reading b .held)
 
   -- what the table says is what the call tests
-  ranged : Ranged key → inRange key ≡ true
+  pub ranged : Ranged key → inRange key ≡ true
   ranged = archives.in-range key .1
 
-  holds : Ranged key → (k : IsArchive b) (h : Held) → Holds b key k h → held ≡ some h
+  pub holds : Ranged key → (k : IsArchive b) (h : Held) → Holds b key k h → held ≡ some h
   holds r k h d =
       archives.found b (archives.is-archive b .1 k) key r h .1
       (subst (λ (a : Archive). HeldFor (a .held) key h) (archives.one-reading b k) d)
 
-  holds-none : Ranged key → (k : IsArchive b) → ((h : Held) → Holds b key k h → ⊥) → held ≡ none
+  pub holds-none : Ranged key → (k : IsArchive b) → ((h : Held) → Holds b key k h → ⊥) → held ≡ none
   holds-none r k d =
       archives.not-found b (archives.is-archive b .1 k) key r .1
       (subst (λ (a : Archive). (h : Held) → HeldFor (a .held) key h → ⊥) (archives.one-reading b k) d)
+
+  -- and what the call finds is what the table says
+  pub held-by : Ranged key → (k : IsArchive b) (h : Held) → held ≡ some h → Holds b key k h
+  held-by r k h e =
+      subst (λ (a : Archive). HeldFor (a .held) key h) (sym (archives.one-reading b k)) (archives.found b (archives.is-archive b .1 k) key r h .0 e)
+
+  pub none-by : Ranged key → (k : IsArchive b) → held ≡ none → (h : Held) → Holds b key k h → ⊥
+  none-by r k e =
+      subst (λ (a : Archive). (h : Held) → HeldFor (a .held) key h → ⊥) (sym (archives.one-reading b k))
+      (archives.not-found b (archives.is-archive b .1 k) key r .0 e)
 
   module _ (room : ℕ) where
     abbrev Both : Refusal → Type 0
@@ -85,15 +95,11 @@ module _ (b : List ℕ) (key : Key) where
         go true e checked.Archive f none g =
             let r = archives.in-range key .0 e in
             let k = broken.passes b .0 f in
-            let d = subst (λ (a : Archive). (h : Held) → HeldFor (a .held) key h → ⊥) (sym (archives.one-reading b k))
-            (archives.not-found b (archives.is-archive b .1 k) key r .0 g) in
-            to (asked r k none g) (not-held r k d, refl)
+            to (asked r k none g) (not-held r k (none-by r k g), refl)
         go true e checked.Archive f (some h) g =
             let r = archives.in-range key .0 e in
             let k = broken.passes b .0 f in
-            let d = subst (λ (a : Archive). HeldFor (a .held) key h) (sym (archives.one-reading b k))
-            (archives.found b (archives.is-archive b .1 k) key r h .0 g) in
-            to (asked r k (some h) g) (by h r k d (leb (bodySize h) room) refl)
+            to (asked r k (some h) g) (by h r k (held-by r k h g) (leb (bodySize h) room) refl)
 
     back : (f : Refusal) → Given b key room f → answer b key room ≡ f
     back f (success r k h d l) = ap restoredRefusal (asked r k (some h) (holds r k h d)) ∙ rw (le-leb _ _ l)

@@ -24,5 +24,8 @@ fetch-determined = by-equations (λ κs a x v p. (p, refl))
 pub check-determined : Determined archive.check.Kinds.ps archive.check.Kinds.r archive.check.Reads.Learnt
 check-determined = by-equations (λ κs a x v p. (p, refl))
 
+pub in-range-determined : Determined archive.in_range.Kinds.ps archive.in_range.Kinds.r archive.in_range.Reads.Learnt
+in-range-determined = by-equations (λ κs a x v p. (p, refl))
+
 pub home-determined : Determined archive.home.Kinds.ps archive.home.Kinds.r archive.home.Reads.Learnt
 home-determined = by-equations (λ κs a x v p. (p, refl))

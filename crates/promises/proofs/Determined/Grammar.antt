@@ -33,6 +33,9 @@ kind-refusal-determined = by-equations (λ κs a x v p. (p, refl))
 pub result-refusal-determined : Determined grammar.site.result_refusal.Kinds.ps grammar.site.result_refusal.Kinds.r grammar.site.result_refusal.Reads.Learnt
 result-refusal-determined = by-equations (λ κs a x v p. (p, refl))
 
+pub defined-part-determined : Determined grammar.site.defined_part.Kinds.ps grammar.site.defined_part.Kinds.r grammar.site.defined_part.Reads.Learnt
+defined-part-determined = by-equations (λ κs a x v p. (p, refl))
+
 pub between-refusal-determined : Determined grammar.site.between_refusal.Kinds.ps grammar.site.between_refusal.Kinds.r grammar.site.between_refusal.Reads.Learnt
 between-refusal-determined = by-equations (λ κs a x v p. (p, refl))
 

@@ -39,9 +39,12 @@ reversed = record {
   affected = record { code = 9; entries = user 200 ∷ user 199 ∷ replicate 6 zeroIdentity };
   asked = 1;
   result = 0;
-  delivery = 0;
+  status = 0;
   services = zeroServices;
   lists = zeroLists;
+  delivery = 0;
+  acknowledgement = 0;
+  definition = 0;
 }
 
 -- each number is met
