@@ -1,7 +1,7 @@
 /*
  * A gateway in small: captures what the switch answered for user 1/5, an identity part and a number part, restores
- * both, compares them bit for bit, decides calls, and tells where a damaged PDU and a damaged archive are at fault.
- * Ends with status 0 exactly if all is as it must be.
+ * both, compares them bit for bit, reloads the identity part as a DEFINE, decides calls, and tells where a damaged PDU
+ * and a damaged archive are at fault. Ends with status 0 exactly if all is as it must be.
  */
 #include <stdio.h>
 #include <string.h>
@@ -115,6 +115,53 @@ static int restore_and_compare(uint32_t part, const struct pdu *captured)
     return 0;
 }
 
+/* A part as a DEFINE that replaces what the switch has; the user is told and acknowledges it. */
+static uint32_t reload(uint32_t part, struct pdu *define, struct spot *spot)
+{
+    return boc_reload(store.buffers[store.current], store.length, HOME, USER, part, BOC_REPLACEMENT, 1, 1,
+                      define->bytes, sizeof define->bytes, &define->bits, &spot->entry, &spot->place);
+}
+
+/* Whether two records have the same words from a place up to another. */
+static int same_words(const uint32_t *a, const uint32_t *b, size_t from, size_t to)
+{
+    return memcmp(a + from, b + from, (to - from) * sizeof *a) == 0;
+}
+
+/* Reloads the identity part, and reads the DEFINE: its user, services and lists are those of the part. */
+static int reload_and_compare(void)
+{
+    uint32_t held[BOC_RECORD_WORDS], defined[BOC_RECORD_WORDS];
+    struct pdu define = {0};
+    struct spot spot;
+    size_t i;
+
+    if (refused("reload", reload(BOC_IDENTITY_PART, &define, &spot), &spot))
+        return 1;
+    printf("reloaded part %u: %zu bits,", (unsigned)BOC_IDENTITY_PART, define.bits);
+    for (i = 0; i < bytes_for(define.bits); i++)
+        printf(" %02x", define.bytes[i]);
+    printf("\n");
+    if (boc_read(identity_part.bytes, bytes_for(identity_part.bits), identity_part.bits, held, BOC_RECORD_WORDS,
+                 &spot.place) != BOC_OK ||
+        boc_read(define.bytes, bytes_for(define.bits), define.bits, defined, BOC_RECORD_WORDS, &spot.place) != BOC_OK)
+        return 1;
+    return defined[BOC_PDU_TYPE] != BOC_DEFINE || defined[BOC_DEFINITION_TYPE] != BOC_REPLACEMENT ||
+           !same_words(held, defined, BOC_AFFECTED, BOC_INTERROGATION_TYPE) ||
+           !same_words(held, defined, BOC_SERVICE_COUNT, BOC_DELIVERY);
+}
+
+/* A DEFINE has no place for the restricted number of the number part. */
+static int reload_numbers(void)
+{
+    struct pdu define = {0};
+    struct spot spot;
+    uint32_t number = reload(BOC_NUMBER_PART, &define, &spot);
+
+    refused("reload, number part", number, &spot);
+    return number != BOC_LOSS;
+}
+
 /* Decides a call for which all but the destination is set here, and compares the decision. */
 static int decide(const char *call, uint32_t request[BOC_REQUEST_WORDS], uint32_t expected)
 {
@@ -214,6 +261,8 @@ int main(void)
     if (make_number_part(&number_part) || capture(&number_part) || list())
         return 1;
     if (restore_and_compare(BOC_IDENTITY_PART, &identity_part) || restore_and_compare(BOC_NUMBER_PART, &number_part))
+        return 1;
+    if (reload_and_compare() || reload_numbers())
         return 1;
     if (decide_identity("1/100", 100, BOC_BARRED_DESTINATION) || decide_identity("1/150", 150, BOC_ALLOWED))
         return 1;

@@ -1,6 +1,7 @@
 /*
- * boc.h: barring of outgoing calls (BOC), EN 300 392-12-18. Reads and writes INTERROGATE and INTERROGATE ACK PDUs,
- * keeps INTERROGATE ACKs in an archive, restores them, and decides calls from it. Link libboc.a.
+ * boc.h: barring of outgoing calls (BOC), EN 300 392-12-18. Reads and writes INTERROGATE, INTERROGATE ACK and DEFINE
+ * PDUs, keeps INTERROGATE ACKs in an archive, restores them, reloads them as DEFINEs, and decides calls from them.
+ * Link libboc.a.
  *
  * Every function returns 0, or the number of a refusal (enum boc_refusal). What it answers besides, a length or a
  * decision, goes through `length`, `bits` or `decision`. A refused call changes no byte of any buffer and leaves what
@@ -29,7 +30,8 @@
  * call writes is its own until it returns.
  *
  * Stack. No function calls itself or has a frame of varying size. boc_decide, which unpacks a record, needs at most
- * 5 KiB of stack, every other call at most 1 KiB: the tests refuse more (docs/BENCHMARKS.md has what was measured).
+ * 5 KiB of stack, boc_reload, which makes a second one of it, 6 KiB, every other call at most 1 KiB: the tests refuse
+ * more (docs/BENCHMARKS.md has what was measured).
  *
  * PDU. A PDU is a number of bits, most significant bit first, in exactly that number divided by 8, rounded up, of
  * bytes; unused bits at the end are zero.
@@ -58,9 +60,10 @@ enum boc_refusal {
     BOC_UNFIT = 6,       /* a legal PDU that no archive entry may hold */
     BOC_ARCHIVE = 7,     /* the archive breaks a rule */
     BOC_ROOM = 8,        /* a new key with 512 held, or the result exceeds 65,536 bytes or the lent buffer */
-    BOC_RANGE = 9,       /* a request, user, part, home network or count of words out of its range */
+    BOC_RANGE = 9,       /* a request, user, part, definition, home network or count of words out of its range */
     BOC_OTHER_TYPE = 10, /* a BOC PDU type that the standard names and that is not read */
-    BOC_NOT_HELD = 11    /* restore: not held */
+    BOC_NOT_HELD = 11,   /* restore, reload: not held */
+    BOC_LOSS = 12        /* reload: a held list that is not empty has no place in the DEFINE */
 };
 
 /* The entry or the place of a refusal that has none. */
@@ -78,7 +81,7 @@ enum boc_limits {
     BOC_SERVICE_PLACES = 7        /* services of a record */
 };
 
-/* ---- Records: a PDU as 514 words ---------------------------------------------------------------------------------
+/* ---- Records: a PDU as 517 words ---------------------------------------------------------------------------------
  *
  * A list of identities is a range type and 8 entries of SSI, extension present (0 or 1), extension: entry i begins at
  * the list's place + 1 + 3 * i. A list of external numbers is a range type and 8 entries of length and 24 digits:
@@ -96,16 +99,19 @@ enum boc_record_word {
     BOC_PDU_TYPE = 0,             /* enum boc_pdu_type */
     BOC_AFFECTED = 1,             /* affected users, a list of identities */
     BOC_INTERROGATION_TYPE = 26,  /* of an INTERROGATE: 1 identities, 2 external numbers, 3 both */
-    BOC_RESULT = 27,              /* from here on of an INTERROGATE ACK: enum boc_result */
-    BOC_DELIVERY_STATUS = 28,     /* 0 not requested, 1 pending, 2 acknowledged, 3 unknown */
-    BOC_SERVICE_COUNT = 29,       /* number of services, 1 to 7 */
+    BOC_RESULT = 27,              /* of an INTERROGATE ACK: enum boc_result */
+    BOC_DELIVERY_STATUS = 28,     /* of an INTERROGATE ACK: 0 not requested, 1 pending, 2 acknowledged, 3 unknown */
+    BOC_SERVICE_COUNT = 29,       /* of an INTERROGATE ACK or a DEFINE: number of services, 1 to 7 */
     BOC_SERVICES = 30,            /* 7 services, enum boc_service */
-    BOC_GROUPS = 37,              /* closed user groups, a list of identities */
-    BOC_RESTRICTED = 62,          /* of an identity part: restricted identities, a list of identities */
-    BOC_EXCEPTIONS = 87,          /* of an identity part: exceptions to them, a list of identities */
+    BOC_GROUPS = 37,              /* of either part or a DEFINE: closed user groups, a list of identities */
+    BOC_RESTRICTED = 62,          /* of an identity part or a DEFINE: restricted identities, a list of identities */
+    BOC_EXCEPTIONS = 87,          /* of an identity part or a DEFINE: exceptions to them, a list of identities */
     BOC_RESTRICTED_NUMBERS = 112, /* of a number part: restricted numbers, a list of external numbers */
     BOC_EXCEPTED_NUMBERS = 313,   /* of a number part: exceptions to them, a list of external numbers */
-    BOC_RECORD_WORDS = 514        /* words of a record */
+    BOC_DELIVERY = 514,           /* of a DEFINE: delivery to the affected users, 0 not requested, 1 requested */
+    BOC_ACKNOWLEDGEMENT = 515,    /* of a DEFINE: acknowledgement from them, likewise; 1 only with delivery */
+    BOC_DEFINITION_TYPE = 516,    /* of a DEFINE: enum boc_definition_type */
+    BOC_RECORD_WORDS = 517        /* words of a record */
 };
 
 /* The words of an entry, from where it begins, and how many they are. */
@@ -120,8 +126,16 @@ enum boc_entry_word {
 };
 
 enum boc_pdu_type {
+    BOC_DEFINE = 5,
     BOC_INTERROGATE = 11,
     BOC_INTERROGATE_ACK = 12
+};
+
+/* Definition types. A removal has no lists; 3 is reserved. */
+enum boc_definition_type {
+    BOC_ADDITION = 0,
+    BOC_REPLACEMENT = 1,
+    BOC_REMOVAL = 2
 };
 
 /* Interrogation results. Only the two that provide something are filed; 5 is reserved. */
@@ -199,7 +213,7 @@ enum boc_decision {
 
 /*
  * Reads the PDU of `bits` bits in `pdu` and writes its record to `record`; a refusal writes `place`.
- * Refuses, in this order: BOC_RANGE if record_words is not 514; BOC_FRAME; element by element from the first,
+ * Refuses, in this order: BOC_RANGE if record_words is not 517; BOC_FRAME; element by element from the first,
  * BOC_SHORT before BOC_VALUE (at the PDU type also BOC_OTHER_TYPE), and BOC_ENDS after the second end of a range;
  * BOC_LEFT.
  */
@@ -208,7 +222,7 @@ uint32_t boc_read(const uint8_t *pdu, size_t pdu_len, size_t bits, uint32_t *rec
 
 /*
  * Writes the PDU of a record to the front of `out`, and its length in bits to `bits`.
- * Refuses, in this order: BOC_RANGE if record_words is not 514; BOC_VALUE for a PDU type other than the two, or for
+ * Refuses, in this order: BOC_RANGE if record_words is not 517; BOC_VALUE for a PDU type other than the three, or for
  * anything that must be zero and is not; element by element BOC_VALUE and BOC_ENDS as reading does; BOC_ROOM.
  */
 uint32_t boc_write(const uint32_t *record, size_t record_words, uint8_t *out, size_t out_len, size_t *bits);
@@ -236,6 +250,18 @@ uint32_t boc_capture(const uint8_t *archive, size_t archive_len, const uint8_t *
  */
 uint32_t boc_restore(const uint8_t *archive, size_t archive_len, uint32_t network, uint32_t ssi, uint32_t part,
                      uint8_t *out, size_t out_len, size_t *bits, size_t *entry, size_t *place);
+
+/*
+ * Writes the part held for a user to the front of `out` as a DEFINE, and its length in bits to `bits`: the affected
+ * user, the services and the lists as they are held, under a definition type (enum boc_definition_type), delivery and
+ * acknowledgement (0 or 1). Of a number part these are its groups, and both lists of identities are empty.
+ * Refuses, in this order: BOC_RANGE as boc_restore does, and for a definition type over 2, a delivery or
+ * acknowledgement over 1, or an acknowledgement without delivery; BOC_ARCHIVE; BOC_NOT_HELD; BOC_LOSS for a list of
+ * numbers that is not empty, which no DEFINE has, and for any list that is not empty under a removal; BOC_ROOM.
+ */
+uint32_t boc_reload(const uint8_t *archive, size_t archive_len, uint32_t network, uint32_t ssi, uint32_t part,
+                    uint32_t definition, uint32_t delivery, uint32_t acknowledgement, uint8_t *out, size_t out_len,
+                    size_t *bits, size_t *entry, size_t *place);
 
 /*
  * Decides a request by the part that the archive holds for its user, and writes the decision (enum boc_decision) to

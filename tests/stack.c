@@ -4,7 +4,8 @@
  * for one user and for eight; archives of 512 entries and of 65,536 bytes, asked about their last entry. It is tried
  * accepted, and refused as late as it can be: at the last element, for the last byte of room, for the last entry.
  * Prints a Markdown table; ends with status 1 if an answer is not the one that is expected, or a call uses more than
- * its limit: 5 KiB for a decision, which unpacks a record, and 1 KiB for every other call.
+ * its limit: 5 KiB for a decision, which unpacks a record, 6 KiB for a reload, which makes a second one of it, and 1 KiB
+ * for every other call.
  */
 #define _XOPEN_SOURCE 700
 #include <stdio.h>
@@ -13,13 +14,13 @@
 
 #include "boc.h"
 
-enum { STACK_BYTES = 1 << 20, SMALL = 1024, LARGE = 5 * 1024, PAINT = 0xa5 };
+enum { STACK_BYTES = 1 << 20, SMALL = 1024, ONE_RECORD = 5 * 1024, TWO_RECORDS = 6 * 1024, PAINT = 0xa5 };
 
 /* The largest network and SSI, of which each has eight digits in a listing; and the digit of every number. */
 enum { TOP = BOC_NETWORK_LIMIT - 1, DIGIT = 2 };
 
 /* What the calls are lent. */
-static uint32_t record[BOC_RECORD_WORDS], request[BOC_REQUEST_WORDS], user, part, home, decision;
+static uint32_t record[BOC_RECORD_WORDS], request[BOC_REQUEST_WORDS], user, part, definition, home, decision;
 static uint8_t pdu[BOC_PDU_BYTES + 1], archive[BOC_ARCHIVE_BYTES + 1], out[BOC_ARCHIVE_BYTES];
 static size_t bits, archive_len, room = sizeof out, number, at_entry, at_place;
 
@@ -42,21 +43,26 @@ static uint32_t restores(void)
 {
     return boc_restore(archive, archive_len, TOP, user, part, out, room, &number, &at_entry, &at_place);
 }
+static uint32_t reloads(void)
+{
+    return boc_reload(archive, archive_len, TOP, user, part, definition, 1, 1, out, room, &number, &at_entry,
+                      &at_place);
+}
 static uint32_t decides(void)
 {
     return boc_decide(archive, archive_len, request, BOC_REQUEST_WORDS, &decision, &at_entry, &at_place);
 }
 static uint32_t lists(void) { return boc_contents(archive, archive_len, out, room, &number, &at_entry, &at_place); }
 
-enum call { READ, WRITE, EMPTY, CAPTURE, RESTORE, DECIDE, CONTENTS, CALLS };
+enum call { READ, WRITE, EMPTY, CAPTURE, RESTORE, RELOAD, DECIDE, CONTENTS, CALLS };
 static struct {
     const char *name;
     uint32_t (*call)(void);
     size_t limit, most;
 } calls[CALLS] = {
     {"boc_read", reads, SMALL, 0},       {"boc_write", writes, SMALL, 0},     {"boc_empty", empties, SMALL, 0},
-    {"boc_capture", captures, SMALL, 0}, {"boc_restore", restores, SMALL, 0}, {"boc_decide", decides, LARGE, 0},
-    {"boc_contents", lists, SMALL, 0},
+    {"boc_capture", captures, SMALL, 0}, {"boc_restore", restores, SMALL, 0}, {"boc_reload", reloads, TWO_RECORDS, 0},
+    {"boc_decide", decides, ONE_RECORD, 0}, {"boc_contents", lists, SMALL, 0},
 };
 
 static _Alignas(16) unsigned char stack[STACK_BYTES];
@@ -112,15 +118,19 @@ static void expect(enum call call, uint32_t expected)
 
 /* The kinds of PDUs. The range types are of groups, restricted and excepted entries. */
 static const struct kind {
-    uint32_t type, result, codes[3];
+    uint32_t type, result, definition, codes[3];
     size_t last;                /* the word of its last element */
     uint32_t of_pdu, of_record; /* what is answered if its last four bits are the other ones, or its last word is 15 */
 } kinds[] = {
-    {BOC_INTERROGATE, 0, {0}, BOC_INTERROGATION_TYPE, BOC_VALUE, BOC_VALUE},
-    {BOC_INTERROGATE_ACK, BOC_RESULT_FAILED, {0}, BOC_SERVICES + 6, BOC_VALUE, BOC_VALUE},
-    {BOC_INTERROGATE_ACK, BOC_RESULT_IDENTITIES, {8, 8, 8}, BOC_EXCEPTIONS + 24, BOC_OK, BOC_OK},
-    {BOC_INTERROGATE_ACK, BOC_RESULT_IDENTITIES, {9, 9, 9}, BOC_EXCEPTIONS + 6, BOC_ENDS, BOC_ENDS},
-    {BOC_INTERROGATE_ACK, BOC_RESULT_NUMBERS, {8, 8, 8}, BOC_EXCEPTED_NUMBERS + 200, BOC_VALUE, BOC_VALUE},
+    {BOC_INTERROGATE, 0, 0, {0}, BOC_INTERROGATION_TYPE, BOC_VALUE, BOC_VALUE},
+    {BOC_INTERROGATE_ACK, BOC_RESULT_FAILED, 0, {0}, BOC_SERVICES + 6, BOC_VALUE, BOC_VALUE},
+    {BOC_INTERROGATE_ACK, BOC_RESULT_IDENTITIES, 0, {8, 8, 8}, BOC_EXCEPTIONS + 24, BOC_OK, BOC_OK},
+    {BOC_INTERROGATE_ACK, BOC_RESULT_IDENTITIES, 0, {9, 9, 9}, BOC_EXCEPTIONS + 6, BOC_ENDS, BOC_ENDS},
+    {BOC_INTERROGATE_ACK, BOC_RESULT_NUMBERS, 0, {8, 8, 8}, BOC_EXCEPTED_NUMBERS + 200, BOC_VALUE, BOC_VALUE},
+    {BOC_INTERROGATE_ACK, BOC_RESULT_NUMBERS, 0, {8, 0, 0}, BOC_EXCEPTED_NUMBERS, BOC_VALUE, BOC_VALUE},
+    {BOC_DEFINE, 0, BOC_REPLACEMENT, {8, 8, 8}, BOC_EXCEPTIONS + 24, BOC_OK, BOC_OK},
+    {BOC_DEFINE, 0, BOC_REPLACEMENT, {9, 9, 9}, BOC_EXCEPTIONS + 6, BOC_ENDS, BOC_ENDS},
+    {BOC_DEFINE, 0, BOC_REMOVAL, {0}, BOC_SERVICES + 6, BOC_VALUE, BOC_VALUE},
 };
 enum { KINDS = sizeof kinds / sizeof kinds[0] };
 
@@ -163,14 +173,16 @@ static void prepare(const struct kind *kind, uint32_t users, uint32_t ssi)
         return;
     }
     record[BOC_RESULT] = kind->result;
+    record[BOC_DELIVERY] = record[BOC_ACKNOWLEDGEMENT] = kind->type == BOC_DEFINE;
+    record[BOC_DEFINITION_TYPE] = kind->definition;
     record[BOC_SERVICE_COUNT] = BOC_SERVICE_PLACES;
     fill_identities(BOC_GROUPS, kind->codes[0], TOP);
-    if (kind->result == BOC_RESULT_IDENTITIES) {
-        fill_identities(BOC_RESTRICTED, kind->codes[1], TOP);
-        fill_identities(BOC_EXCEPTIONS, kind->codes[2], TOP);
-    } else if (kind->result == BOC_RESULT_NUMBERS) {
+    if (kind->result == BOC_RESULT_NUMBERS) {
         fill_numbers(BOC_RESTRICTED_NUMBERS, kind->codes[1]);
         fill_numbers(BOC_EXCEPTED_NUMBERS, kind->codes[2]);
+    } else {
+        fill_identities(BOC_RESTRICTED, kind->codes[1], TOP);
+        fill_identities(BOC_EXCEPTIONS, kind->codes[2], TOP);
     }
 }
 
@@ -201,7 +213,7 @@ static void write_each_way(const struct kind *kind)
     record[kind->last] = 15;
     expect(WRITE, kind->of_record);
     record[kind->last] = last;
-    /* The last word of all is a digit or unused. */
+    /* The last word of all is a definition type or unused. */
     last = record[every];
     record[every] = 15;
     expect(WRITE, BOC_VALUE);
@@ -371,10 +383,26 @@ static void decide(uint32_t destination, uint32_t decided)
     expect(DECIDE, BOC_RANGE);
 }
 
-/* The calls that ask, about the last entry, one that is not held, and with numbers out of range. */
-static void ask_each_way(uint32_t held)
+/* Reloads the last entry: numbers would be lost, and so would any list under a removal. */
+static void reload_each_way(const struct kind *kind)
 {
-    uint32_t other = BOC_IDENTITY_PART + BOC_NUMBER_PART - held;
+    uint32_t numbers = kind->result == BOC_RESULT_NUMBERS && kind->codes[1] != 0;
+
+    definition = BOC_REMOVAL;
+    expect(RELOAD, BOC_LOSS);
+    definition = BOC_REPLACEMENT;
+    expect(RELOAD, numbers ? BOC_LOSS : BOC_OK);
+    if (!numbers) {
+        room = bytes_for(number) - 1;
+        expect(RELOAD, BOC_ROOM);
+        room = sizeof out;
+    }
+}
+
+/* The calls that ask, about the last entry, one that is not held, and with numbers out of range. */
+static void ask_each_way(const struct kind *kind)
+{
+    uint32_t held = kind->result, other = BOC_IDENTITY_PART + BOC_NUMBER_PART - held;
 
     user = TOP;
     part = held;
@@ -382,10 +410,13 @@ static void ask_each_way(uint32_t held)
     room = bytes_for(number) - 1;
     expect(RESTORE, BOC_ROOM);
     room = sizeof out;
+    reload_each_way(kind);
     part = other;
     expect(RESTORE, BOC_NOT_HELD);
+    expect(RELOAD, BOC_NOT_HELD);
     user = BOC_NETWORK_LIMIT;
     expect(RESTORE, BOC_RANGE);
+    expect(RELOAD, BOC_RANGE);
     decide(held, BOC_BARRED_GROUP);
     decide(other, BOC_PART_NOT_HELD);
     expect(CONTENTS, BOC_OK);
@@ -402,6 +433,7 @@ static void refuse_each(uint32_t held)
     prepare_request(held);
     expect(CAPTURE, BOC_ARCHIVE);
     expect(RESTORE, BOC_ARCHIVE);
+    expect(RELOAD, BOC_ARCHIVE);
     expect(DECIDE, BOC_ARCHIVE);
     expect(CONTENTS, BOC_ARCHIVE);
 }
@@ -411,7 +443,7 @@ static void use_each_way(const struct kind *kind)
 {
     size_t last;
 
-    ask_each_way(kind->result);
+    ask_each_way(kind);
     archive_len++;
     refuse_each(kind->result);
     archive_len--;

@@ -59,6 +59,19 @@ static void lend(void *none)
     expect("boc_restore, no buffer",
            boc_restore(archive, archive_len, HOME, USER, BOC_IDENTITY_PART, none, 0, &n, &entry, &place), BOC_ROOM);
 
+    expect("boc_reload",
+           boc_reload(archive, archive_len, HOME, USER, BOC_IDENTITY_PART, BOC_REPLACEMENT, 1, 1, out, sizeof out, &n,
+                      &entry, &place),
+           BOC_OK);
+    expect("boc_reload, no archive",
+           boc_reload(none, 0, HOME, USER, BOC_IDENTITY_PART, BOC_REPLACEMENT, 1, 1, out, sizeof out, &n, &entry,
+                      &place),
+           BOC_ARCHIVE);
+    expect("boc_reload, no buffer",
+           boc_reload(archive, archive_len, HOME, USER, BOC_IDENTITY_PART, BOC_REPLACEMENT, 1, 1, none, 0, &n, &entry,
+                      &place),
+           BOC_ROOM);
+
     expect("boc_decide, no archive",
            boc_decide(none, 0, request, BOC_REQUEST_WORDS, &decision, &entry, &place), BOC_ARCHIVE);
     expect("boc_decide, no words",

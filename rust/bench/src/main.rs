@@ -7,13 +7,12 @@ use std::hint::black_box;
 use std::time::{Duration, Instant};
 
 use boc::ffi::Spot;
-use differential::{longest, Archive, Entry, Pdu, Record, Rng, Size};
+use differential::{longest, longest_define, Archive, Entry, Pdu, Record, Rng, Size};
 use reference::layout::{record as at, request, RECORD_WORDS, REQUEST_WORDS};
 
 const ROUNDS: usize = 200;
 const ROUND: Duration = Duration::from_micros(400);
 const ROOM: usize = 65_536;
-const CALLS: [&str; 4] = ["capture", "restore", "contents", "decide"];
 
 /// What a call answers: its refusal number, 0 for none, and a length or a decision besides.
 type Answer = (u32, usize);
@@ -111,6 +110,7 @@ fn read_and_write(rng: &mut Rng) {
         ("profile A", profile_a()),
         ("longest identity part", longest(rng, 1)),
         ("longest number part", longest(rng, 2)),
+        ("longest DEFINE", longest_define(rng)),
     ];
     for (name, record) in records {
         let Pdu { bytes, bits } = Pdu::of(&record);
@@ -129,8 +129,8 @@ fn read_and_write(rng: &mut Rng) {
     }
 }
 
-/// Capture in place of the last entry, restore of it, the listing, and a decision by the last entry, in the order of `CALLS`.
-fn on_archive(archive: &Archive) -> [Times; 4] {
+/// Capture in place of the last entry, restore and reload of it, the listing, and a decision by it.
+fn on_archive(archive: &Archive) -> Vec<(&'static str, Times)> {
     let held = archive.bytes();
     let held = held.as_slice();
     let Entry { user: [network, ssi], part, pdu } = archive.entries.last().expect("it has entries");
@@ -173,7 +173,26 @@ fn on_archive(archive: &Archive) -> [Times; 4] {
             answer(decided.map(|decision| decision.number() as usize))
         },
     );
-    [capture, restore, contents, decide]
+    let mut times = vec![("capture", capture), ("restore", restore)];
+    // A part with numbers is not reloaded.
+    if reference::reload(held, *network, *ssi, *part, 1, 1, 1, &mut [0; 512]).is_ok() {
+        times.push(("reload", reload(held, [*network, *ssi], *part)));
+    }
+    times.extend([("contents", contents), ("decide", decide)]);
+    times
+}
+
+/// Reload of a part as a replacement that is delivered and acknowledged.
+fn reload(held: &[u8], [network, ssi]: [u32; 2], part: u32) -> Times {
+    Times::of(
+        ROOM,
+        |out| {
+            through(|bits, spot| {
+                boc::ffi::reload(black_box(held), network, ssi, part, 1, 1, 1, out, bits, spot)
+            })
+        },
+        |out| answer(reference::reload(black_box(held), network, ssi, part, 1, 1, 1, out)),
+    )
 }
 
 fn head(cells: &[&str]) {
@@ -187,7 +206,7 @@ fn head(cells: &[&str]) {
 fn main() {
     let rng = &mut Rng::new(2026, 0);
     println!("Nanoseconds per call on {}, and the ratio of library to reference.", std::env::consts::ARCH);
-    println!("\nProfile A, and the longest parts with eight affected users:");
+    println!("\nProfile A, and the longest parts and DEFINE with eight affected users:");
     head(&["call", "PDU", "bits"]);
     read_and_write(rng);
 
@@ -201,15 +220,15 @@ fn main() {
                 let archive = Archive::of_parts(rng, count, &[kind], size);
                 let entries = archive.entries.len();
                 let times = on_archive(&archive);
-                for (call, times) in CALLS.iter().zip(times) {
+                for (call, times) in &times {
                     times.row(&format!("{call} | {name} | {body} | {entries}"));
                 }
                 measured.push((entries, times));
             }
-            let ((few, first), (many, last)) = (measured[0], measured[2]);
-            for (i, call) in CALLS.iter().enumerate() {
+            let ((few, first), (many, last)) = (&measured[0], &measured[2]);
+            for ((call, first), (_, last)) in first.iter().zip(last) {
                 let cells = format!("{call} | {name} | {body} | {few} to {many}");
-                growths.push((cells, Times::growth((few, first[i]), (many, last[i]))));
+                growths.push((cells, Times::growth((*few, *first), (*many, *last))));
             }
         }
     }

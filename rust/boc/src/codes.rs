@@ -31,6 +31,8 @@ codes! {
     /// The PDUs that are read and written.
     #[derive(Default)]
     PduType {
+        /// What is to be barred for users.
+        Define = 5,
         /// A request for what is held for users.
         Interrogate = 11,
         /// The switch's answer to it.
@@ -43,7 +45,7 @@ codes! {
     /// What an INTERROGATE asks for.
     #[derive(Default)]
     InterrogationType {
-        /// Nothing: an INTERROGATE ACK has no such element.
+        /// Nothing: only an INTERROGATE has this element.
         #[default]
         None = 0,
         /// Restricted identities.
@@ -74,6 +76,20 @@ codes! {
         NotValid = 6,
         /// The information is insufficient.
         Insufficient = 7,
+    }
+}
+
+codes! {
+    /// What a DEFINE does to an earlier definition for its users and services.
+    #[derive(Default)]
+    DefinitionType {
+        /// Completes it.
+        #[default]
+        Addition = 0,
+        /// Replaces it.
+        Replacement = 1,
+        /// Removes it. The DEFINE has no lists.
+        Removal = 2,
     }
 }
 

@@ -48,6 +48,21 @@ mod c {
             entry: *mut usize,
             place: *mut usize,
         ) -> u32;
+        pub fn boc_reload(
+            archive: *const u8,
+            archive_len: usize,
+            network: u32,
+            ssi: u32,
+            part: u32,
+            definition: u32,
+            delivery: u32,
+            acknowledgement: u32,
+            out: *mut u8,
+            out_len: usize,
+            bits: *mut usize,
+            entry: *mut usize,
+            place: *mut usize,
+        ) -> u32;
         pub fn boc_decide(
             archive: *const u8,
             archive_len: usize,
@@ -136,6 +151,42 @@ pub fn restore(
     let (out, out_len) = (out.as_mut_ptr(), out.len());
     // SAFETY: slices and references, as above.
     unsafe { c::boc_restore(held, held_len, network, ssi, part, out, out_len, bits, entry, place) }
+}
+
+/// `boc_reload`.
+#[allow(clippy::too_many_arguments)]
+pub fn reload(
+    archive: &[u8],
+    network: u32,
+    ssi: u32,
+    part: u32,
+    definition: u32,
+    delivery: u32,
+    acknowledgement: u32,
+    out: &mut [u8],
+    bits: &mut usize,
+    Spot { entry, place }: &mut Spot,
+) -> u32 {
+    let (held, held_len) = (archive.as_ptr(), archive.len());
+    let (out, out_len) = (out.as_mut_ptr(), out.len());
+    // SAFETY: slices and references, as above.
+    unsafe {
+        c::boc_reload(
+            held,
+            held_len,
+            network,
+            ssi,
+            part,
+            definition,
+            delivery,
+            acknowledgement,
+            out,
+            out_len,
+            bits,
+            entry,
+            place,
+        )
+    }
 }
 
 /// `boc_decide`.

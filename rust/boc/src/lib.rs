@@ -1,10 +1,11 @@
 //! Barring of outgoing calls (BOC, EN 300 392-12-18) from Rust: the proved library `libboc.a` behind slices,
 //! plain structs and enums.
 //!
-//! It reads and writes INTERROGATE and INTERROGATE ACK PDUs, keeps INTERROGATE ACKs in an archive, restores
-//! them bit for bit, and decides calls from it. Every call answers with a value or a [`Refusal`]; one that
-//! reads tells in [`Refused`] where it stopped, too. A refused call changes no byte of what it was lent, and
-//! an accepted one leaves the bytes after what it wrote. Nothing is allocated.
+//! It reads and writes INTERROGATE, INTERROGATE ACK and DEFINE PDUs, keeps INTERROGATE ACKs in an archive,
+//! restores them bit for bit, reloads them as DEFINEs, and decides calls from them. Every call answers with a
+//! value or a [`Refusal`]; one that reads tells in [`Refused`] where it stopped, too. A refused call changes
+//! no byte of what it was lent, and an accepted one leaves the bytes after what it wrote. Nothing is
+//! allocated.
 //!
 //! A PDU is a number of bits, most significant first, in exactly the bytes that hold them, with zero bits
 //! after them. An archive is exactly the slice that was written: the first N bytes of the buffer, where N is
@@ -46,6 +47,11 @@
 //! assert_eq!(restore(archive, user, Part::Identity, &mut back), Ok(bits));
 //! assert_eq!(&back[..pdu.len()], pdu);
 //!
+//! let definition = Definition { definition_type: DefinitionType::Replacement, ..Definition::default() };
+//! let define_bits = reload(archive, user, Part::Identity, definition, &mut back)?;
+//! let define = read(&back[..define_bits.div_ceil(8)], define_bits)?;
+//! assert_eq!((define.pdu_type, define.restricted), (PduType::Define, record.restricted));
+//!
 //! let refused = restore(archive, user, Part::Number, &mut back).unwrap_err();
 //! assert_eq!(refused.why, Refusal::NotHeld);
 //! let refused = read(pdu, bits + 1).unwrap_err();
@@ -66,8 +72,10 @@ mod refusal;
 mod request;
 mod words;
 
-pub use codes::{Decision, DeliveryStatus, InterrogationType, Outcome, Part, PduType, Service};
-pub use record::{Identities, Identity, List, Number, Numbers, Record, Services, RECORD_WORDS};
+pub use codes::{
+    Decision, DefinitionType, DeliveryStatus, InterrogationType, Outcome, Part, PduType, Service,
+};
+pub use record::{Definition, Identities, Identity, List, Number, Numbers, Record, Services, RECORD_WORDS};
 pub use refusal::{Refusal, Refused};
 pub use request::{Destination, Party, Request, REQUEST_WORDS};
 
@@ -125,6 +133,28 @@ pub fn capture(archive: &[u8], pdu: &[u8], bits: usize, out: &mut [u8]) -> Resul
 /// [`Room`](Refusal::Room), in this order.
 pub fn restore(archive: &[u8], user: Party, part: Part, out: &mut [u8]) -> Result<usize, Refused> {
     answer(|bits, spot| ffi::restore(archive, user.network, user.ssi, part.number(), out, bits, spot))
+}
+
+/// Writes the part held for a user to the front of `out` as a DEFINE, with the affected user, the services
+/// and the lists as they are held; answers its length in bits.
+///
+/// Refuses with [`Range`](Refusal::Range), [`Archive`](Refusal::Archive), [`NotHeld`](Refusal::NotHeld),
+/// [`Loss`](Refusal::Loss) and [`Room`](Refusal::Room), in this order. [`Loss`](Refusal::Loss) is for a list
+/// of numbers that is not empty, which no DEFINE has, and for any list that is not empty under a removal.
+pub fn reload(
+    archive: &[u8],
+    user: Party,
+    part: Part,
+    definition: Definition,
+    out: &mut [u8],
+) -> Result<usize, Refused> {
+    let Party { network, ssi } = user;
+    let Definition { definition_type, delivery, acknowledgement } = definition;
+    let (part, definition_type) = (part.number(), definition_type.number());
+    let [delivery, acknowledgement] = [delivery, acknowledgement].map(u32::from);
+    answer(|bits, spot| {
+        ffi::reload(archive, network, ssi, part, definition_type, delivery, acknowledgement, out, bits, spot)
+    })
 }
 
 /// Decides a call by the part that the archive holds for its user.

@@ -3,12 +3,12 @@
 use core::fmt;
 use core::str::FromStr;
 
-use crate::codes::{DeliveryStatus, InterrogationType, Outcome, PduType, Service};
+use crate::codes::{DefinitionType, DeliveryStatus, InterrogationType, Outcome, PduType, Service};
 use crate::words::{Crossing, Sink, Source};
 use crate::Refusal;
 
 /// Words of a record.
-pub const RECORD_WORDS: usize = 514;
+pub const RECORD_WORDS: usize = 517;
 /// Places of a list.
 const PLACES: usize = 8;
 /// Service places of a record.
@@ -160,24 +160,35 @@ impl fmt::Debug for Services {
     }
 }
 
+/// What a DEFINE asks for, besides its users, services and lists.
+#[derive(Clone, Copy, Debug, Default, PartialEq, Eq, Hash)]
+pub struct Definition {
+    /// What becomes of an earlier definition.
+    pub definition_type: DefinitionType,
+    /// Is delivery to the affected users requested?
+    pub delivery: bool,
+    /// Is acknowledgement from them requested? Only with delivery; without it this is refused.
+    pub acknowledgement: bool,
+}
+
 /// The record of a PDU. What its PDU does not carry has its default.
 #[derive(Clone, Copy, Debug, Default, PartialEq, Eq, Hash)]
 pub struct Record {
-    /// INTERROGATE or INTERROGATE ACK.
+    /// Which of the PDUs it is.
     pub pdu_type: PduType,
     /// The users that are asked or told about; never empty.
     pub affected: Identities,
     /// Of an INTERROGATE.
     pub interrogation_type: InterrogationType,
-    /// Of an INTERROGATE ACK, and so is all that follows.
+    /// Of an INTERROGATE ACK.
     pub result: Outcome,
-    /// Whether the users have been told.
+    /// Of an INTERROGATE ACK: whether the users have been told.
     pub delivery_status: DeliveryStatus,
-    /// The barred services.
+    /// The barred services, of an INTERROGATE ACK or a DEFINE.
     pub services: Services,
-    /// Closed user groups, of either part.
+    /// Closed user groups, of either part or a DEFINE that is no removal.
     pub groups: Identities,
-    /// Restricted identities, of an identity part.
+    /// Restricted identities, of an identity part or such a DEFINE.
     pub restricted: Identities,
     /// Exceptions to them.
     pub exceptions: Identities,
@@ -185,6 +196,8 @@ pub struct Record {
     pub restricted_numbers: Numbers,
     /// Exceptions to them.
     pub excepted_numbers: Numbers,
+    /// Of a DEFINE.
+    pub definition: Definition,
 }
 
 impl Record {
@@ -263,6 +276,19 @@ fn code<T: Default>(source: &mut Source<'_>, from_number: impl Fn(u32) -> Option
     from_number(source.take()).unwrap_or_default()
 }
 
+impl Crossing for Definition {
+    fn put(&self, sink: &mut Sink<'_>) {
+        sink.put(self.delivery.into());
+        sink.put(self.acknowledgement.into());
+        sink.put(self.definition_type.number());
+    }
+
+    fn take(source: &mut Source<'_>) -> Self {
+        let (delivery, acknowledgement) = (source.take() == 1, source.take() == 1);
+        Definition { definition_type: code(source, DefinitionType::from_number), delivery, acknowledgement }
+    }
+}
+
 impl Crossing for Record {
     fn put(&self, sink: &mut Sink<'_>) {
         sink.put(self.pdu_type.number());
@@ -276,6 +302,7 @@ impl Crossing for Record {
         self.exceptions.put(sink);
         self.restricted_numbers.put(sink);
         self.excepted_numbers.put(sink);
+        self.definition.put(sink);
     }
 
     fn take(source: &mut Source<'_>) -> Self {
@@ -291,6 +318,7 @@ impl Crossing for Record {
             exceptions: List::take(source),
             restricted_numbers: List::take(source),
             excepted_numbers: List::take(source),
+            definition: Definition::take(source),
         }
     }
 }

@@ -24,16 +24,18 @@ pub enum Refusal {
     Archive = 7,
     /// A new key with 512 held, or the result exceeds 65,536 bytes or the lent buffer.
     Room = 8,
-    /// A request, user, part, home network or count of words out of its range.
+    /// A request, user, part, definition, home network or count of words out of its range.
     Range = 9,
     /// A BOC PDU type that the standard names and that is not read.
     OtherType = 10,
-    /// Restore: not held.
+    /// Restore and reload: not held.
     NotHeld = 11,
+    /// Reload: a held list that is not empty has no place in the DEFINE.
+    Loss = 12,
 }
 
 impl Refusal {
-    /// The library's number, 1 to 11.
+    /// The library's number, 1 to 12.
     pub const fn number(self) -> u32 {
         self as u32
     }
@@ -54,6 +56,7 @@ impl Refusal {
             9 => Range,
             10 => OtherType,
             11 => NotHeld,
+            12 => Loss,
             _ => unreachable!("the library has no refusal {number}"),
         })
     }
@@ -68,9 +71,12 @@ impl Refusal {
             Refusal::Unfit => "a legal PDU that no archive entry may hold",
             Refusal::Archive => "the archive breaks a rule",
             Refusal::Room => "no room for the result",
-            Refusal::Range => "a request, user, part, home network or count of words out of its range",
+            Refusal::Range => {
+                "a request, user, part, definition, home network or count of words out of its range"
+            }
             Refusal::OtherType => "a BOC PDU type that is not read",
             Refusal::NotHeld => "not held",
+            Refusal::Loss => "a held list that is not empty has no place in the DEFINE",
         }
     }
 }

@@ -9,6 +9,14 @@ const PROFILE_A: [u8; 18] = [
     0x00,
 ];
 
+/// Profile A as a replacement that is delivered and acknowledged, a DEFINE of 137 bits.
+const DEFINE_A: [u8; 18] = [
+    0x48, 0xa2, 0x00, 0x00, 0x0a, 0xd2, 0x42, 0x40, 0x00, 0x19, 0x00, 0x00, 0x18, 0xe1, 0x00, 0x00, 0x96,
+    0x00,
+];
+const ACKNOWLEDGED_REPLACEMENT: Definition =
+    Definition { definition_type: DefinitionType::Replacement, delivery: true, acknowledgement: true };
+
 fn profile_a() -> Record {
     Record {
         affected: List::of([Identity::without_extension(5)]),
@@ -17,6 +25,15 @@ fn profile_a() -> Record {
         restricted: List::range(Identity::without_extension(100), Identity::without_extension(199)),
         exceptions: List::of([Identity::without_extension(150)]),
         ..Record::default()
+    }
+}
+
+fn define_a() -> Record {
+    Record {
+        pdu_type: PduType::Define,
+        result: Outcome::default(),
+        definition: ACKNOWLEDGED_REPLACEMENT,
+        ..profile_a()
     }
 }
 
@@ -44,6 +61,25 @@ fn a_record_is_written_and_read() {
     assert!(record.restricted.is_range());
     assert_eq!(record.exceptions.entries(), [Identity::without_extension(150)]);
     assert_eq!(record.services.as_slice(), [Service::Speech]);
+}
+
+#[test]
+fn a_define_is_written_and_read() {
+    let mut out = [0xff; PDU_BYTES];
+    assert_eq!(write(&define_a(), &mut out), Ok(137));
+    assert_eq!(out[..18], DEFINE_A);
+    assert_eq!(read(&DEFINE_A, 137), Ok(define_a()));
+    assert_eq!(capture(&example(), &DEFINE_A, 137, &mut out), refused(Refusal::Unfit, None, None));
+
+    // An acknowledgement without delivery, in writing and, at its place, in reading.
+    let undelivered = Definition { delivery: false, ..ACKNOWLEDGED_REPLACEMENT };
+    assert_eq!(write(&Record { definition: undelivered, ..define_a() }, &mut out), Err(Refusal::Value));
+    let mut pdu = DEFINE_A;
+    pdu[5] &= 0x7f;
+    assert_eq!(read(&pdu, 137), refused(Refusal::Value, None, Some(41)));
+    // A removal has no lists.
+    let removal = Definition { definition_type: DefinitionType::Removal, ..Definition::default() };
+    assert_eq!(write(&Record { definition: removal, ..define_a() }, &mut out), Err(Refusal::Value));
 }
 
 /// Profile A as words, each by its place in the header's table.
@@ -76,20 +112,32 @@ fn a_record_has_the_words_of_the_header() {
     let mut place = 7;
     assert_eq!(ffi::read(&PROFILE_A, 138, &mut read, &mut place), 0);
     assert_eq!((read, place), (words, 7));
+
+    let mut words = words;
+    for (place, word) in [(0, 5), (27, 0), (514, 1), (515, 1), (516, 1)] {
+        words[place] = word;
+    }
+    assert_eq!(define_a().to_words(), words);
+    assert_eq!(Record::from_words(&words), Some(define_a()));
 }
 
 #[test]
 fn words_that_no_record_has_are_none() {
-    // PDU type, extension present, interrogation type, result, delivery status, service, length, digit.
-    for (place, word) in [(0, 10), (3, 2), (26, 4), (27, 5), (28, 4), (36, 4), (113, 25), (114, 13)] {
+    let none_with = |place: usize, word: u32| {
         let mut words = words_of_profile_a();
         words[place] = word;
         assert_eq!(Record::from_words(&words), None, "{word} in place {place}");
+    };
+    // PDU type, extension present, interrogation type, result, delivery status, service, length, digit.
+    for (place, word) in [(0, 10), (3, 2), (26, 4), (27, 5), (28, 4), (36, 4), (113, 25), (114, 13)] {
+        none_with(place, word);
+    }
+    // Delivery, acknowledgement, definition type.
+    for (place, word) in [(514, 2), (515, 2), (516, 3)] {
+        none_with(place, word);
     }
     // An extension that is not present.
-    let mut words = words_of_profile_a();
-    words[4] = 1;
-    assert_eq!(Record::from_words(&words), None);
+    none_with(4, 1);
 }
 
 /// A refused call.
@@ -123,6 +171,7 @@ fn refusals_of_an_archive_have_their_entry() {
         assert_eq!(contents(&archive, &mut [0; 100]), expected);
         assert_eq!(capture(&archive, &PROFILE_A, 137, &mut [0; 100]), expected);
         assert_eq!(restore(&archive, USER, Part::Identity, &mut [0; 100]), expected);
+        assert_eq!(reload(&archive, USER, Part::Identity, Definition::default(), &mut [0; 100]), expected);
     };
     // The count; the first part, which is then number 0; the last unused bit; the second body's PDU type.
     broken(4, None, None);
@@ -144,6 +193,10 @@ fn refusals_have_their_numbers_and_words() {
     let failed = Record { exceptions: List::default(), ..failed };
     assert_eq!(captured(&failed, &example()), refused(Refusal::Unfit, None, None));
     assert_eq!(Refusal::NotHeld.to_string(), "refused 11: not held");
+    assert_eq!(
+        Refusal::Loss.to_string(),
+        "refused 12: a held list that is not empty has no place in the DEFINE"
+    );
 
     let words = |why, entry, place| Refused { why, entry, place }.to_string();
     assert_eq!(words(Refusal::NotHeld, None, None), "refused 11: not held");
@@ -191,6 +244,46 @@ fn an_archive_lists_restores_and_decides() {
     assert_eq!(decide(&archive, &in_group), Ok(Decision::Allowed));
     let all = Request { service: Service::All, ..in_group };
     assert_eq!(decide(&archive, &all), refused(Refusal::Range, None, None));
+}
+
+#[test]
+fn a_part_is_reloaded() {
+    let archive = example();
+    let mut out = [0xff; PDU_BYTES];
+    assert_eq!(reload(&archive, USER, Part::Identity, ACKNOWLEDGED_REPLACEMENT, &mut out), Ok(137));
+    assert_eq!(out[..18], DEFINE_A);
+    assert!(out[18..].iter().all(|byte| *byte == 0xff));
+
+    // A number part without numbers has its groups; one with numbers would lose them, and so would a removal.
+    let groups = List::of([Identity { ssi: 500, extension: Some(2) }]);
+    let numbers = Record {
+        affected: List::of([Identity::without_extension(5)]),
+        result: Outcome::Numbers,
+        services: Services::of([Service::All]),
+        groups,
+        ..Record::default()
+    };
+    let archive = captured(&numbers, &archive).unwrap();
+    let plain = Definition::default();
+    let bits = reload(&archive, USER, Part::Number, plain, &mut out).unwrap();
+    let expected = Record { pdu_type: PduType::Define, result: Outcome::default(), ..numbers };
+    assert_eq!(read(&out[..bits.div_ceil(8)], bits), Ok(expected));
+    let removal = Definition { definition_type: DefinitionType::Removal, ..plain };
+    let lost = refused(Refusal::Loss, None, None);
+    assert_eq!(reload(&archive, USER, Part::Number, removal, &mut out), lost);
+    let numbers = Record { restricted_numbers: List::of(["112".parse().unwrap()]), ..numbers };
+    let archive = captured(&numbers, &archive).unwrap();
+    assert_eq!(reload(&archive, USER, Part::Number, plain, &mut out), lost);
+
+    let undelivered = Definition { acknowledgement: true, ..plain };
+    let answer = reload(&archive, USER, Part::Identity, undelivered, &mut out);
+    assert_eq!(answer, refused(Refusal::Range, None, None));
+    let nobody = Party { network: 2, ..USER };
+    assert_eq!(
+        reload(&archive, nobody, Part::Number, removal, &mut []),
+        refused(Refusal::NotHeld, None, None)
+    );
+    assert_eq!(reload(&archive, USER, Part::Identity, plain, &mut []), refused(Refusal::Room, None, None));
 }
 
 #[test]

@@ -285,6 +285,21 @@ pub fn fault(archive: &[u8], refused: Refused) -> &'static str {
     }
 }
 
+/// Why a legal PDU may be unfit for an archive.
+pub const UNFIT: [&str; 4] = ["INTERROGATE", "DEFINE", "result", "range type"];
+
+/// Why no archive holds this legal PDU.
+pub fn unfit(pdu: &Pdu) -> &'static str {
+    let mut words = [0; RECORD_WORDS];
+    reference::read(&pdu.bytes, pdu.bits, &mut words).expect("the PDU is legal");
+    match (words[at::PDU_TYPE], words[at::RESULT]) {
+        (11, _) => UNFIT[0],
+        (5, _) => UNFIT[1],
+        (_, 0 | 3..) => UNFIT[2],
+        _ => UNFIT[3],
+    }
+}
+
 /// Why capture may have no room.
 pub const LACKS: [&str; 3] = ["512 held and a new key", "over 65,536 bytes", "short buffer"];
 

@@ -1,19 +1,25 @@
-//! Seeded inputs for comparing the library with the reference: PDUs, records, archives and requests, legal
-//! and damaged. All values come from small sets as often as from whole ranges, so that keys meet and lists
-//! match.
+//! Seeded inputs for comparing the library with the reference: PDUs, records, archives, reloads and requests,
+//! legal and damaged. All values come from small sets as often as from whole ranges, so that keys meet and
+//! lists match.
 
 #![forbid(unsafe_code)]
 
 mod archives;
+mod definitions;
 mod met;
 mod pdus;
+mod reloads;
 mod requests;
 mod rng;
 pub mod typed;
 
-pub use archives::{fault, lacking, Archive, Entry, DAMAGES, FAULTS, LACKS, MAX_BYTES, MAX_ENTRIES};
+pub use archives::{
+    fault, lacking, unfit, Archive, Entry, DAMAGES, FAULTS, LACKS, MAX_BYTES, MAX_ENTRIES, UNFIT,
+};
+pub use definitions::{define_read, define_written, definition, Definition, DEFINITIONS, ELEMENTS};
 pub use met::Met;
-pub use pdus::{damage_record, longest, offered, part, record, Pdu, Record, Size};
+pub use pdus::{damage_record, longest, longest_define, offered, part, record, Pdu, Record, Size};
+pub use reloads::{losses, Reload, OUT_OF_RANGE};
 pub use requests::{damage_request, request, Request};
 pub use rng::Rng;
 

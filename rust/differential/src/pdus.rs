@@ -2,6 +2,7 @@
 
 use reference::layout::{record as at, DIGITS, IDENTITY_WORDS, NUMBER_WORDS, PLACES, RECORD_WORDS, SERVICES};
 
+use crate::definitions::{damage_definition, definition, Definition};
 use crate::{network, ssi, Rng};
 
 /// The words of a record.
@@ -58,6 +59,21 @@ impl Pdu {
         pdu
     }
 
+    /// The value of an element, if it is there.
+    pub(crate) fn value(&self, place: usize, width: usize) -> Option<u32> {
+        (place..place + width).try_fold(0, |value, place| {
+            let byte = self.bytes.get(place / 8)?;
+            Some(value << 1 | u32::from(byte >> (7 - place % 8) & 1))
+        })
+    }
+
+    /// Where the affected users end, if they are there.
+    pub(crate) fn users_end(&self) -> Option<usize> {
+        let code = self.value(11, 4)?;
+        let count = if code == 9 { 2 } else { code };
+        (0..count).try_fold(15, |place, _| Some(place + 25 + 24 * self.value(place + 24, 1)? as usize))
+    }
+
     fn flip(&mut self, rng: &mut Rng) {
         if self.bits > 0 {
             *self = self.flipped(rng.below(self.bits));
@@ -97,7 +113,7 @@ impl Pdu {
                     self.frame();
                 }
             }
-            _ => match rng.below(3) {
+            _ => match rng.below(4) {
                 // Any PDU type behind the SS type.
                 0 => {
                     self.bytes = vec![0x48 | rng.bits(2) as u8, (rng.bits(3) as u8) << 5, 0];
@@ -106,6 +122,14 @@ impl Pdu {
                 }
                 // A count that rounding up would overflow.
                 1 => self.bits = usize::MAX - rng.below(9),
+                // Any bits for what follows the affected users.
+                2 => {
+                    if let Some(end) = self.users_end() {
+                        (end..self.bits.min(end + 4)).filter(|_| rng.one_in(2)).for_each(|place| {
+                            *self = self.flipped(place);
+                        });
+                    }
+                }
                 _ => rng.fill(&mut self.bytes),
             },
         }
@@ -115,12 +139,19 @@ impl Pdu {
 /// A legal record.
 pub fn record(rng: &mut Rng) -> Record {
     let mut words = [0; RECORD_WORDS];
-    if rng.one_in(4) {
-        words[at::PDU_TYPE] = 11;
-        words[at::INTERROGATION_TYPE] = rng.between(1, 3) as u32;
-    } else {
-        let result = rng.pick(&[0, 1, 1, 1, 2, 2, 2, 3, 4, 6, 7]);
-        acknowledge(rng, &mut words, result, Size::Any);
+    match rng.below(7) {
+        0 => {
+            words[at::PDU_TYPE] = 11;
+            words[at::INTERROGATION_TYPE] = rng.between(1, 3) as u32;
+        }
+        1 | 2 => {
+            let definition = definition(rng);
+            define(rng, &mut words, definition, Size::Any);
+        }
+        _ => {
+            let result = rng.pick(&[0, 1, 1, 1, 2, 2, 2, 3, 4, 6, 7]);
+            acknowledge(rng, &mut words, result, Size::Any);
+        }
     }
     let code = rng.pick(&[1, 1, 1, 2, 3, 5, 8, 9]);
     identities(rng, &mut words, at::AFFECTED, code, Size::Any);
@@ -161,25 +192,32 @@ pub fn longest(rng: &mut Rng, kind: u32) -> Record {
     words
 }
 
+/// The record of the longest DEFINE: eight affected users, every list full.
+pub fn longest_define(rng: &mut Rng) -> Record {
+    let mut words = [0; RECORD_WORDS];
+    define(rng, &mut words, [1, 1, 1], Size::Full);
+    identities(rng, &mut words, at::AFFECTED, 8, Size::Full);
+    words
+}
+
+/// A DEFINE but for its affected users.
+fn define(rng: &mut Rng, words: &mut Record, definition: Definition, size: Size) {
+    words[at::PDU_TYPE] = 5;
+    words[at::DELIVERY..].copy_from_slice(&definition);
+    services(rng, words, size);
+    if words[at::DEFINITION_TYPE] != 2 {
+        identity_lists(rng, words, size);
+    }
+}
+
 /// An INTERROGATE ACK but for its affected users.
 fn acknowledge(rng: &mut Rng, words: &mut Record, result: u32, size: Size) {
-    let services = match size {
-        Size::Small => 1,
-        Size::Any => rng.between(1, SERVICES),
-        Size::Full => SERVICES,
-    };
     words[at::PDU_TYPE] = 12;
     words[at::RESULT] = result;
-    words[at::DELIVERY] = rng.bits(2);
-    words[at::SERVICE_COUNT] = services as u32;
-    for service in &mut words[at::FIRST_SERVICE..][..services] {
-        *service = rng.bits(2);
-    }
+    words[at::DELIVERY_STATUS] = rng.bits(2);
+    services(rng, words, size);
     if result == 1 {
-        for list in [at::GROUPS, at::RESTRICTED, at::EXCEPTIONS] {
-            let code = code(rng, size, 9);
-            identities(rng, words, list, code, size);
-        }
+        identity_lists(rng, words, size);
     }
     if result == 2 {
         let groups = code(rng, size, 9);
@@ -191,9 +229,29 @@ fn acknowledge(rng: &mut Rng, words: &mut Record, result: u32, size: Size) {
     }
 }
 
+fn services(rng: &mut Rng, words: &mut Record, size: Size) {
+    let count = match size {
+        Size::Small => 1,
+        Size::Any => rng.between(1, SERVICES),
+        Size::Full => SERVICES,
+    };
+    words[at::SERVICE_COUNT] = count as u32;
+    words[at::FIRST_SERVICE..][..count].fill_with(|| rng.bits(2));
+}
+
+/// Closed user groups, restricted identities and exceptions to them.
+fn identity_lists(rng: &mut Rng, words: &mut Record, size: Size) {
+    for list in [at::GROUPS, at::RESTRICTED, at::EXCEPTIONS] {
+        let code = code(rng, size, 9);
+        identities(rng, words, list, code, size);
+    }
+}
+
+/// A range type: often that of an empty list, where any may be.
 fn code(rng: &mut Rng, size: Size, most: usize) -> u32 {
     match size {
         Size::Small => 0,
+        Size::Any if rng.one_in(4) => 0,
         Size::Any => rng.below(most + 1) as u32,
         Size::Full => 8,
     }
@@ -252,7 +310,7 @@ pub fn odd_word(rng: &mut Rng) -> u32 {
 pub fn damage_record(rng: &mut Rng, words: &mut Record) {
     let lists = [at::AFFECTED, at::GROUPS, at::RESTRICTED, at::EXCEPTIONS];
     for _ in 0..rng.between(1, 3) {
-        match rng.below(6) {
+        match rng.below(8) {
             0 => words[rng.below(RECORD_WORDS)] = odd_word(rng),
             1 => words[rng.below(at::RESTRICTED_NUMBERS)] = odd_word(rng),
             2 => {
@@ -271,7 +329,9 @@ pub fn damage_record(rng: &mut Rng, words: &mut Record) {
                 let list = rng.pick(&[at::RESTRICTED_NUMBERS, at::EXCEPTED_NUMBERS]);
                 words[list + 1 + NUMBER_WORDS * rng.below(PLACES)] = odd_word(rng);
             }
-            _ => words[rng.between(at::INTERROGATION_TYPE, at::GROUPS)] = odd_word(rng),
+            5 => words[rng.between(at::INTERROGATION_TYPE, at::GROUPS)] = odd_word(rng),
+            6 => words[at::PDU_TYPE] = rng.pick(&[5, 6, 11, 12]),
+            _ => damage_definition(rng, &mut words[at::DELIVERY..]),
         }
     }
 }

@@ -2,8 +2,8 @@
 //! tables below and not by that crate's own.
 
 use boc::{
-    Decision, DeliveryStatus, Destination, Identity, InterrogationType, List, Number, Outcome, Part, Party,
-    PduType, Refusal, Service, Services,
+    Decision, Definition, DefinitionType, DeliveryStatus, Destination, Identity, InterrogationType, List,
+    Number, Outcome, Part, Party, PduType, Refusal, Service, Services,
 };
 use reference::layout::{record as at, request, DIGITS, IDENTITY_WORDS, NUMBER_WORDS, PLACES, SERVICES};
 
@@ -13,7 +13,8 @@ use crate::{Record, Request};
 pub type Table<T> = [(u32, T)];
 
 /// PDU types.
-pub const PDU_TYPES: &Table<PduType> = &[(11, PduType::Interrogate), (12, PduType::InterrogateAck)];
+pub const PDU_TYPES: &Table<PduType> =
+    &[(5, PduType::Define), (11, PduType::Interrogate), (12, PduType::InterrogateAck)];
 /// Interrogation types; 0 where there is none.
 pub const INTERROGATION_TYPES: &Table<InterrogationType> = &[
     (0, InterrogationType::None),
@@ -38,6 +39,11 @@ pub const DELIVERY_STATUSES: &Table<DeliveryStatus> = &[
     (2, DeliveryStatus::Acknowledged),
     (3, DeliveryStatus::Unknown),
 ];
+/// Definition types.
+pub const DEFINITION_TYPES: &Table<DefinitionType> =
+    &[(0, DefinitionType::Addition), (1, DefinitionType::Replacement), (2, DefinitionType::Removal)];
+/// Elements of one bit.
+pub const BITS: &Table<bool> = &[(0, false), (1, true)];
 /// Services.
 pub const SERVICE_CODES: &Table<Service> =
     &[(0, Service::All), (1, Service::Speech), (2, Service::Data), (3, Service::ShortData)];
@@ -80,6 +86,7 @@ pub const REFUSALS: &Table<Refusal> = &[
     (9, Refusal::Range),
     (10, Refusal::OtherType),
     (11, Refusal::NotHeld),
+    (12, Refusal::Loss),
 ];
 
 /// The value of a number, if it has one.
@@ -104,13 +111,23 @@ pub fn typed_record(words: &Record) -> Option<boc::Record> {
         affected: identities(words, at::AFFECTED)?,
         interrogation_type: value(INTERROGATION_TYPES, words[at::INTERROGATION_TYPE])?,
         result: value(OUTCOMES, words[at::RESULT])?,
-        delivery_status: value(DELIVERY_STATUSES, words[at::DELIVERY])?,
+        delivery_status: value(DELIVERY_STATUSES, words[at::DELIVERY_STATUS])?,
         services: services(words)?,
         groups: identities(words, at::GROUPS)?,
         restricted: identities(words, at::RESTRICTED)?,
         exceptions: identities(words, at::EXCEPTIONS)?,
         restricted_numbers: numbers(words, at::RESTRICTED_NUMBERS)?,
         excepted_numbers: numbers(words, at::EXCEPTED_NUMBERS)?,
+        definition: typed_definition(&words[at::DELIVERY..])?,
+    })
+}
+
+/// The definition of these words, if the crate's struct can say it.
+pub fn typed_definition(words: &[u32]) -> Option<Definition> {
+    Some(Definition {
+        delivery: value(BITS, words[0])?,
+        acknowledgement: value(BITS, words[1])?,
+        definition_type: value(DEFINITION_TYPES, words[2])?,
     })
 }
 

@@ -23,6 +23,14 @@ pub const LIMIT: u32 = 1 << 24;
 pub struct Key(u64);
 
 impl Key {
+    /// The key of a user and a part, or 9.
+    pub fn asked(network: u32, ssi: u32, part: u32) -> Result<Self, Refusal> {
+        if network >= LIMIT || ssi >= LIMIT || !matches!(part, 1 | 2) {
+            return Err(Refusal::Range);
+        }
+        Ok(Key::new(network, ssi, part))
+    }
+
     /// The key of a network, an SSI and a part that are in their ranges.
     #[inline(always)]
     pub fn new(network: u32, ssi: u32, part: u32) -> Self {
@@ -229,11 +237,9 @@ pub fn capture(archive: &[u8], pdu: &[u8], bits: usize, out: &mut [u8]) -> Resul
 /// Writes the PDU held for a user and part to `out` and returns its length in bits.
 /// Refuses with 9, 7, 11, 8.
 pub fn restore(archive: &[u8], network: u32, ssi: u32, part: u32, out: &mut [u8]) -> Result<usize, Refused> {
-    if network >= LIMIT || ssi >= LIMIT || !matches!(part, 1 | 2) {
-        return Err(Refusal::Range.into());
-    }
+    let key = Key::asked(network, ssi, part)?;
     let held = Archive::check(archive)?;
-    let (bits, body) = held.body(Key::new(network, ssi, part)).ok_or(Refusal::NotHeld)?;
+    let (bits, body) = held.body(key).ok_or(Refusal::NotHeld)?;
     out.get_mut(..body.len()).ok_or(Refusal::Room)?.copy_from_slice(body);
     Ok(bits)
 }

@@ -42,6 +42,11 @@ impl<'a> Cursor<'a> {
         load_wide(self.bytes, self.at >> 3) << (self.at & 7)
     }
 
+    /// The bits from `from` on, up to `to`, of those that are left.
+    pub fn between(&self, from: usize, to: usize) -> Self {
+        Cursor { at: self.at + from, end: self.at + to, ..*self }
+    }
+
     /// Moves on by `width` bits that are left.
     #[inline(always)]
     pub fn skip(&mut self, width: usize) {
@@ -136,5 +141,14 @@ impl<const N: usize> Sheet<N> {
         self.bytes[first..first + 8].copy_from_slice(&word.to_be_bytes());
         self.open = word << (held & !7);
         self.at += width;
+    }
+
+    /// Puts all bits that a cursor has left.
+    pub fn copy(&mut self, mut from: Cursor<'_>) {
+        while from.left() > 0 {
+            let width = from.left().min(56);
+            self.put(from.window() >> (64 - width), width);
+            from.skip(width);
+        }
     }
 }

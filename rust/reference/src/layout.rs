@@ -1,7 +1,7 @@
 //! The words of 32 bits in which records and requests cross the boundary.
 
 /// Words of a record.
-pub const RECORD_WORDS: usize = 514;
+pub const RECORD_WORDS: usize = 517;
 /// Words of a request.
 pub const REQUEST_WORDS: usize = 34;
 
@@ -33,10 +33,10 @@ pub mod record {
     pub const INTERROGATION_TYPE: usize = AFFECTED + IDENTITIES_WORDS;
     /// Interrogation result.
     pub const RESULT: usize = INTERROGATION_TYPE + 1;
-    /// Delivery status.
-    pub const DELIVERY: usize = RESULT + 1;
+    /// Delivery status to affected users.
+    pub const DELIVERY_STATUS: usize = RESULT + 1;
     /// Number of services.
-    pub const SERVICE_COUNT: usize = DELIVERY + 1;
+    pub const SERVICE_COUNT: usize = DELIVERY_STATUS + 1;
     /// The first of seven services.
     pub const FIRST_SERVICE: usize = SERVICE_COUNT + 1;
     /// Closed user groups.
@@ -50,7 +50,14 @@ pub mod record {
     /// Exceptions to the restricted external numbers.
     pub const EXCEPTED_NUMBERS: usize = RESTRICTED_NUMBERS + NUMBERS_WORDS;
 
-    const _: () = assert!(EXCEPTED_NUMBERS + NUMBERS_WORDS == RECORD_WORDS);
+    /// Delivery to affected users.
+    pub const DELIVERY: usize = EXCEPTED_NUMBERS + NUMBERS_WORDS;
+    /// Acknowledgement from affected users.
+    pub const ACKNOWLEDGEMENT: usize = DELIVERY + 1;
+    /// Definition type.
+    pub const DEFINITION_TYPE: usize = ACKNOWLEDGEMENT + 1;
+
+    const _: () = assert!(DEFINITION_TYPE + 1 == RECORD_WORDS);
 }
 
 /// Where each part of a request stands.

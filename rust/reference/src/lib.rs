@@ -11,9 +11,10 @@
 //! | `layout` | the words of records and requests | |
 //! | `words`, `bits` | runs of words; bit cursors, several bits at a time | |
 //! | `refusal` | the refusals, and where a call stopped | "Refusal numbers" |
-//! | `pdu` | the grammar of the two PDUs, and reading | "The two PDUs", "Site sheet" |
-//! | `write` | which records are legal, and writing | "The two PDUs", "Site sheet" |
+//! | `pdu` | the grammar of the PDUs, and reading | "The two PDUs", "Site sheet"; document 02, 2026-01 |
+//! | `write` | which records are legal, and writing | "The two PDUs", "Site sheet"; document 02, 2026-01 |
 //! | `archive` | check, empty, capture, restore | "The archive" |
+//! | `reload` | a held part as a DEFINE | document 02, 2026-01 |
 //! | `barring` | requests and decisions | "The barring rule" |
 //! | `contents` | the listing | "Profiles to try" |
 
@@ -28,6 +29,7 @@ mod contents;
 pub mod layout;
 mod pdu;
 mod refusal;
+mod reload;
 mod words;
 mod write;
 
@@ -36,4 +38,5 @@ pub use barring::{decide, Decision};
 pub use contents::contents;
 pub use pdu::read;
 pub use refusal::{Refusal, Refused};
+pub use reload::reload;
 pub use write::write;

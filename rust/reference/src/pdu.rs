@@ -1,7 +1,7 @@
-//! The two PDUs: their grammar in one walk, and reading.
+//! The three PDUs: their grammar in one walk, and reading.
 //!
 //! The walk judges every element and tells a visitor what it met. The reader's visitor fills a record, the
-//! archive check's does nothing, the decision's compares.
+//! archive check's does nothing, the decision's compares, the reload's looks which lists have entries.
 
 use crate::bits::Cursor;
 use crate::layout::{record, DIGITS, IDENTITY_WORDS, NUMBER_WORDS, RECORD_WORDS};
@@ -13,9 +13,15 @@ pub const MAX_BITS: usize = 4096;
 /// SS type of BOC: the site sheet's stand-in.
 pub const SS_TYPE: u32 = 18;
 /// PDU types that are read and written (the standard's table 23).
+pub const DEFINE: u32 = 5;
 pub const INTERROGATE: u32 = 11;
 pub const INTERROGATE_ACK: u32 = 12;
-/// Interrogation results that accept (the standard's table 35).
+/// Definition types (the standard's table 28).
+const ADDITION: u32 = 0;
+const REPLACEMENT: u32 = 1;
+pub const REMOVAL: u32 = 2;
+/// Interrogation results that accept, and one that does not (the standard's table 35).
+const FAILED: u32 = 0;
 pub const IDENTITIES_PROVIDED: u32 = 1;
 pub const NUMBERS_PROVIDED: u32 = 2;
 /// Range type of a first and a last entry.
@@ -49,6 +55,16 @@ impl Identity {
             self.extension
         } else {
             missing
+        }
+    }
+
+    /// Its bits: SSI, extension present, and the extension if it is.
+    #[inline(always)]
+    pub fn width(self) -> usize {
+        if self.present {
+            49
+        } else {
+            25
         }
     }
 }
@@ -138,7 +154,7 @@ fn elements<V: Visitor>(mut cursor: Cursor<'_>, visitor: &mut V) -> Result<Head,
     let cursor = &mut cursor;
     cursor.take(6, |ss_type| unless(ss_type == SS_TYPE))?;
     let pdu_type = cursor.take(5, |pdu_type| match pdu_type {
-        INTERROGATE | INTERROGATE_ACK => None,
+        DEFINE | INTERROGATE | INTERROGATE_ACK => None,
         0..=10 | 13 => Some(Refusal::OtherType),
         _ => Some(Refusal::Value),
     })?;
@@ -149,11 +165,16 @@ fn elements<V: Visitor>(mut cursor: Cursor<'_>, visitor: &mut V) -> Result<Head,
         let interrogation_type = cursor.take(2, |code| unless(code != 0))?;
         visitor.element(record::INTERROGATION_TYPE, interrogation_type);
     } else {
-        result = cursor.take(3, |code| unless(code != 5))?;
-        visitor.element(record::RESULT, result);
-        visitor.element(record::DELIVERY, cursor.take(2, |_| None)?);
+        let lists = if pdu_type == INTERROGATE_ACK {
+            result = cursor.take(3, |code| unless(code != 5))?;
+            visitor.element(record::RESULT, result);
+            visitor.element(record::DELIVERY_STATUS, cursor.take(2, |_| None)?);
+            result
+        } else {
+            lists_of(definition(cursor, visitor)?)
+        };
         services(cursor, visitor)?;
-        match result {
+        match lists {
             IDENTITIES_PROVIDED => {
                 identities(cursor, visitor, List::Groups)?;
                 identities(cursor, visitor, List::Restricted)?;
@@ -171,6 +192,28 @@ fn elements<V: Visitor>(mut cursor: Cursor<'_>, visitor: &mut V) -> Result<Head,
         return Err(cursor.stop(0, Refusal::Left));
     }
     Ok(Head { pdu_type, result, affected_code, user })
+}
+
+/// The lists of a DEFINE by its definition type, named by a result whose lists they are.
+#[inline(always)]
+pub fn lists_of(definition_type: u32) -> u32 {
+    match definition_type {
+        ADDITION | REPLACEMENT => IDENTITIES_PROVIDED,
+        _ => FAILED,
+    }
+}
+
+/// What a DEFINE asks for: delivery, acknowledgement, which only a delivery lets be 1, and the definition
+/// type, which is the answer.
+#[inline(always)]
+fn definition<V: Visitor>(cursor: &mut Cursor<'_>, visitor: &mut V) -> Result<u32, Stop> {
+    let delivery = cursor.take(1, |_| None)?;
+    let acknowledgement = cursor.take(1, |asked| unless(asked <= delivery))?;
+    let definition_type = cursor.take(2, |code| unless(code <= REMOVAL))?;
+    visitor.element(record::DELIVERY, delivery);
+    visitor.element(record::ACKNOWLEDGEMENT, acknowledgement);
+    visitor.element(record::DEFINITION_TYPE, definition_type);
+    Ok(definition_type)
 }
 
 /// The number of services and the services.

@@ -20,16 +20,18 @@ pub enum Refusal {
     Archive = 7,
     /// A new key with 512 held, or the result exceeds 65,536 bytes or the lent buffer.
     Room = 8,
-    /// A request, user, part, home network or word count out of its range.
+    /// A request, user, part, definition, home network or word count out of its range.
     Range = 9,
     /// A BOC PDU type that the standard defines and that is not read here.
     OtherType = 10,
-    /// Restore: not held.
+    /// Restore and reload: not held.
     NotHeld = 11,
+    /// Reload: a held list that is not empty has no place in the DEFINE.
+    Loss = 12,
 }
 
 impl Refusal {
-    /// The scope's number, 1 to 11.
+    /// The scope's number, 1 to 12.
     pub const fn number(self) -> u32 {
         self as u32
     }
@@ -47,7 +49,7 @@ pub struct Refused {
 }
 
 impl Refused {
-    /// The scope's number, 1 to 11.
+    /// The scope's number, 1 to 12.
     pub const fn number(self) -> u32 {
         self.why.number()
     }

@@ -5,12 +5,15 @@ use crate::layout::{
     record, DIGITS, IDENTITIES_WORDS, IDENTITY_WORDS, NUMBERS_WORDS, NUMBER_WORDS, PLACES, RECORD_WORDS,
     SERVICES,
 };
-use crate::pdu::{List, IDENTITIES_PROVIDED, INTERROGATE, INTERROGATE_ACK, NUMBERS_PROVIDED, RANGE, SS_TYPE};
+use crate::pdu::{
+    lists_of, List, DEFINE, IDENTITIES_PROVIDED, INTERROGATE, INTERROGATE_ACK, NUMBERS_PROVIDED, RANGE,
+    REMOVAL, SS_TYPE,
+};
 use crate::refusal::Refusal;
 use crate::words::{any, are_digits, pack};
 
 /// Bytes of the longest PDU, and room for the sheet's last step.
-const SHEET_BYTES: usize = 2456_usize.div_ceil(8) + 8;
+pub const SHEET_BYTES: usize = 2456_usize.div_ceil(8) + 8;
 
 type Record = [u32; RECORD_WORDS];
 
@@ -20,7 +23,8 @@ type Record = [u32; RECORD_WORDS];
 /// and 4, and 8 last.
 pub fn write(record: &[u32], out: &mut [u8]) -> Result<usize, Refusal> {
     let record: &Record = record.try_into().map_err(|_| Refusal::Range)?;
-    if !matches!(record[record::PDU_TYPE], INTERROGATE | INTERROGATE_ACK) || !unused_is_zero(record) {
+    let pdu_type = record[record::PDU_TYPE];
+    if !matches!(pdu_type, DEFINE | INTERROGATE | INTERROGATE_ACK) || !unused_is_zero(record) {
         return Err(Refusal::Value);
     }
     let mut sheet = Sheet::new();
@@ -32,21 +36,22 @@ pub fn write(record: &[u32], out: &mut [u8]) -> Result<usize, Refusal> {
 
 /// Does the record hold as zero all that its PDU does not carry or use?
 fn unused_is_zero(record: &Record) -> bool {
-    let result = record[record::RESULT];
     let own = unused_of_identities(record, List::Affected);
     let rest = if record[record::PDU_TYPE] == INTERROGATE {
         any(&record[record::RESULT..])
     } else {
+        let (others, lists) = lists(record);
         let services = &record[record::FIRST_SERVICE..][..SERVICES];
         let count = record[record::SERVICE_COUNT] as usize;
         record[record::INTERROGATION_TYPE]
+            | others
             | any(&services[count.min(SERVICES)..])
-            | match result {
+            | match lists {
                 IDENTITIES_PROVIDED => {
                     unused_of_identities(record, List::Groups)
                         | unused_of_identities(record, List::Restricted)
                         | unused_of_identities(record, List::Exceptions)
-                        | any(&record[record::RESTRICTED_NUMBERS..])
+                        | any(&record[record::RESTRICTED_NUMBERS..record::DELIVERY])
                 }
                 NUMBERS_PROVIDED => {
                     unused_of_identities(record, List::Groups)
@@ -54,10 +59,22 @@ fn unused_is_zero(record: &Record) -> bool {
                         | unused_of_numbers(record, List::RestrictedNumbers)
                         | unused_of_numbers(record, List::ExceptedNumbers)
                 }
-                _ => any(&record[record::GROUPS..]),
+                _ => any(&record[record::GROUPS..record::DELIVERY]),
             }
     };
     own | rest == 0
+}
+
+/// Of a DEFINE or an INTERROGATE ACK: the elements that only the other has, joined by or, and its lists, named
+/// by a result.
+#[inline(always)]
+fn lists(record: &Record) -> (u32, u32) {
+    if record[record::PDU_TYPE] == DEFINE {
+        let others = any(&record[record::RESULT..record::SERVICE_COUNT]);
+        (others, lists_of(record[record::DEFINITION_TYPE]))
+    } else {
+        (any(&record[record::DELIVERY..]), record[record::RESULT])
+    }
 }
 
 /// Entries that follow a range type, of whatever list; a code without a meaning has none.
@@ -99,15 +116,22 @@ fn put_pdu(sheet: &mut Sheet<SHEET_BYTES>, record: &Record) -> Result<(), Refusa
     if record[record::PDU_TYPE] == INTERROGATE {
         return put(sheet, record[record::INTERROGATION_TYPE], 2, |code| matches!(code, 1..=3));
     }
-    let result = record[record::RESULT];
+    let (_, lists) = lists(record);
+    if record[record::PDU_TYPE] == DEFINE {
+        let delivery = record[record::DELIVERY];
+        put(sheet, delivery, 1, |asked| asked <= 1)?;
+        put(sheet, record[record::ACKNOWLEDGEMENT], 1, |asked| asked <= delivery)?;
+        put(sheet, record[record::DEFINITION_TYPE], 2, |code| code <= REMOVAL)?;
+    } else {
+        put(sheet, record[record::RESULT], 3, |code| matches!(code, 0..=4 | 6 | 7))?;
+        put(sheet, record[record::DELIVERY_STATUS], 2, |code| code <= 3)?;
+    }
     let count = record[record::SERVICE_COUNT];
-    put(sheet, result, 3, |code| matches!(code, 0..=4 | 6 | 7))?;
-    put(sheet, record[record::DELIVERY], 2, |code| code <= 3)?;
     put(sheet, count, 3, |code| matches!(code, 1..=7))?;
     for service in &record[record::FIRST_SERVICE..][..count as usize] {
         put(sheet, *service, 3, |code| code <= 3)?;
     }
-    match result {
+    match lists {
         IDENTITIES_PROVIDED => {
             put_identities(sheet, record, List::Groups)?;
             put_identities(sheet, record, List::Restricted)?;

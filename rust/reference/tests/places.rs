@@ -1,7 +1,7 @@
 //! Where a call stops (document 02, request 2026-03): the bit place in a PDU, the entry of an archive.
 
 use reference::layout::{RECORD_WORDS, REQUEST_WORDS};
-use reference::{capture, contents, decide, read, restore, Refusal, Refused};
+use reference::{capture, contents, decide, read, reload, restore, Refusal, Refused};
 
 /// A PDU by its elements, each with its width and value.
 type Elements = Vec<(usize, u32)>;
@@ -32,6 +32,27 @@ fn acknowledge(result: u32) -> Elements {
 /// An INTERROGATE for the users 5 to 6 of network 2.
 fn interrogate() -> Elements {
     vec![(6, 18), (5, 11), (4, 9), (24, 5), (1, 1), (24, 2), (24, 6), (1, 1), (24, 2), (2, 1)]
+}
+
+/// A DEFINE for user 5 and services 1 and 2 that is delivered and acknowledged, as far as its lists.
+fn definition(definition_type: u32) -> Elements {
+    let mut elements = vec![(6, 18), (5, 5), (4, 1), (24, 5), (1, 0)];
+    elements.extend([(1, 1), (1, 1), (2, definition_type), (3, 2), (3, 1), (3, 2)]);
+    elements
+}
+
+/// A replacement with a group of network 2, and 100 to 199 restricted except for 150.
+fn replacement() -> Elements {
+    let mut elements = definition(1);
+    elements.extend([(4, 1), (24, 500), (1, 1), (24, 2)]);
+    elements.extend([(4, 9), (24, 100), (1, 0), (24, 199), (1, 0)]);
+    elements.extend([(4, 1), (24, 150), (1, 0)]);
+    elements
+}
+
+/// A PDU of each form.
+fn each() -> [Elements; 5] {
+    [profile_a(), number_part(), interrogate(), replacement(), definition(2)]
 }
 
 /// With another value of an element.
@@ -76,7 +97,7 @@ fn stops(elements: Elements, why: Refusal, index: usize) {
 
 #[test]
 fn a_short_pdu_stops_at_the_element_that_is_not_there_whole() {
-    for elements in [profile_a(), number_part(), interrogate()] {
+    for elements in each() {
         let whole = bytes(&elements);
         assert_eq!(read_words(&whole, length(&elements)), Ok(()));
         for (index, (width, _)) in elements.iter().enumerate() {
@@ -103,9 +124,18 @@ fn a_refused_value_stops_at_its_element() {
     for (index, value) in [(14, 9), (15, 0), (15, 25), (16, 13), (17, 15), (18, 31), (20, 14), (21, 10)] {
         stops(with(number_part(), index, value), Refusal::Value, index);
     }
-    for pdu_type in (0..=10).chain([13]) {
+    for pdu_type in (0..=4).chain(6..=10).chain([13]) {
         stops(with(interrogate(), 1, pdu_type), Refusal::OtherType, 1);
     }
+    for pdu_type in 14..=31 {
+        stops(with(interrogate(), 1, pdu_type), Refusal::Value, 1);
+    }
+    // A DEFINE: range types, definition type, services. Without delivery it is the acknowledgement.
+    for (index, value) in [(2, 0), (2, 10), (7, 3), (8, 0), (9, 4), (10, 7), (11, 10), (15, 15), (20, 10)] {
+        stops(with(replacement(), index, value), Refusal::Value, index);
+    }
+    stops(with(replacement(), 5, 0), Refusal::Value, 6);
+    stops(with(with(definition(2), 5, 0), 7, 3), Refusal::Value, 6);
 }
 
 #[test]
@@ -117,17 +147,20 @@ fn ends_stop_at_the_ssi_of_the_second() {
     stops(extended, Refusal::Ends, 14);
     stops(with(interrogate(), 3, 7), Refusal::Ends, 6);
     stops(with(interrogate(), 8, 3), Refusal::Ends, 6);
+    stops(with(replacement(), 16, 201), Refusal::Ends, 18);
 }
 
 #[test]
 fn bits_left_stop_at_the_first_of_them() {
     for left in 1..20 {
-        for mut elements in [profile_a(), number_part(), interrogate()] {
+        for mut elements in each() {
             let end = elements.len();
             elements.push((left, 1));
             stops(elements, Refusal::Left, end);
         }
     }
+    // A removal has no lists.
+    stops(with(replacement(), 7, 2), Refusal::Left, 11);
 }
 
 #[test]
@@ -183,6 +216,7 @@ fn breaks(archive: &[u8], entry: Option<usize>, place: Option<usize>) {
     // Capture does not get as far as its PDU, which is refused too.
     assert_eq!(capture(archive, &[], 0, out), Err(expected));
     assert_eq!(restore(archive, 1, 5, 1, out), Err(expected));
+    assert_eq!(reload(archive, 1, 5, 1, 1, 0, 0, out), Err(expected));
     assert_eq!(decide(archive, &request), Err(expected));
     assert_eq!(contents(archive, out), Err(expected));
 }
@@ -247,6 +281,7 @@ fn a_body_whose_refusal_has_no_place_has_its_entry_alone() {
     };
     let for_one = vec![(6, 18), (5, 11), (4, 1), (24, 5), (1, 0), (2, 1)];
     breaks(&replace(0, for_one), Some(0), None);
+    breaks(&replace(0, replacement()), Some(0), None);
     breaks(&replace(0, acknowledge(3)), Some(0), None);
     let mut for_two = with(profile_a(), 2, 2);
     for_two.splice(3..3, [(24, 5), (1, 0)]);
@@ -272,7 +307,7 @@ fn a_body_whose_refusal_has_a_place_has_that_too() {
     breaks(&replace(1, with(number_part(), 17, 13)), Some(1), Some(place_of(&number_part(), 17)));
     breaks(&replace(0, with(profile_a(), 12, 201)), Some(0), Some(place_of(&profile_a(), 14)));
     breaks(&replace(2, [profile_a(), vec![(9, 0)]].concat()), Some(2), Some(141));
-    breaks(&replace(3, with(number_part(), 1, 5)), Some(3), Some(6));
+    breaks(&replace(3, with(number_part(), 1, 6)), Some(3), Some(6));
 }
 
 #[test]
@@ -295,6 +330,7 @@ fn capture_hands_the_place_on() {
         (with(profile_a(), 1, 13), Refusal::OtherType, 1),
         ([profile_a(), vec![(1, 1)]].concat(), Refusal::Left, 19),
         (profile_a()[..18].to_vec(), Refusal::Short, 18),
+        (with(replacement(), 5, 0), Refusal::Value, 6),
     ] {
         let expected = refused(why, None, Some(place_of(&elements, index)));
         assert_eq!(capture(&held, &bytes(&elements), length(&elements), out), Err(expected));
@@ -305,4 +341,6 @@ fn capture_hands_the_place_on() {
     assert_eq!(capture(&held, &legal, length(&interrogate()), out), Err(refused(Refusal::Unfit, None, None)));
     assert_eq!(capture(&held, &pdu, 141, &mut out[..20]), Err(refused(Refusal::Room, None, None)));
     assert_eq!(restore(&held, 1, 7, 1, out), Err(refused(Refusal::NotHeld, None, None)));
+    assert_eq!(reload(&held, 1, 7, 1, 1, 0, 0, out), Err(refused(Refusal::NotHeld, None, None)));
+    assert_eq!(reload(&held, 1, 5, 2, 1, 0, 0, out), Err(refused(Refusal::Loss, None, None)));
 }

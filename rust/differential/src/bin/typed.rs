@@ -22,7 +22,7 @@ type Kind = (&'static str, fn(&mut Cases, &mut Rng));
 const KINDS: [Kind; 3] = [("reading", reads), ("writing", writes), ("archives", archives)];
 
 /// The elements of records that are codes, and the numbers that each can have.
-fn elements() -> [(&'static str, Vec<u32>); 6] {
+fn elements() -> [(&'static str, Vec<u32>); 9] {
     [
         ("PDU type", numbers(PDU_TYPES)),
         ("interrogation type", numbers(INTERROGATION_TYPES)),
@@ -30,6 +30,9 @@ fn elements() -> [(&'static str, Vec<u32>); 6] {
         ("delivery status", numbers(DELIVERY_STATUSES)),
         ("service", numbers(SERVICE_CODES)),
         ("digit", numbers(DIGIT_CODES)),
+        ("delivery", numbers(BITS)),
+        ("acknowledgement", numbers(BITS)),
+        ("definition type", numbers(DEFINITION_TYPES)),
     ]
 }
 
@@ -45,16 +48,24 @@ fn carried(words: &Record) -> BTreeSet<(&'static str, u32)> {
     ]);
     if words[at::PDU_TYPE] == 12 {
         codes.insert(("outcome", words[at::RESULT]));
-        codes.insert(("delivery status", words[at::DELIVERY]));
-        let services = &words[at::FIRST_SERVICE..][..SERVICES];
-        codes.extend(services[..words[at::SERVICE_COUNT] as usize].iter().map(|word| ("service", *word)));
+        codes.insert(("delivery status", words[at::DELIVERY_STATUS]));
     }
+    if words[at::PDU_TYPE] == 5 {
+        codes.extend(defined(&words[at::DELIVERY..]));
+    }
+    let services = &words[at::FIRST_SERVICE..][..SERVICES];
+    codes.extend(services[..words[at::SERVICE_COUNT] as usize].iter().map(|word| ("service", *word)));
     for list in [at::RESTRICTED_NUMBERS, at::EXCEPTED_NUMBERS] {
         for entry in words[list + 1..].chunks(NUMBER_WORDS).take(words[list] as usize) {
             codes.extend(entry[1..][..entry[0] as usize].iter().map(|digit| ("digit", *digit)));
         }
     }
     codes
+}
+
+/// The codes of a definition.
+fn defined(definition: &[u32]) -> [(&'static str, u32); 3] {
+    [("delivery", definition[0]), ("acknowledgement", definition[1]), ("definition type", definition[2])]
 }
 
 /// The cases, which compare and count.
@@ -73,6 +84,10 @@ fn expected() -> Met {
         }
     }
     met.expect("restore, part", numbers(PARTS));
+    met.expect("reload, part", numbers(PARTS));
+    met.expect("reload, delivery", numbers(BITS));
+    met.expect("reload, acknowledgement", numbers(BITS));
+    met.expect("reload, definition type", numbers(DEFINITION_TYPES));
     met.expect("decide, service", [1, 2, 3]);
     met.expect("decide, destination", [1, 2]);
     met.expect("decide, digit", numbers(DIGIT_CODES));
@@ -191,8 +206,29 @@ fn archives(cases: &mut Cases, rng: &mut Rng) {
     if restored.is_some() {
         cases.met.meet("restore, part", number);
     }
+    let reload = Reload::random(rng, &archive);
+    reloads(cases, rng, &held, &reload);
     let user = archive.user(rng);
     decides(cases, rng, &held, user);
+}
+
+fn reloads(cases: &mut Cases, rng: &mut Rng, held: &[u8], reload: &Reload) {
+    let Reload { user: [network, ssi], part: number, definition: words } = *reload;
+    let (Some(part), Some(definition)) = (value(PARTS, number), typed_definition(&words)) else {
+        return;
+    };
+    let reloaded = cases.compare(
+        rng,
+        boc::PDU_BYTES,
+        |out| boc::reload(held, boc::Party { network, ssi }, part, definition, out),
+        |out| reload.reference(held, out),
+    );
+    if reloaded.is_some() {
+        cases.met.meet("reload, part", number);
+        for (element, number) in defined(&words) {
+            cases.met.meet(&format!("reload, {element}"), number);
+        }
+    }
 }
 
 fn decides(cases: &mut Cases, rng: &mut Rng, held: &[u8], user: [u32; 2]) {

@@ -1,4 +1,4 @@
-//! The seven calls, each on both sides.
+//! The eight calls, each on both sides.
 
 use std::fmt::Debug;
 
@@ -10,12 +10,13 @@ use reference::{Refusal, Refused};
 use crate::lent::{bytes, words, Lent, MARGIN};
 
 /// The calls, and the answers that each can give: 0 or a refusal number.
-const CALLS: [(&str, &[u32]); 7] = [
+const CALLS: [(&str, &[u32]); 8] = [
     ("read", &[0, 1, 2, 3, 4, 5, 9, 10]),
     ("write", &[0, 3, 4, 8, 9]),
     ("empty", &[0, 8, 9]),
     ("capture", &[0, 1, 2, 3, 4, 5, 6, 7, 8, 10]),
     ("restore", &[0, 7, 8, 9, 11]),
+    ("reload", &[0, 7, 8, 9, 11, 12]),
     ("decide", &[0, 7, 9]),
     ("contents", &[0, 7, 8]),
 ];
@@ -62,8 +63,9 @@ pub struct Calls {
 }
 
 impl Calls {
-    /// Nothing met yet of all that has to be: each answer and decision, a visitor's too, each refusal of a PDU
-    /// that has a place, 7 for each damage and for each fault, 8 for each reason.
+    /// Nothing met yet of all that has to be: each answer and decision, a visitor's too, each refusal of a
+    /// PDU that has a place, each definition type and each refused element of a DEFINE, each definition type
+    /// of a reload for each part, 7 for each damage and for each fault, 6, 8, 9 and 12 for each reason.
     pub fn new() -> Self {
         let mut met = Met::default();
         for (call, answers) in CALLS {
@@ -71,10 +73,18 @@ impl Calls {
         }
         met.expect("read, with a place", PLACED);
         met.expect("capture, with a place", PLACED);
+        met.expect("read, DEFINE", DEFINITIONS.iter().chain(&ELEMENTS[..2]));
+        met.expect("write, DEFINE", DEFINITIONS.iter().chain(&ELEMENTS));
         met.expect("decide, decision", 0..5);
         met.expect("decide, visitor's", 0..5);
         met.expect("decide, visitor's own network", TELLS);
+        met.expect("capture, 6", UNFIT);
         met.expect("capture, 8", LACKS);
+        for part in [1, 2] {
+            met.expect(&format!("reload, part {part}"), DEFINITIONS);
+        }
+        met.expect("reload, 9", OUT_OF_RANGE);
+        met.expect("reload, 12", losses());
         for (call, answers) in CALLS {
             if answers.contains(&7) {
                 met.expect(&format!("{call}, 7"), DAMAGES);
@@ -129,6 +139,15 @@ impl Calls {
         }
     }
 
+    /// Counts a refusal where it has one reason alone.
+    fn reason(&mut self, refusal: &str, reasons: &[impl ToString]) {
+        match reasons {
+            [] => panic!("{refusal} without a reason: {:?}", self.case),
+            [reason] => self.met.meet(refusal, reason.to_string()),
+            _ => {}
+        }
+    }
+
     pub fn read(&mut self, rng: &mut Rng, pdu: &Pdu, record_words: usize) {
         let mut lent = words(rng, record_words);
         let before = Behind { number: (), spot: Spot { place: rng.draw() as usize, ..Spot::NONE } };
@@ -137,6 +156,9 @@ impl Calls {
         let expected = reference::read(&pdu.bytes, pdu.bits, lent.reference());
         self.compare("read", (library, after), before, expected, &lent);
         self.count("read", &[], expected);
+        if let Some(what) = define_read(pdu, expected) {
+            self.met.meet("read, DEFINE", what);
+        }
     }
 
     pub fn write(&mut self, rng: &mut Rng, record: &[u32], room: usize) {
@@ -146,6 +168,9 @@ impl Calls {
         let library = boc::ffi::write(record, lent.library(), &mut after.number);
         let expected = reference::write(record, lent.reference());
         self.compare("write", (library, after), before, expected.map_err(Refused::from), &lent);
+        if let Some(what) = define_written(record, expected) {
+            self.met.meet("write, DEFINE", what);
+        }
     }
 
     pub fn empty(&mut self, rng: &mut Rng, home: u32, room: usize) {
@@ -173,13 +198,11 @@ impl Calls {
         let expected = reference::capture(archive, &pdu.bytes, pdu.bits, lent.reference());
         self.compare("capture", (library, after), before, expected, &lent);
         self.count("capture", archive, expected);
+        if expected == Err(Refusal::Unfit.into()) {
+            self.met.meet("capture, 6", unfit(pdu));
+        }
         if expected == Err(Refusal::Room.into()) {
-            // It is counted where it has one reason alone.
-            match lacking(archive, pdu, room)[..] {
-                [] => panic!("8 without a reason: {:?}", self.case),
-                [lack] => self.met.meet("capture, 8", lack),
-                _ => {}
-            }
+            self.reason("capture, 8", &lacking(archive, pdu, room));
         }
         Some(lent.library()[..expected.ok()?].to_vec())
     }
@@ -219,6 +242,47 @@ impl Calls {
         let expected = reference::restore(archive, network, ssi, part, lent.reference());
         self.compare("restore", (library, after), before, expected, &lent);
         self.count("restore", archive, expected);
+    }
+
+    pub fn reload_any_room(&mut self, rng: &mut Rng, archive: &[u8], reload: &Reload) {
+        let needed = reload.reference(archive, &mut self.scratch);
+        let room = room(rng, needed.map_or(20, |bits| bits.div_ceil(8)));
+        self.reload(rng, archive, reload, room);
+    }
+
+    /// The DEFINE is also held to the record of the part, since the reference copies bits.
+    pub fn reload(&mut self, rng: &mut Rng, archive: &[u8], reload: &Reload, room: usize) {
+        let mut lent = bytes(rng, room);
+        let before = Behind::random(rng);
+        let mut after = before;
+        let Reload { user: [network, ssi], part, definition } = *reload;
+        let [delivery, acknowledgement, definition_type] = definition;
+        let library = boc::ffi::reload(
+            archive,
+            network,
+            ssi,
+            part,
+            definition_type,
+            delivery,
+            acknowledgement,
+            lent.library(),
+            &mut after.number,
+            &mut after.spot,
+        );
+        let expected = reload.reference(archive, lent.reference());
+        self.compare("reload", (library, after), before, expected, &lent);
+        self.count("reload", archive, expected);
+        match expected.map_err(|refused| refused.why) {
+            Ok(bits) => {
+                let define = reload.define(archive);
+                let written = &lent.reference()[..bits.div_ceil(8)];
+                assert!((bits, written) == (define.bits, &define.bytes), "{:?}: another DEFINE", self.case);
+                self.met.meet(&format!("reload, part {part}"), DEFINITIONS[definition_type as usize]);
+            }
+            Err(Refusal::Range) => self.reason("reload, 9", &reload.out_of_range()),
+            Err(Refusal::Loss) => self.reason("reload, 12", &reload.lost(archive)),
+            Err(_) => {}
+        }
     }
 
     pub fn decide(&mut self, rng: &mut Rng, archive: &[u8], request: &[u32]) {
@@ -295,6 +359,8 @@ impl Calls {
             _ => {}
         }
         self.restore_any_room(rng, bytes, user, part);
+        let reload = Reload::random(rng, archive);
+        self.reload_any_room(rng, bytes, &reload);
         for _ in 0..2 {
             let user = archive.user(rng);
             let mut words = request(rng, user);

@@ -1,12 +1,13 @@
-//! Compares the seven calls of the library with the reference: `calls [SEED]`.
+//! Compares the eight calls of the library with the reference: `calls [SEED]`.
 //!
 //! Each case lends both sides equal buffers of random content and compares the answers, every byte or word of
 //! every buffer, margins before and after what was lent, and the numbers behind the last pointers: a length
 //! or a decision, and where a refused call stopped. It ends with how often each answer of each call was met,
-//! each refusal of a PDU that has a place, 7 for each damage to an archive and for each fault in one, 8 for
-//! each reason that capture can have, each decision for a visitor from another network, and a visitor's call
-//! that is decided otherwise with the home network for the visitor's own; one that was never met is a failure
-//! too.
+//! each refusal of a PDU that has a place, each definition type and each refused element of a DEFINE, 7 for
+//! each damage to an archive and for each fault in one, 6 and 8 for each reason that capture can have, a
+//! reload of each part under each definition type, 9 and 12 for each reason that reload can have, each
+//! decision for a visitor from another network, and a visitor's call that is decided otherwise with the home
+//! network for the visitor's own; one that was never met is a failure too.
 
 #![forbid(unsafe_code)]
 
@@ -39,7 +40,7 @@ fn pdus(calls: &mut Calls, rng: &mut Rng) {
     if !rng.one_in(4) {
         pdu.damage(rng);
     }
-    let length = if rng.one_in(40) { rng.pick(&[0, 1, 513, 515, 600]) } else { RECORD_WORDS };
+    let length = if rng.one_in(40) { rng.pick(&[0, 1, 514, 516, 518, 600]) } else { RECORD_WORDS };
     calls.read(rng, &pdu, length);
 }
 
@@ -51,7 +52,7 @@ fn records(calls: &mut Calls, rng: &mut Rng) {
     }
     let room = room(rng, needed);
     if rng.one_in(40) {
-        let length = rng.pick(&[0, 1, 513]);
+        let length = rng.pick(&[0, 1, 514, 516]);
         return calls.write(rng, &words[..length], room);
     }
     if rng.one_in(40) {
@@ -110,8 +111,11 @@ fn histories(calls: &mut Calls, rng: &mut Rng) {
         }
     }
     for user in users {
-        calls.restore_any_room(rng, &held, user, 1);
-        calls.restore_any_room(rng, &held, user, 2);
+        for part in [1, 2] {
+            calls.restore_any_room(rng, &held, user, part);
+            let definition = definition(rng);
+            calls.reload_any_room(rng, &held, &Reload { user, part, definition });
+        }
         let words = request(rng, user);
         calls.decide(rng, &held, &words);
     }
@@ -119,13 +123,14 @@ fn histories(calls: &mut Calls, rng: &mut Rng) {
 }
 
 /// A PDU cut at each of its bits, and with each of its bits flipped, read and captured: the longest parts,
-/// for eight users and for one, and any PDUs.
+/// for eight users and for one, the longest DEFINE, and any PDUs.
 fn changed_pdus(calls: &mut Calls, rng: &mut Rng) {
     let (home, user) = (1, [1, 5]);
     let (_, _, case) = calls.case;
     let words = match case {
         0 | 1 => longest(rng, 1 + case as u32),
         2 | 3 => part(rng, home, user, case as u32 - 1, Size::Full),
+        4 => longest_define(rng),
         _ => record(rng),
     };
     let pdu = Pdu::of(&words);
@@ -153,6 +158,7 @@ fn changed_archives(calls: &mut Calls, rng: &mut Rng) {
     let whole = archive.bytes();
     let last = archive.entries.last().expect("it has entries");
     let words = request(rng, last.user);
+    let reload = Reload { user: last.user, part: last.part, definition: [1, 1, 1] };
     let mut try_calls = |calls: &mut Calls, bytes: &[u8], damage: &'static str| {
         calls.change += 1;
         calls.damage = Some(damage);
@@ -160,6 +166,7 @@ fn changed_archives(calls: &mut Calls, rng: &mut Rng) {
         if case == 0 {
             calls.capture(rng, bytes, &last.pdu, whole.len());
             calls.restore(rng, bytes, last.user, last.part, 100);
+            calls.reload(rng, bytes, &reload, 100);
             calls.decide(rng, bytes, &words);
         }
     };

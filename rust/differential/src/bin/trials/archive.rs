@@ -46,7 +46,16 @@ impl Held {
                 format!("put {count}")
             }
             Some('l') => format!("was {}", std::mem::replace(&mut self.length, words.length())),
-            Some('r') => self.restore(words),
+            Some('r') if line.starts_with("reload") => {
+                let [network, ssi, part, definition, delivery, acknowledgement] = words.numbers();
+                self.give(words.length(), |held, out| {
+                    reference::reload(held, network, ssi, part, definition, delivery, acknowledgement, out)
+                })
+            }
+            Some('r') => {
+                let [network, ssi, part] = words.numbers();
+                self.give(words.length(), |held, out| reference::restore(held, network, ssi, part, out))
+            }
             Some('v') => {
                 let mut out = vec![FULL; ROOM];
                 let listed = reference::contents(self.archive(), &mut out);
@@ -87,11 +96,10 @@ impl Held {
             .collect()
     }
 
-    fn restore(&self, words: &mut Words) -> String {
-        let [network, ssi, part, room] = [(); 4].map(|()| words.number());
+    /// A PDU that is written from the archive.
+    fn give(&self, room: usize, call: impl Fn(&[u8], &mut [u8]) -> Result<usize, Refused>) -> String {
         let mut out = vec![FULL; ROOM];
-        let lent = &mut out[..(room as usize).min(ROOM)];
-        match reference::restore(self.archive(), network, ssi, part, lent) {
+        match call(self.archive(), &mut out[..room.min(ROOM)]) {
             Ok(bits) => {
                 let (pdu, after) = out.split_at(bits.div_ceil(8));
                 format!("bits {bits} {}{}", hex(pdu), rest(after))
@@ -101,7 +109,7 @@ impl Held {
     }
 
     fn decide(&self, words: &mut Words) -> String {
-        let request = [(); REQUEST_WORDS].map(|()| words.number());
+        let request: [u32; REQUEST_WORDS] = words.numbers();
         match reference::decide(self.archive(), &request) {
             Ok(Decision::Allowed) => "allowed".into(),
             Ok(Decision::NotHeld) => "not held".into(),

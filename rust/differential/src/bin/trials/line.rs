@@ -34,6 +34,11 @@ impl<'a> Words<'a> {
         }
     }
 
+    /// The next words as numbers.
+    pub fn numbers<const N: usize>(&mut self) -> [u32; N] {
+        [(); N].map(|()| self.number())
+    }
+
     /// The next word as a length.
     pub fn length(&mut self) -> usize {
         self.number() as usize
