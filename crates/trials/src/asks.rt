@@ -9,10 +9,19 @@ pub(crate) fn ask(line: &[u8], held: Held) {
     let bytes = held.bytes;
     let archive = input::first(&bytes, held.length);
     match input::letter(line) {
-        b'r' => restore(line, archive),
+        b'r' => give(line, archive),
         b'v' => verify(archive),
         b'd' => decide(line, archive),
         b'p' => print(line, &bytes),
+        _ => {}
+    }
+}
+
+// A held PDU: as it is, or as a DEFINE.
+fn give(line: &[u8], archive: &[u8]) {
+    match input::letter_at(line, 2) {
+        b's' => restore(line, archive),
+        b'l' => reload(line, archive),
         _ => {}
     }
 }
@@ -42,6 +51,43 @@ fn restore_to(archive: &[u8], network: u32, ssi: u32, part: u32, room: usize) {
         network,
         ssi,
         part,
+        &mut out[0..end],
+        &mut count,
+        &mut entry,
+        &mut place,
+    );
+    restored(
+        Answer {
+            number,
+            entry,
+            place,
+        },
+        BitCount(count),
+        out,
+    );
+}
+
+// Network, SSI, part, definition type, delivery, acknowledgement and room stand in this order.
+fn reload(line: &[u8], archive: &[u8]) {
+    let mut asked = [0u32; 7];
+    input::numbers_at(line, 7, &mut asked);
+    reload_to(archive, asked);
+}
+
+fn reload_to(archive: &[u8], asked: [u32; 7]) {
+    let mut out = show::full();
+    let mut count: usize = 0;
+    let mut entry = show::FULL_PLACE;
+    let mut place = show::FULL_PLACE;
+    let end = bits::least(asked[6] as usize, 70000);
+    let number = boc::boc_reload(
+        archive,
+        asked[0],
+        asked[1],
+        asked[2],
+        asked[3],
+        asked[4],
+        asked[5],
         &mut out[0..end],
         &mut count,
         &mut entry,

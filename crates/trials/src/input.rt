@@ -1,14 +1,20 @@
 // Numbers and bytes of a line.
 
 // Zeros, for the text of all lines.
-pub(crate) fn buffer() -> [u8; 262144] {
-    [0; 262144]
+pub(crate) fn buffer() -> [u8; 524288] {
+    [0; 524288]
 }
 
 // The letter or digit by which a line is known, 0 for an empty line.
 pub(crate) fn letter(line: &[u8]) -> u8 {
-    if line.len() == 0 { 0 } else { line[0] }
+    letter_at(line, 0)
 }
+
+// The letter at a place of a line, 0 behind its end.
+pub(crate) fn letter_at(line: &[u8], at: usize) -> u8 {
+    if at < line.len() { line[at] } else { 0 }
+}
+
 // A decimal number, and where the word after it begins.
 pub struct Word {
     pub value: u32,

@@ -1,4 +1,4 @@
-// Runs cases through the seven calls, a line of standard input each, and prints a line for each.
+// Runs cases through the eight calls, a line of standard input each, and prints a line for each.
 //
 // `BITS HEX` is the PDU of so many bits in these bytes: its refusal; or its record, each word that is not zero as `INDEX:VALUE`, and the PDU that
 // is written of it. These speak of the PDU given last and of its record, which is zero after a refusal:
@@ -14,6 +14,8 @@
 //   capture ROOM BITS HEX            the archive with this PDU, written to ROOM lent bytes
 //   many FROM TO BITS HEX            the same under each SSI from FROM up to TO: a line for each, and an empty one
 //   restore NETWORK SSI PART ROOM    a held PDU, written to ROOM lent bytes
+//   reload NETWORK SSI PART DEFINITION DELIVERY ACKNOWLEDGEMENT ROOM
+//                                    the same as a DEFINE with this definition type and these two bits
 //   decide WORD,WORD,..              the decision on the request in these words; no digits are 0, and so are words left out
 //   verify                           the listing of the held archive, its length and sum
 //   print FROM TO                    the bytes of the held archive's buffer from FROM up to TO
@@ -38,7 +40,7 @@ fn main() {
     let mut text = input::buffer();
     let n = io::read_full(0, &mut text);
     run(&text[..n]);
-    if n == 262144 {
+    if n == 524288 {
         io::write_all(1, b"input too long\n");
     }
 }
