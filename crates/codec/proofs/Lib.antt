@@ -3,6 +3,7 @@ pub mod Reading
 pub mod Onward
 pub mod Filling
 pub mod Windows
+pub mod Seen
 pub mod Kept
 pub mod Sizes
 pub mod Legality

@@ -1,5 +1,5 @@
 -- Laws of the site sheet's codes and of the ends of a range. Assumes nothing.
-use mathlib.Core.Path.{_≡_, refl, ap}
+use mathlib.Core.Path.{_≡_, refl, sym, ap}
 use mathlib.Core.Bool.{Bool, true, false, _&&_}
 use mathlib.Core.List.{List}
 use Prim.Native.Nat.{ℕ, zero, suc, _≤_, _<_}
@@ -8,6 +8,7 @@ use borrow.Author.Tests.{eqb-false, leb-true, leb-false, eq-eqb, ne-eqb, le-leb,
 use lib.Dec.{eqb, leb}
 use Rattle.bits.specs.Bits.{pick}
 use Rattle.bits.proofs.Tests.{both, picked, by-test}
+use Rattle.codec.specs.Parts.{isZero}
 use Rattle.grammar.specs.SiteSheet.{rangeType, rowOfType, rowOf, entriesOf, refusalIn, rangeRefusal, digitOf, digitRefusal, between}
 use Rattle.grammar.specs.Grammar.{rangeEnds}
 use Rattle.grammar.specs.declared.record.Identity.{Identity}
@@ -82,3 +83,13 @@ digit-refusal d = go (leb d 12) refl
     go : (b : Bool) → leb d 12 ≡ b → digitRefusal d ≡ pick b 0 3
     go true e = legal d (leb d 9) (leb-true d 12 e) refl
     go false e = refused d (leb-false d 12 e)
+
+-- ---- zero
+
+pub not-zero : (v : ℕ) → (v ≡ 0 → ⊥) → isZero v ≡ false
+not-zero zero h = absurd (h refl)
+not-zero (suc v) h = refl
+
+pub zero-test : (v : ℕ) → isZero v ≡ eqb v 0
+zero-test zero = refl
+zero-test (suc v) = sym (ne-eqb (suc v) 0 (λ e. omega arith))

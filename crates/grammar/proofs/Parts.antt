@@ -1,4 +1,4 @@
--- The tests of the grammar answer with 0, 3, 4 and 10; and what every way to build a part keeps, the parts of a PDU have. Assumes nothing.
+-- The tests of the grammar answer with 0, 3 and 4; and what every way to build a part keeps, the parts of a PDU have. Assumes nothing.
 use mathlib.Core.Bool.{_&&_}
 use mathlib.Core.List.{List}
 use Prim.Native.Nat.{ℕ, zero, suc}
@@ -10,11 +10,11 @@ use Rattle.codec.specs.Parts.{number, absent, element, seq, mark}
 use Rattle.codec.specs.Places.{places}
 use Rattle.codec.proofs.Kept.{Kept}
 use Rattle.grammar.specs.SiteSheet.{ssType, rangeType, refusalIn, rangeRefusal, digitOf, refusalOfDigit, digitRefusal, serviceOf}
-use Rattle.grammar.specs.SiteSheet.{refusalOfService, serviceRefusal, kindRefusal, resultRefusal, between, definedPart, entriesOf}
+use Rattle.grammar.specs.SiteSheet.{refusalOfService, serviceRefusal, pduType, between, reserved, entriesOf}
 use Rattle.grammar.specs.Grammar.{extension, identity, noIdentity, zeroIdentity, endsRefusal, rangeEnds, identities, noIdentities, external}
 use Rattle.grammar.specs.Grammar.{noExternal, externals, noExternals, services, noServices, identityPart, numberPart, noPart, partOf}
-use Rattle.grammar.specs.Grammar.{interrogationType, interrogationResult, noInterrogation, definition, noDefinition}
-use Rattle.grammar.specs.Grammar.{define, interrogate, interrogateAck, restOf, Five, Rest, pdu}
+use Rattle.grammar.specs.Grammar.{Three, none, figures, Five, Rest, restOf, pdu}
+use Rattle.grammar.specs.Rows.{formOf, partIn, figuresOf}
 use Rattle.grammar.specs.declared.site.RangeType.{RangeType}
 use Rattle.grammar.specs.declared.site.RangeType.the-variants.{Empty, Single, FirstAndLast, NoRangeType}
 use Rattle.grammar.specs.declared.site.ListKind.{ListKind}
@@ -23,6 +23,10 @@ use Rattle.grammar.specs.declared.site.Digit.{Digit}
 use Rattle.grammar.specs.declared.site.Digit.the-variants.{Decimal, Star, Hash, Plus, NoDigit}
 use Rattle.grammar.specs.declared.site.Service.{Service}
 use Rattle.grammar.specs.declared.site.Service.the-variants.{All, Speech, CircuitData, ShortData, NoService}
+use Rattle.grammar.specs.declared.site.PduType.{PduType}
+use Rattle.grammar.specs.declared.site.PduType.the-variants.{Define, DefineAck, DefineExternal, DefineUser, DefineUserAck, DefineExternalUser}
+use Rattle.grammar.specs.declared.site.PduType.the-variants.{Interrogate, InterrogateAck, CallBarred, NoPduType}
+use Rattle.grammar.specs.declared.record.Figures.{Figures}
 use Rattle.grammar.specs.declared.record.Identity.{Identity}
 use Rattle.grammar.specs.declared.record.Identities.{Identities}
 use Rattle.grammar.specs.declared.record.Lists.{Lists}
@@ -30,9 +34,10 @@ use Rattle.grammar.specs.declared.record.Number.{Number}
 use Rattle.grammar.specs.declared.record.Numbers.{Numbers}
 use Rattle.grammar.specs.declared.record.Record.{Record}
 use Rattle.grammar.specs.declared.record.Services.{Services}
+use Rattle.grammar.proofs.Rows.{in-rows}
 
 module _ (Code : ℕ → Type 0) (passed : Code 0) (three : Code 3) (four : Code 4) where
-  -- ---- the tests: no refusal, 3 or 4; of the PDU type also 10
+  -- ---- the tests: no refusal, 3 or 4
 
   code-between : (low high v : ℕ) → Code (between low high v)
   code-between low high v = by-test Code (leb low v && leb v high) passed three
@@ -73,13 +78,8 @@ module _ (Code : ℕ → Type 0) (passed : Code 0) (three : Code 3) (four : Code
   unfolding serviceRefusal
   code-service v = of-service (serviceOf v)
 
-  code-result : (v : ℕ) → Code (resultRefusal v)
-  unfolding resultRefusal
-  code-result v = by-test Code (eqb v 5) three passed
-
-  code-kind : Code 10 → (v : ℕ) → Code (kindRefusal v)
-  unfolding kindRefusal
-  code-kind ten v = by-test Code (eqb v 5) passed (by-test Code (leb 11 v && leb v 12) passed (by-test Code (leb v 13) ten three))
+  code-reserved : (low high v : ℕ) → Code (reserved low high v)
+  code-reserved low high v = by-test Code (leb low v && leb v high) three passed
 
   code-ends : (code : ℕ) (l : List Identity) → Code (rangeEnds code l)
   unfolding rangeEnds endsRefusal
@@ -162,23 +162,40 @@ module _ (Code : ℕ → Type 0) (passed : Code 0) (three : Code 3) (four : Code
         by-test (P Lists) (eqb part 1) (kept .shaped _ _ _ _ _ (five ids ids ids of-noExternals of-noExternals))
         (by-test (P Lists) (eqb part 2) (kept .shaped _ _ _ _ _ (five ids of-noIdentities of-noIdentities of-externals of-externals)) of-noPart)
 
-    none : P (ℕ × (ℕ × ℕ)) (seq absent (λ a. seq absent (λ b. absent)))
-    none = then (kept .absent) (λ a. then (kept .absent) (λ b. kept .absent))
+    of-none : P Three none
+    unfolding none
+    of-none = then (kept .absent) (λ a. then (kept .absent) (λ b. kept .absent))
 
-    pub of-rest : (kind : ℕ) → P Rest (restOf kind)
-    unfolding define interrogate interrogateAck interrogationType interrogationResult noInterrogation definition noDefinition
-    of-rest kind =
-        by-test (P Rest) (eqb kind 5)
-        (then none (λ a.
-        then (then (kept .number 1) (λ delivery. then (of-element 1 (code-between 0 delivery)) (λ b. of-element 2 (code-between 0 2)))) (λ d.
-        then of-services (λ e. of-part (definedPart 1 (d .1 .1))))))
-        (by-test (P Rest) (eqb kind 11)
-        (then (then (of-element 2 (code-between 1 3)) (λ a. then (kept .absent) (λ b. kept .absent))) (λ i. then none (λ d. then of-noServices (λ e. of-noPart))))
-        (then (then (kept .absent) (λ a. then (of-element 3 code-result) (λ b. kept .number 2))) (λ i.
-        then none (λ d. then of-services (λ e. of-part (i .1 .0))))))
+    of-three : {i d o : Codec Three} → P Three i → P Three d → P Three o → P Figures (figures i d o)
+    unfolding figures
+    of-three h j k = kept .shaped _ _ _ _ _ (then h (λ x. then j (λ y. k)))
 
-    pub of-pdu : Code 10 → P Record pdu
+    of-definition : P Figures (figuresOf Define)
+    of-definition =
+        of-three of-none (then (kept .number 1) (λ delivery. then (of-element 1 (code-between 0 delivery)) (λ a. of-element 2 (code-between 0 2)))) of-none
+
+    of-user-definition : P Figures (figuresOf DefineUser)
+    of-user-definition = of-three of-none (then (kept .absent) (λ a. then (kept .number 1) (λ b. of-element 2 (code-between 0 2)))) of-none
+
+    of-figures : (t : PduType) → P Figures (figuresOf t)
+    of-figures Define = of-definition
+    of-figures DefineExternal = of-definition
+    of-figures DefineUser = of-user-definition
+    of-figures DefineExternalUser = of-user-definition
+    of-figures InterrogateAck = of-three (then (kept .absent) (λ a. then (of-element 3 (code-reserved 5 5)) (λ b. kept .number 2))) of-none of-none
+    of-figures Interrogate = of-three (then (of-element 2 (code-between 1 3)) (λ a. then (kept .absent) (λ b. kept .absent))) of-none of-none
+    of-figures DefineAck = of-three of-none of-none (then (of-element 3 (code-reserved 5 5)) (λ a. then (kept .absent) (λ b. kept .absent)))
+    of-figures DefineUserAck = of-three of-none of-none (then (kept .absent) (λ a. then (of-element 3 (code-reserved 2 5)) (λ b. kept .absent)))
+    of-figures CallBarred = of-three of-none of-none (then (kept .absent) (λ a. then (kept .absent) (λ b. of-element 2 (code-between 0 2))))
+    of-figures NoPduType = of-three of-none of-none of-none
+
+    pub of-rest : (t : PduType) → P Rest (restOf t)
+    of-rest t =
+        rw (in-rows t) (then (by-test (P Identities) (formOf t .users) (of-identities of.Users) of-noIdentities) (λ u.
+        then (of-figures t) (λ f. then (by-test (P Services) (formOf t .services) of-services of-noServices) (λ s. of-part (partIn t f)))))
+
+    pub of-pdu : P Record pdu
     unfolding pdu mark
-    of-pdu ten =
+    of-pdu =
         kept .shaped _ _ _ _ _ (then (of-element 6 (λ v. by-test Code (eqb v ssType) passed three)) (λ x.
-        kept .shaped _ _ _ _ _ (then (of-element 5 (code-kind ten)) (λ kind. then (of-identities of.Users) (λ users. of-rest kind)))))
+        kept .shaped _ _ _ _ _ (then (of-element 5 (code-between 5 13)) (λ kind. of-rest (pduType kind)))))

@@ -10,17 +10,22 @@ use Rattle.codec.specs.Codec.{Codec}
 use Rattle.codec.specs.Parts.{absent, element, seq, shaped, mark, only}
 use Rattle.codec.specs.Places.{places}
 use Rattle.codec.proofs.Sizes.{Within, size-number, size-absent, size-more, size-seq, size-tested, size-element, size-shaped, size-places}
-use Rattle.grammar.specs.SiteSheet.{ssType, entriesOf, rangeRefusal, digitRefusal, serviceRefusal, kindRefusal, resultRefusal, askedRefusal}
-use Rattle.grammar.specs.SiteSheet.{acknowledgementRefusal, definitionRefusal, definedPart, countRefusal, lengthRefusal}
+use Rattle.grammar.specs.SiteSheet.{ssType, entriesOf, rangeRefusal, digitRefusal, serviceRefusal, pduType, kindRefusal, resultRefusal}
+use Rattle.grammar.specs.SiteSheet.{askedRefusal, acknowledgementRefusal, definitionRefusal, definedPart, definedRefusal, distributedRefusal}
+use Rattle.grammar.specs.SiteSheet.{causeRefusal, countRefusal, lengthRefusal}
 use Rattle.grammar.specs.Grammar.{extension, identity, noIdentity, identities, noIdentities, external, noExternal, externals, noExternals}
-use Rattle.grammar.specs.Grammar.{services, noServices, identityPart, numberPart, noPart, partOf, interrogationType}
-use Rattle.grammar.specs.Grammar.{interrogationResult, noInterrogation, definition, noDefinition, define, interrogate, interrogateAck, restOf}
-use Rattle.grammar.specs.Grammar.{fromRecord, pdu}
+use Rattle.grammar.specs.Grammar.{services, noServices, identityPart, numberPart, noPart, partOf, Three, none, figures, restOf, fromRecord, pdu}
+use Rattle.grammar.specs.Rows.{formOf, usersOf, servicesOf, partIn, figuresOf, widthOf, longest}
 use Rattle.grammar.specs.declared.site.ListKind.{ListKind}
 use Rattle.grammar.specs.declared.site.ListKind.the-variants as of
+use Rattle.grammar.specs.declared.site.PduType.{PduType}
+use Rattle.grammar.specs.declared.site.PduType.the-variants.{Define, DefineAck, DefineExternal, DefineUser, DefineUserAck, DefineExternalUser}
+use Rattle.grammar.specs.declared.site.PduType.the-variants.{Interrogate, InterrogateAck, CallBarred, NoPduType}
 use Rattle.grammar.specs.declared.record.Identities.{Identities}
 use Rattle.grammar.specs.declared.record.Numbers.{Numbers}
+use Rattle.grammar.specs.declared.record.Figures.{Figures}
 use Rattle.grammar.specs.declared.record.Record.{Record}
+use Rattle.grammar.proofs.Rows.{in-rows}
 
 size-extension : (present : ℕ) → Within 24 (extension present)
 unfolding extension
@@ -106,58 +111,87 @@ size-defined : (d : ℕ) → Within 1188 (partOf (definedPart 1 d))
 unfolding definedPart
 size-defined d = by-test (λ (part : ℕ). Within 1188 (partOf part)) (leb d 1) size-identityPart (size-more size-noPart (omega arith))
 
-size-none : Within 0 (seq absent (λ a. seq absent (λ b. absent)))
+-- figures: three each of an interrogation, a definition and an outcome
+size-none : Within 0 none
+unfolding none
 size-none = size-seq size-absent (λ a. size-seq size-absent (λ b. size-absent))
 
-size-definition : Within 4 definition
-unfolding definition
-size-definition = size-seq (size-number 1) (λ d. size-seq (size-element 1 (acknowledgementRefusal d)) (λ a. size-element 2 definitionRefusal))
+size-figures : {a b c : ℕ} {i d o : Codec Three} → Within a i → Within b d → Within c o → Within (a + (b + c)) (figures i d o)
+unfolding figures
+size-figures h j k = size-shaped _ _ _ _ _ (size-seq h (λ x. size-seq j (λ y. k)))
 
-size-define : Within 1216 define
-unfolding define noInterrogation
-size-define = size-seq size-none (λ i. size-seq size-definition (λ d. size-seq size-services (λ s. size-defined (d .1 .1))))
+size-definition : Within 4 (figuresOf Define)
+size-definition =
+    size-figures size-none (size-seq (size-number 1) (λ d. size-seq (size-element 1 (acknowledgementRefusal d)) (λ a. size-element 2 definitionRefusal)))
+    size-none
 
-size-interrogate : Within 2 interrogate
-unfolding interrogate interrogationType noDefinition
-size-interrogate =
-    size-seq (size-seq (size-element 2 askedRefusal) (λ a. size-seq size-absent (λ b. size-absent))) (λ i.
-    size-seq size-none (λ d. size-seq size-noServices (λ s. size-noPart)))
+size-user : Within 3 (figuresOf DefineUser)
+size-user = size-figures size-none (size-seq size-absent (λ a. size-seq (size-number 1) (λ b. size-element 2 definitionRefusal))) size-none
 
-size-ack : Within 2049 interrogateAck
-unfolding interrogateAck interrogationResult noDefinition
-size-ack =
-    size-seq (size-seq size-absent (λ a. size-seq (size-element 3 resultRefusal) (λ b. size-number 2))) (λ i.
-    size-seq size-none (λ d. size-seq size-services (λ s. size-part (i .1 .0))))
+pub size-of-figures : (t : PduType) → Within (widthOf t) (figuresOf t)
+unfolding formOf
+size-of-figures Define = size-definition
+size-of-figures DefineExternal = size-definition
+size-of-figures DefineUser = size-user
+size-of-figures DefineExternalUser = size-user
+size-of-figures InterrogateAck =
+    size-figures (size-seq size-absent (λ a. size-seq (size-element 3 resultRefusal) (λ b. size-number 2))) size-none size-none
+size-of-figures Interrogate = size-figures (size-seq (size-element 2 askedRefusal) (λ a. size-seq size-absent (λ b. size-absent))) size-none size-none
+size-of-figures DefineAck = size-figures size-none size-none (size-seq (size-element 3 definedRefusal) (λ a. size-seq size-absent (λ b. size-absent)))
+size-of-figures DefineUserAck = size-figures size-none size-none (size-seq size-absent (λ a. size-seq (size-element 3 distributedRefusal) (λ b. size-absent)))
+size-of-figures CallBarred = size-figures size-none size-none (size-seq size-absent (λ a. size-seq size-absent (λ b. size-element 2 causeRefusal)))
+size-of-figures NoPduType = size-figures size-none size-none size-none
 
--- SS type, PDU type and affected users are at most 407 bits
-size-pdu : (r : Record) (n : ℕ) → Within n (restOf (r .kind)) → length (pdu .print r) ≤ 407 + n
+-- a row: users, figures, services, lists
+size-row : (t : PduType) {u s p : ℕ} → Within u (usersOf t) → Within s (servicesOf t) → ((f : Figures) → Within p (partOf (partIn t f)))
+    → Within (u + (widthOf t + (s + p))) (restOf t)
+size-row t users services part = rw (in-rows t) (size-seq users (λ u. size-seq (size-of-figures t) (λ f. size-seq services (λ s. part f))))
+
+size-users : Within 396 (identities of.Users)
+size-users = size-identities of.Users
+
+pub size-rest : (t : PduType) → Within (longest t) (restOf t)
+unfolding formOf partIn longest
+size-rest Define = size-row Define size-users size-services (λ f. size-defined (f .definition))
+size-rest DefineAck = size-row DefineAck size-users size-noServices (λ f. size-noPart)
+size-rest DefineExternal = size-row DefineExternal size-users size-services (λ f. size-part (definedPart 2 (f .definition)))
+size-rest DefineUser = size-row DefineUser size-noIdentities size-services (λ f. size-defined (f .definition))
+size-rest DefineUserAck = size-row DefineUserAck size-noIdentities size-noServices (λ f. size-noPart)
+size-rest DefineExternalUser = size-row DefineExternalUser size-noIdentities size-services (λ f. size-defined (f .definition))
+size-rest Interrogate = size-row Interrogate size-users size-noServices (λ f. size-noPart)
+size-rest InterrogateAck = size-row InterrogateAck size-users size-services (λ f. size-part (f .result))
+size-rest CallBarred = size-row CallBarred size-noIdentities size-noServices (λ f. size-noPart)
+size-rest NoPduType = size-row NoPduType size-noIdentities size-noServices (λ f. size-noPart)
+
+-- A PDU is at most as long as its type says, with SS type and PDU type before it.
+pub pdu-length : (r : Record) → length (pdu .print r) ≤ 11 + longest (pduType (r .kind))
 unfolding pdu mark shaped seq
-size-pdu r n h =
-    let users = (identities of.Users) .print (r .affected) in
-    let rest = (restOf (r .kind)) .print (fromRecord r .1 .1) in
+pdu-length r =
+    let rest = (restOf (pduType (r .kind))) .print (fromRecord r .1) in
     let kind = (element 5 kindRefusal) .print (r .kind) in
     let ss = (element 6 (only ssType)) .print ssType in
     omega (
       arith,
-      length-append ss (kind ++ (users ++ rest)),
-      length-append kind (users ++ rest),
-      length-append users rest,
+      length-append ss (kind ++ rest),
+      length-append kind rest,
       size-element 6 (only ssType) .size ssType,
       size-element 5 kindRefusal .size (r .kind),
-      size-identities of.Users .size (r .affected),
-      h .size (fromRecord r .1 .1),
+      size-rest (pduType (r .kind)) .size (fromRecord r .1),
     )
 
--- A DEFINE is at most 1,623 bits.
-pub define-size : (r : Record) → r .kind ≡ 5 → length (pdu .print r) ≤ 1623
-define-size r e = size-pdu r 1216 (rw e size-define)
+-- An INTERROGATE ACK is the longest, and has at most 2,456 bits.
+no-longer : (t : PduType) → longest t ≤ 2445
+unfolding longest
+no-longer Define = omega arith
+no-longer DefineAck = omega arith
+no-longer DefineExternal = omega arith
+no-longer DefineUser = omega arith
+no-longer DefineUserAck = omega arith
+no-longer DefineExternalUser = omega arith
+no-longer Interrogate = omega arith
+no-longer InterrogateAck = omega arith
+no-longer CallBarred = omega arith
+no-longer NoPduType = omega arith
 
--- An INTERROGATE is at most 409 bits.
-pub interrogate-size : (r : Record) → r .kind ≡ 11 → length (pdu .print r) ≤ 409
-interrogate-size r e = size-pdu r 2 (rw e size-interrogate)
-
--- An INTERROGATE ACK is at most 2,456 bits, and no PDU is longer.
 pub pdu-size : (r : Record) → length (pdu .print r) ≤ 2456
-pdu-size r =
-    size-pdu r 2049 (by-test (Within _) (eqb (r .kind) 5) (size-more size-define (omega arith))
-    (by-test (Within _) (eqb (r .kind) 11) (size-more size-interrogate (omega arith)) size-ack))
+pdu-size r = omega (arith, pdu-length r, no-longer (pduType (r .kind)))

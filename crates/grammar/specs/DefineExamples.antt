@@ -9,7 +9,8 @@ use Rattle.bits.specs.Bits.{bits}
 use Rattle.bits.specs.Frame.{bitsIn}
 use Rattle.codec.specs.Codec.{ok, no}
 use Rattle.codec.specs.Whole.{wholeParse}
-use Rattle.grammar.specs.Grammar.{zeroIdentity, pdu, grammar}
+use Rattle.grammar.specs.Grammar.{zeroIdentity, toFigures, pdu, grammar}
+use Rattle.grammar.specs.Figures.{ofDefinition}
 use Rattle.grammar.specs.Zero.{zeroIdentities, zeroNumbers, zeroLists}
 use Rattle.grammar.specs.Examples.{inTurn, at, of, eight, near, far, list, digits, numbers}
 use Rattle.grammar.specs.declared.record.Numbers.{Numbers}
@@ -23,14 +24,9 @@ abbrev defined : ℕ → ℕ → ℕ → Lists → Record
 defined delivery acknowledgement definition lists = record {
   kind = 5;
   affected = record { code = 1; entries = of 7 5 ∷ replicate 7 zeroIdentity };
-  asked = 0;
-  result = 0;
-  status = 0;
+  figures = ofDefinition delivery acknowledgement definition;
   services = record { count = 2; list = 1 ∷ 3 ∷ replicate 5 0 };
   lists = lists;
-  delivery = delivery;
-  acknowledgement = acknowledgement;
-  definition = definition;
 }
 
 -- SS type, PDU type, range type, SSI, extension present, extension, delivery, acknowledgement, definition type, number of services, services
@@ -67,14 +63,9 @@ abbrev longestDefine : Record
 longestDefine = record {
   kind = 5;
   affected = eight;
-  asked = 0;
-  result = 0;
-  status = 0;
+  figures = ofDefinition 1 1 1;
   services = record { count = 7; list = replicate 7 3 };
   lists = record { groups = eight; restricted = eight; exceptions = eight; numbers = zeroNumbers; excepted = zeroNumbers };
-  delivery = 1;
-  acknowledgement = 1;
-  definition = 1;
 }
 
 -- 1,623 bits, and legal
@@ -89,9 +80,7 @@ abbrev addition : Record
 addition = record {
   kind = 5;
   affected = list 2 (near 1 ∷ far 2 3 ∷ []);
-  asked = 0;
-  result = 0;
-  status = 0;
+  figures = ofDefinition 1 1 0;
   services = record { count = 2; list = 3 ∷ 0 ∷ replicate 5 0 };
   lists = record {
     groups = list 2 (near 4 ∷ far 5 6 ∷ []);
@@ -100,9 +89,6 @@ addition = record {
     numbers = zeroNumbers;
     excepted = zeroNumbers;
   };
-  delivery = 1;
-  acknowledgement = 1;
-  definition = 0;
 }
 
 abbrev additionBytes : List ℕ
@@ -119,14 +105,9 @@ abbrev removal : Record
 removal = record {
   kind = 5;
   affected = list 1 (near 5 ∷ []);
-  asked = 0;
-  result = 0;
-  status = 0;
+  figures = ofDefinition 1 0 2;
   services = record { count = 1; list = 2 ∷ replicate 6 0 };
   lists = zeroLists;
-  delivery = 1;
-  acknowledgement = 0;
-  definition = 2;
 }
 
 removal-define : (pdu .print removal ≡ bitsIn 50 (0x48 ∷ 0xa2 ∷ 0x00 ∷ 0x00 ∷ 0x0a ∷ 0xa2 ∷ 0x80 ∷ []))
@@ -156,28 +137,18 @@ abbrev definedWith : ℕ → ℕ → ℕ → Numbers → Record
 definedWith asked result status n = record {
   kind = 5;
   affected = list 1 (near 5 ∷ []);
-  asked = asked;
-  result = result;
-  status = status;
+  figures = toFigures ((asked, (result, status)), ((1, (1, 1)), (0, (0, 0))));
   services = record { count = 1; list = replicate 7 0 };
   lists = record { groups = zeroIdentities; restricted = zeroIdentities; exceptions = zeroIdentities; numbers = n; excepted = zeroNumbers };
-  delivery = 1;
-  acknowledgement = 1;
-  definition = 1;
 }
 
 abbrev answeredWith : ℕ → ℕ → ℕ → Record
 answeredWith delivery acknowledgement definition = record {
   kind = 12;
   affected = list 1 (near 5 ∷ []);
-  asked = 0;
-  result = 0;
-  status = 0;
+  figures = ofDefinition delivery acknowledgement definition;
   services = record { count = 1; list = replicate 7 0 };
   lists = zeroLists;
-  delivery = delivery;
-  acknowledgement = acknowledgement;
-  definition = definition;
 }
 
 not-defined : (pdu .clean (definedWith 0 0 0 zeroNumbers) ≡ true)
@@ -197,9 +168,7 @@ abbrev grouping : ℕ → Record
 grouping definition = record {
   kind = 5;
   affected = list 1 (near 5 ∷ []);
-  asked = 0;
-  result = 0;
-  status = 0;
+  figures = ofDefinition 0 0 definition;
   services = record { count = 1; list = replicate 7 0 };
   lists = record {
     groups = list 1 (near 1 ∷ []);
@@ -208,9 +177,6 @@ grouping definition = record {
     numbers = zeroNumbers;
     excepted = zeroNumbers;
   };
-  delivery = 0;
-  acknowledgement = 0;
-  definition = definition;
 }
 
 lists-carried : (pdu .clean (grouping 0) ≡ true) × (pdu .clean (grouping 1) ≡ true) × (pdu .clean (grouping 2) ≡ false)

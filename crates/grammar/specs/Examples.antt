@@ -10,7 +10,8 @@ use Rattle.bits.specs.Frame.{bitsIn}
 use Rattle.codec.specs.Codec.{ok, no}
 use Rattle.codec.specs.Whole.{wholeParse}
 use Rattle.grammar.specs.Grammar.{zeroIdentity, pdu, grammar}
-use Rattle.grammar.specs.Zero.{zeroIdentities, zeroNumber, zeroNumbers, zeroServices, zeroLists, zeroRecord}
+use Rattle.grammar.specs.Figures.{ofInterrogation}
+use Rattle.grammar.specs.Zero.{zeroIdentities, zeroNumber, zeroNumbers, zeroServices, zeroLists, zeroRecord, zeroFigures}
 use Rattle.grammar.specs.ProfileRecords.{A, asking}
 use Rattle.grammar.specs.declared.record.Identity.{Identity}
 use Rattle.grammar.specs.declared.record.Identities.{Identities}
@@ -51,14 +52,9 @@ abbrev answer : ℕ → Lists → Record
 answer result lists = record {
   kind = 12;
   affected = record { code = 1; entries = of 7 5 ∷ replicate 7 zeroIdentity };
-  asked = 0;
-  result = result;
-  status = 2;
+  figures = ofInterrogation 0 result 2;
   services = record { count = 2; list = 1 ∷ 3 ∷ replicate 5 0 };
   lists = lists;
-  delivery = 0;
-  acknowledgement = 0;
-  definition = 0;
 }
 
 -- SS type, PDU type, range type, SSI, extension present, extension, result, delivery status, number of services, services
@@ -70,14 +66,9 @@ answered result rest =
 interrogate-bits : pdu .print (record {
   kind = 11;
   affected = record { code = 2; entries = at 5 ∷ of 7 6 ∷ replicate 6 zeroIdentity };
-  asked = 2;
-  result = 0;
-  status = 0;
+  figures = ofInterrogation 2 0 0;
   services = zeroServices;
   lists = zeroLists;
-  delivery = 0;
-  acknowledgement = 0;
-  definition = 0;
 }) ≡ inTurn ((6, 18) ∷ (5, 11) ∷ (4, 2) ∷ (24, 5) ∷ (1, 0) ∷ (24, 6) ∷ (1, 1) ∷ (24, 7) ∷ (2, 2) ∷ [])
 unfolding grammar
 interrogate-bits = refl
@@ -125,28 +116,18 @@ abbrev longestAsking : Record
 longestAsking = record {
   kind = 11;
   affected = eight;
-  asked = 3;
-  result = 0;
-  status = 0;
+  figures = ofInterrogation 3 0 0;
   services = zeroServices;
   lists = zeroLists;
-  delivery = 0;
-  acknowledgement = 0;
-  definition = 0;
 }
 
 abbrev longestAck : Record
 longestAck = record {
   kind = 12;
   affected = eight;
-  asked = 0;
-  result = 2;
-  status = 3;
+  figures = ofInterrogation 0 2 3;
   services = record { count = 7; list = replicate 7 3 };
   lists = record { groups = eight; restricted = zeroIdentities; exceptions = zeroIdentities; numbers = eightNumbers; excepted = eightNumbers };
-  delivery = 0;
-  acknowledgement = 0;
-  definition = 0;
 }
 
 -- an INTERROGATE of 409 bits, and an INTERROGATE ACK of 2,456: both legal
@@ -181,9 +162,7 @@ abbrev identityAck : Record
 identityAck = record {
   kind = 12;
   affected = list 2 (near 1 ∷ far 2 3 ∷ []);
-  asked = 0;
-  result = 1;
-  status = 2;
+  figures = ofInterrogation 0 1 2;
   services = record { count = 4; list = 1 ∷ 2 ∷ 3 ∷ 0 ∷ 0 ∷ 0 ∷ 0 ∷ [] };
   lists = record {
     groups = list 1 (far 4 5 ∷ []);
@@ -192,9 +171,6 @@ identityAck = record {
     numbers = zeroNumbers;
     excepted = zeroNumbers;
   };
-  delivery = 0;
-  acknowledgement = 0;
-  definition = 0;
 }
 
 abbrev identityBytes : List ℕ
@@ -212,9 +188,7 @@ abbrev numberAck : Record
 numberAck = record {
   kind = 12;
   affected = list 9 (near 1 ∷ near 2 ∷ []);
-  asked = 0;
-  result = 2;
-  status = 1;
+  figures = ofInterrogation 0 2 1;
   services = record { count = 1; list = 3 ∷ replicate 6 0 };
   lists = record {
     groups = list 2 (near 3 ∷ far 4 5 ∷ []);
@@ -225,9 +199,6 @@ numberAck = record {
         numbers 1
         (digits (0 ∷ 1 ∷ 2 ∷ 3 ∷ 4 ∷ 5 ∷ 6 ∷ 7 ∷ 8 ∷ 9 ∷ 10 ∷ 11 ∷ 12 ∷ 0 ∷ 1 ∷ 2 ∷ 3 ∷ 4 ∷ 5 ∷ 6 ∷ 7 ∷ 8 ∷ 9 ∷ 10 ∷ []) ∷ []);
   };
-  delivery = 0;
-  acknowledgement = 0;
-  definition = 0;
 }
 
 abbrev numberBytes : List ℕ
@@ -244,14 +215,9 @@ abbrev failedAck : Record
 failedAck = record {
   kind = 12;
   affected = list 1 (near 5 ∷ []);
-  asked = 0;
-  result = 3;
-  status = 1;
+  figures = ofInterrogation 0 3 1;
   services = record { count = 2; list = 2 ∷ 1 ∷ replicate 5 0 };
   lists = zeroLists;
-  delivery = 0;
-  acknowledgement = 0;
-  definition = 0;
 }
 
 failed-ack : (pdu .print failedAck ≡ bitsIn 54 (0x49 ∷ 0x82 ∷ 0x00 ∷ 0x00 ∷ 0x0a ∷ 0x6a ∷ 0x44 ∷ []))
@@ -264,14 +230,9 @@ abbrev visitorAsked : Record
 visitorAsked = record {
   kind = 11;
   affected = list 1 (far 7 9 ∷ []);
-  asked = 2;
-  result = 0;
-  status = 0;
+  figures = ofInterrogation 2 0 0;
   services = zeroServices;
   lists = zeroLists;
-  delivery = 0;
-  acknowledgement = 0;
-  definition = 0;
 }
 
 visitor-asked : (pdu .print visitorAsked ≡ bitsIn 66 (0x49 ∷ 0x62 ∷ 0x00 ∷ 0x00 ∷ 0x0f ∷ 0x00 ∷ 0x00 ∷ 0x09 ∷ 0x80 ∷ []))
@@ -285,14 +246,9 @@ abbrev between : Identity → Identity → Record
 between first last = record {
   kind = 12;
   affected = list 9 (first ∷ last ∷ []);
-  asked = 0;
-  result = 0;
-  status = 0;
+  figures = zeroFigures;
   services = record { count = 1; list = replicate 7 0 };
   lists = zeroLists;
-  delivery = 0;
-  acknowledgement = 0;
-  definition = 0;
 }
 
 -- 199 to 199 is legal, also with the same extension; 200 to 199 gives 4, and so do a missing and another extension
@@ -319,9 +275,7 @@ abbrev grouped : ℕ → ℕ → Record
 grouped code used = record {
   kind = 12;
   affected = list 1 (near 5 ∷ []);
-  asked = 0;
-  result = 1;
-  status = 0;
+  figures = ofInterrogation 0 1 0;
   services = record { count = 1; list = replicate 7 0 };
   lists = record {
     groups = list code (replicate used (near 1));
@@ -330,9 +284,6 @@ grouped code used = record {
     numbers = zeroNumbers;
     excepted = zeroNumbers;
   };
-  delivery = 0;
-  acknowledgement = 0;
-  definition = 0;
 }
 
 -- as many as the code says may be used: none, one to eight, two for code 9
@@ -363,14 +314,9 @@ abbrev carrying : ℕ → ℕ → List ℕ → Identities → Numbers → Record
 carrying asked result services restricted numbers = record {
   kind = 12;
   affected = list 1 (near 5 ∷ []);
-  asked = asked;
-  result = result;
-  status = 0;
+  figures = ofInterrogation asked result 0;
   services = record { count = 1; list = services };
   lists = record { groups = zeroIdentities; restricted = restricted; exceptions = zeroIdentities; numbers = numbers; excepted = zeroNumbers };
-  delivery = 0;
-  acknowledgement = 0;
-  definition = 0;
 }
 
 -- a second service of one; an ACK's interrogation type; numbers in an identity part, identities in a number part, either in a failed ACK;
@@ -391,14 +337,9 @@ abbrev askedWith : ℕ → ℕ → ℕ → Record
 askedWith result status count = record {
   kind = 11;
   affected = list 1 (near 5 ∷ []);
-  asked = 1;
-  result = result;
-  status = status;
+  figures = ofInterrogation 1 result status;
   services = record { count = count; list = replicate 7 0 };
   lists = zeroLists;
-  delivery = 0;
-  acknowledgement = 0;
-  definition = 0;
 }
 
 not-asked : (pdu .clean (askedWith 0 0 0) ≡ true)
@@ -412,9 +353,7 @@ not-asked = (refl, refl, refl, refl)
 zeros : zeroRecord ≡ record {
   kind = 0;
   affected = list 0 (replicate 8 (near 0));
-  asked = 0;
-  result = 0;
-  status = 0;
+  figures = zeroFigures;
   services = record { count = 0; list = 0 ∷ 0 ∷ 0 ∷ 0 ∷ 0 ∷ 0 ∷ 0 ∷ [] };
   lists = record {
     groups = list 0 (replicate 8 (near 0));
@@ -423,8 +362,5 @@ zeros : zeroRecord ≡ record {
     numbers = numbers 0 (replicate 8 (record { length = record { 0 = 0 }; digits = replicate 24 0 }));
     excepted = numbers 0 (replicate 8 (record { length = record { 0 = 0 }; digits = replicate 24 0 }));
   };
-  delivery = 0;
-  acknowledgement = 0;
-  definition = 0;
 }
 zeros = refl

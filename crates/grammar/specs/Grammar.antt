@@ -1,4 +1,4 @@
--- What legal DEFINE, INTERROGATE and INTERROGATE ACK PDUs are, part by part: EN 300 392-12-18, tables 10, 16 and 17, with the site sheet.
+-- What legal BOC PDUs are, part by part: EN 300 392-12-18, tables 10 to 18, with the site sheet.
 -- Each part is a codec: it is written, read and judged by the same description.
 use mathlib.Core.Path.{refl}
 use mathlib.Core.Bool.{_&&_}
@@ -11,14 +11,17 @@ use Rattle.codec.specs.Codec.{Codec}
 use Rattle.codec.specs.Parts.{number, absent, element, seq, _>>=_, _>>_, tested, shaped, mark}
 use Rattle.codec.specs.Places.{nil, cons, places}
 use Rattle.grammar.specs.SiteSheet.{ssType, entriesOf, rangeRefusal, digitRefusal, serviceRefusal, codes}
-use Rattle.grammar.specs.SiteSheet.{kindRefusal, resultRefusal, askedRefusal, acknowledgementRefusal, definitionRefusal, definedPart}
-use Rattle.grammar.specs.SiteSheet.{countRefusal, lengthRefusal}
+use Rattle.grammar.specs.SiteSheet.{pduType, kindRefusal, askedRefusal, resultRefusal, acknowledgementRefusal, definitionRefusal, definedPart}
+use Rattle.grammar.specs.SiteSheet.{definedRefusal, distributedRefusal, causeRefusal, countRefusal, lengthRefusal}
 use Rattle.grammar.specs.declared.site.ListKind.{ListKind}
 use Rattle.grammar.specs.declared.site.ListKind.the-variants as of
+use Rattle.grammar.specs.declared.site.PduType.{PduType}
+use Rattle.grammar.specs.declared.site.PduType.the-variants as type
 use Rattle.grammar.specs.declared.record.Identity.{Identity}
 use Rattle.grammar.specs.declared.record.Identities.{Identities}
 use Rattle.grammar.specs.declared.record.Number.{Number}
 use Rattle.grammar.specs.declared.record.Numbers.{Numbers}
+use Rattle.grammar.specs.declared.record.Figures.{Figures}
 use Rattle.grammar.specs.declared.record.Services.{Services}
 use Rattle.grammar.specs.declared.record.Lists.{Lists}
 use Rattle.grammar.specs.declared.record.Record.{Record}
@@ -180,101 +183,181 @@ noPart =
 abbrev pub partOf : ℕ → Codec Lists
 partOf part = pick (eqb part 1) identityPart (pick (eqb part 2) numberPart noPart)
 
--- ---- what follows the affected users: elements of an interrogation, elements of a definition, services, lists
+-- ---- the figures of a PDU: those of an interrogation, of a definition and of an outcome, three each
 
--- interrogation type, interrogation result, delivery status
-abbrev pub Interrogation : Type 0
-Interrogation = ℕ × (ℕ × ℕ)
+abbrev pub Three : Type 0
+Three = ℕ × (ℕ × ℕ)
 
-unfoldable pub interrogationType : Codec Interrogation
-interrogationType = do
-  element 2 askedRefusal
-  absent
-  absent
+unfoldable pub none : Codec Three
+none = do absent; absent; absent
 
--- every delivery status is legal (table 29)
-unfoldable pub interrogationResult : Codec Interrogation
-interrogationResult = do
-  absent
-  element 3 resultRefusal
-  number 2
+abbrev pub toFigures : Three × (Three × Three) → Figures
+toFigures ((asked, (result, status)), ((delivery, (acknowledgement, definition)), (defined, (distributed, cause)))) = record {
+  asked = asked;
+  result = result;
+  status = status;
+  delivery = delivery;
+  acknowledgement = acknowledgement;
+  definition = definition;
+  defined = defined;
+  distributed = distributed;
+  cause = cause;
+}
 
-unfoldable pub noInterrogation : Codec Interrogation
-noInterrogation = do absent; absent; absent
+abbrev pub fromFigures : Figures → Three × (Three × Three)
+fromFigures f =
+    ((f .asked, (f .result, f .status)), ((f .delivery, (f .acknowledgement, f .definition)), (f .defined, (f .distributed, f .cause))))
+
+unfoldable pub figures : Codec Three → Codec Three → Codec Three → Codec Figures
+figures interrogation definition outcome =
+    shaped (do
+      interrogation
+      definition
+      outcome)
+    toFigures fromFigures (λ a c f. refl) (λ f. refl)
+
+abbrev pub interrogationType : Codec Figures
+interrogationType = figures (do element 2 askedRefusal; absent; absent) none none
+
+-- with the delivery status, of which every value is legal (table 29)
+abbrev pub interrogationResult : Codec Figures
+interrogationResult = figures (do absent; element 3 resultRefusal; number 2) none none
 
 -- delivery to affected users, acknowledgement from them, definition type
-abbrev pub Definition : Type 0
-Definition = ℕ × (ℕ × ℕ)
+abbrev pub definition : Codec Figures
+definition = figures none (do delivery ← number 1; element 1 (acknowledgementRefusal delivery); element 2 definitionRefusal) none
 
-unfoldable pub definition : Codec Definition
-definition = do
-  delivery ← number 1
-  element 1 (acknowledgementRefusal delivery)
-  element 2 definitionRefusal
+-- the same in a PDU to the affected user itself: there is no delivery, and the acknowledgement is free
+abbrev pub userDefinition : Codec Figures
+userDefinition = figures none (do absent; number 1; element 2 definitionRefusal) none
 
-unfoldable pub noDefinition : Codec Definition
-noDefinition = do absent; absent; absent
+abbrev pub definitionResult : Codec Figures
+definitionResult = figures none none (do element 3 definedRefusal; absent; absent)
+
+abbrev pub distributionResult : Codec Figures
+distributionResult = figures none none (do absent; element 3 distributedRefusal; absent)
+
+abbrev pub rejectionCause : Codec Figures
+rejectionCause = figures none none (do absent; absent; element 2 causeRefusal)
+
+abbrev pub noFigures : Codec Figures
+noFigures = figures none none none
+
+-- ---- what follows the PDU type: affected users, figures, services, lists
 
 abbrev pub Rest : Type 0
-Rest = Interrogation × (Definition × (Services × Lists))
+Rest = Identities × (Figures × (Services × Lists))
 
 -- table 10
 unfoldable pub define : Codec Rest
 define = do
-  noInterrogation
-  d ← definition
+  identities of.Users
+  f ← definition
   services
-  partOf (definedPart 1 (d .1 .1))
+  partOf (definedPart 1 (f .definition))
+
+-- table 11
+unfoldable pub defineAck : Codec Rest
+defineAck = do
+  identities of.Users
+  definitionResult
+  noServices
+  noPart
+
+-- table 12
+unfoldable pub defineExternal : Codec Rest
+defineExternal = do
+  identities of.Users
+  f ← definition
+  services
+  partOf (definedPart 2 (f .definition))
+
+-- table 13
+unfoldable pub defineUser : Codec Rest
+defineUser = do
+  noIdentities
+  f ← userDefinition
+  services
+  partOf (definedPart 1 (f .definition))
+
+-- table 14
+unfoldable pub defineUserAck : Codec Rest
+defineUserAck = do
+  noIdentities
+  distributionResult
+  noServices
+  noPart
+
+-- table 15, whose lists have identities for entries, whatever their range types are called
+unfoldable pub defineExternalUser : Codec Rest
+defineExternalUser = do
+  noIdentities
+  f ← userDefinition
+  services
+  partOf (definedPart 1 (f .definition))
 
 -- table 16
 unfoldable pub interrogate : Codec Rest
 interrogate = do
+  identities of.Users
   interrogationType
-  noDefinition
   noServices
   noPart
 
 -- table 17; the interrogation results that provide a part have its number
 unfoldable pub interrogateAck : Codec Rest
 interrogateAck = do
-  i ← interrogationResult
-  noDefinition
+  identities of.Users
+  f ← interrogationResult
   services
-  partOf (i .1 .0)
+  partOf (f .result)
+
+-- table 18
+unfoldable pub callBarred : Codec Rest
+callBarred = do
+  noIdentities
+  rejectionCause
+  noServices
+  noPart
+
+-- no PDU: nothing is carried
+unfoldable pub noPdu : Codec Rest
+noPdu = do
+  noIdentities
+  noFigures
+  noServices
+  noPart
+
+abbrev pub restOf : PduType → Codec Rest
+restOf type.Define = define
+restOf type.DefineAck = defineAck
+restOf type.DefineExternal = defineExternal
+restOf type.DefineUser = defineUser
+restOf type.DefineUserAck = defineUserAck
+restOf type.DefineExternalUser = defineExternalUser
+restOf type.Interrogate = interrogate
+restOf type.InterrogateAck = interrogateAck
+restOf type.CallBarred = callBarred
+restOf type.NoPduType = noPdu
 
 -- ---- the PDU
 
-abbrev pub toRecord : ℕ × (Identities × Rest) → Record
-toRecord (kind, (affected, ((asked, (result, status)), ((delivery, (acknowledgement, definition)), (services, lists))))) = record {
-  kind = kind;
-  affected = affected;
-  asked = asked;
-  result = result;
-  status = status;
-  services = services;
-  lists = lists;
-  delivery = delivery;
-  acknowledgement = acknowledgement;
-  definition = definition;
-}
+abbrev pub toRecord : ℕ × Rest → Record
+toRecord (kind, (affected, (figures, (services, lists)))) =
+    record { kind = kind; affected = affected; figures = figures; services = services; lists = lists }
 
-abbrev pub fromRecord : Record → ℕ × (Identities × Rest)
-fromRecord r =
-    (r .kind, (r .affected, ((r .asked, (r .result, r .status)), ((r .delivery, (r .acknowledgement, r .definition)), (r .services, r .lists)))))
+abbrev pub fromRecord : Record → ℕ × Rest
+fromRecord r = (r .kind, (r .affected, (r .figures, (r .services, r .lists))))
 
 -- the first affected user
 abbrev pub userOf : Record → Identity
 userOf r = getD (r .affected .entries) 0 zeroIdentity
 
-abbrev pub restOf : ℕ → Codec Rest
-restOf kind = pick (eqb kind 5) define (pick (eqb kind 11) interrogate interrogateAck)
-
 unfoldable pub pdu : Codec Record
 pdu =
     mark 6 ssType (shaped (do
       kind ← element 5 kindRefusal
-      identities of.Users
-      restOf kind)
+      restOf (pduType kind))
     toRecord fromRecord (λ a c f. refl) (λ r. refl))
 
 -- `unfolding grammar` opens all of it, part by part
@@ -286,10 +369,10 @@ unfoldable pub entries : Unit {0}
 unfolding extension identity noIdentity endsRefusal rangeEnds identities noIdentities external noExternal externals noExternals
 entries = tt
 
-unfoldable pub elements : Unit {0}
-unfolding interrogationType interrogationResult noInterrogation definition noDefinition
-elements = tt
+unfoldable pub tables : Unit {0}
+unfolding define defineAck defineExternal defineUser defineUserAck defineExternalUser interrogate interrogateAck callBarred noPdu
+tables = tt
 
 unfoldable pub grammar : Unit {0}
-unfolding pdu define interrogate interrogateAck services noServices identityPart numberPart noPart elements entries codecs codes
+unfolding pdu tables none figures services noServices identityPart numberPart noPart entries codecs codes
 grammar = tt

@@ -1,6 +1,8 @@
 pub mod SiteSheet
 pub mod Grammar
+pub mod Figures
 pub mod Zero
+pub mod Rows
 pub mod ProfileRecords
 pub mod Examples
 pub mod DefineExamples

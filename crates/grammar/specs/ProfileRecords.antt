@@ -4,6 +4,7 @@ use mathlib.Core.List.{_∷_}
 use Prim.Native.Nat.{ℕ}
 use lib.ListN.{replicate}
 use Rattle.grammar.specs.Grammar.{zeroIdentity}
+use Rattle.grammar.specs.Figures.{ofInterrogation}
 use Rattle.grammar.specs.Zero.{zeroIdentities, zeroNumbers, zeroServices, zeroLists}
 use Rattle.grammar.specs.declared.record.Identity.{Identity}
 use Rattle.grammar.specs.declared.record.Identities.{Identities}
@@ -20,14 +21,9 @@ abbrev part : Identity → ℕ → Identities → Identities → Identities → 
 part affected service groups restricted exceptions = record {
   kind = 12;
   affected = one affected;
-  asked = 0;
-  result = 1;
-  status = 0;
+  figures = ofInterrogation 0 1 0;
   services = record { count = 1; list = service ∷ replicate 6 0 };
   lists = record { groups = groups; restricted = restricted; exceptions = exceptions; numbers = zeroNumbers; excepted = zeroNumbers };
-  delivery = 0;
-  acknowledgement = 0;
-  definition = 0;
 }
 
 abbrev range : ℕ → ℕ → Identities
@@ -57,12 +53,7 @@ abbrev pub asking : Record
 asking = record {
   kind = 11;
   affected = one (user 5);
-  asked = 1;
-  result = 0;
-  status = 0;
+  figures = ofInterrogation 1 0 0;
   services = zeroServices;
   lists = zeroLists;
-  delivery = 0;
-  acknowledgement = 0;
-  definition = 0;
 }

@@ -12,6 +12,8 @@ use Rattle.grammar.specs.declared.site.Digit.{Digit}
 use Rattle.grammar.specs.declared.site.Digit.the-variants.{Decimal, Star, Hash, Plus, NoDigit}
 use Rattle.grammar.specs.declared.site.Service.{Service}
 use Rattle.grammar.specs.declared.site.Service.the-variants.{All, Speech, CircuitData, ShortData, NoService}
+use Rattle.grammar.specs.declared.site.PduType.{PduType}
+use Rattle.grammar.specs.declared.site.PduType.the-variants as pdu
 
 -- the SS type of BOC, our stand-in until EN 300 392-9 is supplied
 abbrev pub ssType : ℕ
@@ -90,11 +92,21 @@ serviceRefusal v = refusalOfService (serviceOf v)
 abbrev pub between : ℕ → ℕ → ℕ → ℕ
 between low high v = pick (leb low v && leb v high) 0 3
 
--- PDU type, table 23: DEFINE is 5, INTERROGATE 11 and INTERROGATE ACK 12; 0 to 4, 6 to 10 and 13 are named there too; others are reserved
-unfoldable pub kindRefusal : ℕ → ℕ
-kindRefusal v = pick (eqb v 5) 0 (pick (leb 11 v && leb v 12) 0 (pick (leb v 13) 10 3))
+-- from low to high are reserved
+abbrev pub reserved : ℕ → ℕ → ℕ → ℕ
+reserved low high v = pick (leb low v && leb v high) 3 0
 
--- acknowledgement from affected users: requested (1) only where delivery to them is (1), table 10, note 3
+-- PDU type, table 23: 5 to 13; 0 to 4, which are named there, have no PDU, and all others are reserved
+unfoldable pub pduType : ℕ → PduType
+pduType v =
+    pick (eqb v 5) pdu.Define (pick (eqb v 6) pdu.DefineAck (pick (eqb v 7) pdu.DefineExternal (pick (eqb v 8) pdu.DefineUser
+    (pick (eqb v 9) pdu.DefineUserAck (pick (eqb v 10) pdu.DefineExternalUser (pick (eqb v 11) pdu.Interrogate
+    (pick (eqb v 12) pdu.InterrogateAck (pick (eqb v 13) pdu.CallBarred pdu.NoPduType))))))))
+
+abbrev pub kindRefusal : ℕ → ℕ
+kindRefusal = between 5 13
+
+-- acknowledgement from affected users: requested (1) only where delivery to them is (1), note 3 of tables 10 and 12
 abbrev pub acknowledgementRefusal : ℕ → ℕ → ℕ
 acknowledgementRefusal delivery = between 0 delivery
 
@@ -102,17 +114,29 @@ acknowledgementRefusal delivery = between 0 delivery
 abbrev pub definitionRefusal : ℕ → ℕ
 definitionRefusal = between 0 2
 
--- the part whose lists a definition carries: its own for addition (0) and replacement (1), none for any other (table 10, note 4)
+-- the part whose lists a definition carries: its own for addition (0) and replacement (1), none for any other (note 4 of tables 10 and 12, note 1 of 13 and 15)
 unfoldable pub definedPart : ℕ → ℕ → ℕ
 definedPart part definition = pick (leb definition 1) part 0
 
+-- definition result, table 27: 5 is reserved
+abbrev pub definedRefusal : ℕ → ℕ
+definedRefusal = reserved 5 5
+
+-- distribution result, table 31: 2 to 5 are reserved
+abbrev pub distributedRefusal : ℕ → ℕ
+distributedRefusal = reserved 2 5
+
 -- interrogation result, table 35: 5 is reserved
-unfoldable pub resultRefusal : ℕ → ℕ
-resultRefusal v = pick (eqb v 5) 3 0
+abbrev pub resultRefusal : ℕ → ℕ
+resultRefusal = reserved 5 5
 
 -- interrogation type, table 36: 0 is reserved
 abbrev pub askedRefusal : ℕ → ℕ
 askedRefusal = between 1 3
+
+-- rejection cause, table 38: 3 is reserved
+abbrev pub causeRefusal : ℕ → ℕ
+causeRefusal = between 0 2
 
 -- number of services, table 37: 0 is reserved
 abbrev pub countRefusal : ℕ → ℕ
@@ -124,5 +148,5 @@ lengthRefusal = between 1 24
 
 -- `unfolding codes` opens all of it
 unfoldable pub codes : Unit {0}
-unfolding rangeType rowOf rangeRefusal digitOf digitRefusal allDigits serviceOf serviceRefusal kindRefusal resultRefusal definedPart
+unfolding rangeType rowOf rangeRefusal digitOf digitRefusal allDigits serviceOf serviceRefusal pduType definedPart
 codes = tt

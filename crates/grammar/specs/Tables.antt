@@ -11,13 +11,16 @@ use Rattle.codec.specs.Codec.{Outcome, ok, no}
 use Rattle.codec.specs.Parts.{only}
 use Rattle.codec.specs.Whole.{wholeParse}
 use Rattle.grammar.specs.SiteSheet.{ssType, rangeType, rowOf, rangeRefusal, digitOf, digitRefusal, allDigits, serviceOf, serviceRefusal, codes}
-use Rattle.grammar.specs.SiteSheet.{kindRefusal, resultRefusal, askedRefusal, acknowledgementRefusal, definitionRefusal, definedPart, countRefusal}
-use Rattle.grammar.specs.SiteSheet.{lengthRefusal}
+use Rattle.grammar.specs.SiteSheet.{pduType, kindRefusal, resultRefusal, askedRefusal, acknowledgementRefusal, definitionRefusal, definedPart}
+use Rattle.grammar.specs.SiteSheet.{definedRefusal, distributedRefusal, causeRefusal, countRefusal, lengthRefusal}
 use Rattle.grammar.specs.Grammar.{endsRefusal, networkOf, pdu, grammar}
+use Rattle.grammar.specs.Figures.{ofInterrogation, ofDefinition}
 use Rattle.grammar.specs.Zero.{zeroIdentities, zeroNumbers, zeroServices, zeroLists}
 use Rattle.grammar.specs.ProfileRecords.{asking}
 use Rattle.grammar.specs.declared.site.RangeType.the-variants.{Empty, Single, FirstAndLast, NoRangeType}
 use Rattle.grammar.specs.declared.site.ListKind.the-variants as of
+use Rattle.grammar.specs.declared.site.PduType.the-variants.{Define, DefineAck, DefineExternal, DefineUser, DefineUserAck, DefineExternalUser}
+use Rattle.grammar.specs.declared.site.PduType.the-variants.{Interrogate, InterrogateAck, CallBarred, NoPduType}
 use Rattle.grammar.specs.declared.site.Row.{Row}
 use Rattle.grammar.specs.declared.site.Digit.the-variants.{Decimal, Star, Hash, Plus, NoDigit}
 use Rattle.grammar.specs.declared.site.Service.the-variants.{All, Speech, CircuitData, ShortData, NoService}
@@ -51,14 +54,9 @@ abbrev pduOf : ℕ → Identities → ℕ → ℕ → ℕ → Services → Lists
 pduOf kind users asked result status services lists = record {
   kind = kind;
   affected = users;
-  asked = asked;
-  result = result;
-  status = status;
+  figures = ofInterrogation asked result status;
   services = services;
   lists = lists;
-  delivery = 0;
-  acknowledgement = 0;
-  definition = 0;
 }
 
 -- an INTERROGATE ACK with a result and lists
@@ -104,17 +102,25 @@ ss-types = (refl, refl)
 
 abbrev kinds : List ℕ
 kinds =
-    10 ∷ 10 ∷ 10 ∷ 10 ∷ 10  -- 0 to 4: refer to EN 300 392-9
-    ∷ 0 ∷ 10 ∷ 10  -- 5 DEFINE, 6 DEFINE ACK, 7 DEFINE EXTERNAL
-    ∷ 10 ∷ 10 ∷ 10  -- 8 DEFINE USER, 9 DEFINE USER ACK, 10 DEFINE USER EXTERNAL
+    3 ∷ 3 ∷ 3 ∷ 3 ∷ 3  -- 0 to 4: refer to EN 300 392-9, no PDU here
+    ∷ 0 ∷ 0 ∷ 0  -- 5 DEFINE, 6 DEFINE ACK, 7 DEFINE EXTERNAL
+    ∷ 0 ∷ 0 ∷ 0  -- 8 DEFINE USER, 9 DEFINE USER ACK, 10 DEFINE USER EXTERNAL
     ∷ 0 ∷ 0  -- 11 INTERROGATE, 12 INTERROGATE ACK
-    ∷ 10  -- 13 CALL BARRED
+    ∷ 0  -- 13 CALL BARRED
     ∷ 3 ∷ 3  -- 14 and 15: reserved
     ∷ 3 ∷ 3 ∷ 3 ∷ 3 ∷ 3 ∷ 3 ∷ 3 ∷ 3 ∷ 3 ∷ 3 ∷ 3 ∷ 3 ∷ 3 ∷ 3 ∷ 3 ∷ 3 ∷ []  -- 16 to 31: beyond the four bits that table 23 has
 
 pdu-types : (values kindRefusal 0 32 ≡ kinds) × (among 32 (λ v. pduOf v (identities 1) 1 0 0 oneService zeroLists) ≡ kinds)
 unfolding grammar
 pdu-types = (refl, refl)
+
+-- which PDU each is
+types-mean : values pduType 0 15 ≡
+    NoPduType ∷ NoPduType ∷ NoPduType ∷ NoPduType ∷ NoPduType
+    ∷ Define ∷ DefineAck ∷ DefineExternal ∷ DefineUser ∷ DefineUserAck ∷ DefineExternalUser ∷ Interrogate ∷ InterrogateAck ∷ CallBarred
+    ∷ NoPduType ∷ []
+unfolding codes
+types-mean = refl
 
 -- ---- delivery to affected users and acknowledgement from them, 1 bit each, tables 30 and 19: not requested; requested
 
@@ -123,14 +129,9 @@ abbrev defineOf : ℕ → ℕ → ℕ → Lists → Record
 defineOf delivery acknowledgement definition lists = record {
   kind = 5;
   affected = identities 1;
-  asked = 0;
-  result = 0;
-  status = 0;
+  figures = ofDefinition delivery acknowledgement definition;
   services = oneService;
   lists = lists;
-  delivery = delivery;
-  acknowledgement = acknowledgement;
-  definition = definition;
 }
 
 -- an acknowledgement only where delivery is requested too

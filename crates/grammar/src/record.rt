@@ -40,17 +40,25 @@ pub struct Lists {
     pub excepted: Numbers,
 }
 
-// PDU type, affected users; interrogation type, interrogation result, delivery status; services, lists;
-// delivery to affected users, acknowledgement from them, definition type.
-pub struct Record {
-    pub kind: u32,
-    pub affected: Identities,
+// The figures of a PDU, of which each type carries at most three: interrogation type, interrogation result, delivery status;
+// delivery to affected users, acknowledgement from them, definition type; definition result, distribution result, rejection cause.
+pub struct Figures {
     pub asked: u32,
     pub result: u32,
     pub status: u32,
-    pub services: Services,
-    pub lists: Lists,
     pub delivery: u32,
     pub acknowledgement: u32,
     pub definition: u32,
+    pub defined: u32,
+    pub distributed: u32,
+    pub cause: u32,
+}
+
+// PDU type, affected users, figures, services, lists.
+pub struct Record {
+    pub kind: u32,
+    pub affected: Identities,
+    pub figures: Figures,
+    pub services: Services,
+    pub lists: Lists,
 }

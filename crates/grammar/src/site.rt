@@ -2,7 +2,7 @@
 ghost use mathlib.Core.Path.{_≡_};
 ghost use Rattle.codec.specs.Parts.{only};
 ghost use Rattle.grammar.specs.SiteSheet.{rangeType, rowOf, rangeRefusal, ssType, digitOf, digitRefusal, allDigits, serviceOf};
-ghost use Rattle.grammar.specs.SiteSheet.{serviceRefusal, kindRefusal, resultRefusal, definedPart, between};
+ghost use Rattle.grammar.specs.SiteSheet.{serviceRefusal, pduType, kindRefusal, reserved, definedPart, between};
 ghost use Rattle.grammar.specs.Grammar.{endsRefusal, networkOf};
 use crate::record::Identity;
 
@@ -222,26 +222,54 @@ pub fn service_refusal(code: u32) -> u32
     }
 }
 
-// The refusal number of a PDU type (table 23): 10 for one that is named there and not read.
-pub fn kind_refusal(code: u32) -> u32
-    ensures { λ r. ⌜ r ≡ kindRefusal code ⌝ }
+// A BOC PDU type (table 23) that has a PDU.
+pub enum PduType {
+    Define,
+    DefineAck,
+    DefineExternal,
+    DefineUser,
+    DefineUserAck,
+    DefineExternalUser,
+    Interrogate,
+    InterrogateAck,
+    CallBarred,
+    NoPduType,
+}
+
+pub fn pdu_type(code: u32) -> PduType
+    ensures { λ r. ⌜ r ≡ pduType code ⌝ }
 {
     match code {
-        5 => 0,
-        11..=12 => 0,
-        0..=4 | 6..=10 | 13 => 10,
-        _ => 3,
+        5 => PduType::Define,
+        6 => PduType::DefineAck,
+        7 => PduType::DefineExternal,
+        8 => PduType::DefineUser,
+        9 => PduType::DefineUserAck,
+        10 => PduType::DefineExternalUser,
+        11 => PduType::Interrogate,
+        12 => PduType::InterrogateAck,
+        13 => PduType::CallBarred,
+        _ => PduType::NoPduType,
     }
 }
 
-// The refusal number of an interrogation result (table 35): 5 is reserved.
-pub fn result_refusal(code: u32) -> u32
-    ensures { λ r. ⌜ r ≡ resultRefusal code ⌝ }
+pub fn kind_refusal(code: u32) -> u32
+    ensures { λ r. ⌜ r ≡ kindRefusal code ⌝ }
 {
-    match code {
-        5 => 3,
-        _ => 0,
+    between_refusal(5, 13, code)
+}
+
+// The refusal number of a value of which those from low to high are reserved.
+pub fn reserved_refusal(low: u32, high: u32, v: u32) -> u32
+    ensures { λ r. ⌜ r ≡ reserved low high v ⌝ }
+{
+    if v < low {
+        return 0;
     }
+    if high < v {
+        return 0;
+    }
+    3
 }
 
 // The part whose lists a definition of it carries: its own for addition and replacement, none for any other.

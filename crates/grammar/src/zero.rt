@@ -1,4 +1,5 @@
 // The record in which everything is zero, and its parts: what a PDU does not carry.
+use crate::record::Figures;
 use crate::record::Identities;
 use crate::record::Identity;
 use crate::record::Lists;
@@ -8,7 +9,7 @@ use crate::record::Record;
 use crate::record::Services;
 use bits::DigitCount;
 ghost use mathlib.Core.Path.{_≡_};
-ghost use Rattle.grammar.specs.Zero.{zeroIdentities, zeroNumbers, zeroServices, zeroLists, zeroRecord};
+ghost use Rattle.grammar.specs.Zero.{zeroIdentities, zeroNumbers, zeroFigures, zeroServices, zeroLists, zeroRecord};
 
 pub fn zero_identities() -> Identities
     ensures { λ r. ⌜ r ≡ zeroIdentities ⌝ }
@@ -34,6 +35,22 @@ pub fn zero_numbers() -> Numbers
     Numbers {
         code: 0,
         entries: [none; 8],
+    }
+}
+
+pub fn zero_figures() -> Figures
+    ensures { λ r. ⌜ r ≡ zeroFigures ⌝ }
+{
+    Figures {
+        asked: 0,
+        result: 0,
+        status: 0,
+        delivery: 0,
+        acknowledgement: 0,
+        definition: 0,
+        defined: 0,
+        distributed: 0,
+        cause: 0,
     }
 }
 
@@ -64,18 +81,14 @@ pub fn zero_record() -> Record
     ensures { λ r. ⌜ r ≡ zeroRecord ⌝ }
 {
     let affected = zero_identities();
+    let figures = zero_figures();
     let services = zero_services();
     let lists = zero_lists();
     Record {
         kind: 0,
         affected,
-        asked: 0,
-        result: 0,
-        status: 0,
+        figures,
         services,
         lists,
-        delivery: 0,
-        acknowledgement: 0,
-        definition: 0,
     }
 }

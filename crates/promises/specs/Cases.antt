@@ -54,14 +54,9 @@ abbrev partOf : Identity → ℕ → List ℕ → Lists → Record
 partOf affected result services lists = record {
   kind = 12;
   affected = identities (affected ∷ []);
-  asked = 0;
-  result = result;
-  status = 0;
+  figures = ofInterrogation 0 result 0;
   services = record { count = length services; list = services ++ replicate (7 - length services) 0 };
   lists = lists;
-  delivery = 0;
-  acknowledgement = 0;
-  definition = 0;
 }
 
 -- an identity part with groups, restricted identities and exceptions

@@ -16,14 +16,9 @@ unfoldable pub defineOf : Definition → Record → Record
 defineOf d part = record {
   kind = 5;
   affected = part .affected;
-  asked = 0;
-  result = 0;
-  status = 0;
+  figures = ofDefinition (d .delivery) (d .acknowledgement) (d .definition);
   services = part .services;
   lists = part .lists;
-  delivery = d .delivery;
-  acknowledgement = d .acknowledgement;
-  definition = d .definition;
 }
 
 -- lists are empty: those of numbers; groups and those of identities

@@ -125,9 +125,7 @@ module _ (word byte : ℕ → ℕ) where
   placed = record {
     kind = word 0;
     affected = identities 1;
-    asked = word 26;
-    result = word 27;
-    status = word 28;
+    figures = toFigures (((word 26), ((word 27), (word 28))), (((word 514), ((word 515), (word 516))), (0, (0, 0))));
     services = record { count = word 29; list = map word (30 ∷ 31 ∷ 32 ∷ 33 ∷ 34 ∷ 35 ∷ 36 ∷ []) };
     lists = record {
       groups = identities 37;
@@ -136,9 +134,6 @@ module _ (word byte : ℕ → ℕ) where
       numbers = numbers 112;
       excepted = numbers 313;
     };
-    delivery = word 514;
-    acknowledgement = word 515;
-    definition = word 516;
   }
 
 -- its words are the values in their places, 517 of them

@@ -44,14 +44,9 @@ abbrev reversed : Numbers → Record
 reversed excepted = record {
   kind = 12;
   affected = record { code = 9; entries = user 200 ∷ user 199 ∷ replicate 6 zeroIdentity };
-  asked = 0;
-  result = 1;
-  status = 0;
+  figures = ofInterrogation 0 1 0;
   services = record { count = 1; list = 1 ∷ replicate 6 0 };
   lists = record { groups = zeroIdentities; restricted = zeroIdentities; exceptions = zeroIdentities; numbers = zeroNumbers; excepted = excepted };
-  delivery = 0;
-  acknowledgement = 0;
-  definition = 0;
 }
 
 -- 4, before 8
@@ -74,14 +69,9 @@ abbrev typed : ℕ → Record
 typed kind = record {
   kind = kind;
   affected = record { code = 1; entries = user 5 ∷ replicate 7 zeroIdentity };
-  asked = 1;
-  result = 0;
-  status = 0;
+  figures = ofInterrogation 1 0 0;
   services = zeroServices;
   lists = zeroLists;
-  delivery = 0;
-  acknowledgement = 0;
-  definition = 0;
 }
 
 types : (answer (typed 11) ≡ Bits (record { 0 = 42 }))
@@ -98,14 +88,9 @@ abbrev told : Identities → ℕ → ℕ → ℕ → Record
 told affected result status service = record {
   kind = 12;
   affected = affected;
-  asked = 0;
-  result = result;
-  status = status;
+  figures = ofInterrogation 0 result status;
   services = record { count = 1; list = service ∷ replicate 6 0 };
   lists = zeroLists;
-  delivery = 0;
-  acknowledgement = 0;
-  definition = 0;
 }
 
 abbrev pair : ℕ → ℕ → ℕ → Identities
@@ -132,14 +117,9 @@ abbrev defining : Identities → ℕ → ℕ → ℕ → Identities → Record
 defining affected delivery acknowledgement definition groups = record {
   kind = 5;
   affected = affected;
-  asked = 0;
-  result = 0;
-  status = 0;
+  figures = ofDefinition delivery acknowledgement definition;
   services = record { count = 1; list = 1 ∷ replicate 6 0 };
   lists = record { groups = groups; restricted = zeroIdentities; exceptions = zeroIdentities; numbers = zeroNumbers; excepted = zeroNumbers };
-  delivery = delivery;
-  acknowledgement = acknowledgement;
-  definition = definition;
 }
 
 -- an addition has its range types though all lists are empty, a removal has none

@@ -37,14 +37,9 @@ abbrev reversed : Record
 reversed = record {
   kind = 11;
   affected = record { code = 9; entries = user 200 ∷ user 199 ∷ replicate 6 zeroIdentity };
-  asked = 1;
-  result = 0;
-  status = 0;
+  figures = ofInterrogation 1 0 0;
   services = zeroServices;
   lists = zeroLists;
-  delivery = 0;
-  acknowledgement = 0;
-  definition = 0;
 }
 
 -- each number is met
