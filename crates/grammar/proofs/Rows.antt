@@ -46,6 +46,19 @@ in-rows NoPduType = refl
 
 -- ---- in the window at their place
 
+pub narrow : (t : PduType) → widthOf t ≤ 5
+unfolding formOf
+narrow Define = omega arith
+narrow DefineAck = omega arith
+narrow DefineExternal = omega arith
+narrow DefineUser = omega arith
+narrow DefineUserAck = omega arith
+narrow DefineExternalUser = omega arith
+narrow Interrogate = omega arith
+narrow InterrogateAck = omega arith
+narrow CallBarred = omega arith
+narrow NoPduType = omega arith
+
 seen-none : (l : List Bool) (at : ℕ) → Seen none l at (0, (0, 0)) at
 unfolding none
 seen-none l at = seen-seq _ (seen-absent l at) (seen-seq _ (seen-absent l at) (seen-absent l at))

@@ -53,15 +53,15 @@ module _ (s : List ℕ) (n : ℕ) (f : framed s n ≡ true) where
   unfolding endedIs resultIn
   ending q result e = whole ∙ go (readAt pdu (bitsIn n s) 0) refl q e
     where
-      left : (b : Bool) (r : Record) (at : ℕ) → headOf r ≡ headIn s (r .result)
-          → as-walked (pick b (refused 5 at) (got r at)) ≡ pick b (refusing 5 (place.At at)) (Accepted (headIn s (r .result)))
+      left : (b : Bool) (r : Record) (at : ℕ) → headOf r ≡ headIn s (r .figures .result)
+          → as-walked (pick b (refused 5 at) (got r at)) ≡ pick b (refusing 5 (place.At at)) (Accepted (headIn s (r .figures .result)))
       left true r at h = refl
       left false r at h = ap Accepted h
 
-      go : (o : Found Record) → readAt pdu (bitsIn n s) 0 ≡ o → (q : Reached) → andNext o (λ r p. got (r .result) p) ≡ placed q result
+      go : (o : Found Record) → readAt pdu (bitsIn n s) 0 ≡ o → (q : Reached) → andNext o (λ r p. got (r .figures .result) p) ≡ placed q result
           → as-walked (andNext o (λ r at. pick (ltb at n) (refused 5 at) (got r at))) ≡ endedIs s n q result
       go (got r at) h (At c) e =
-          let x : r .result ≡ result = cc in
+          let x : r .figures .result ≡ result = cc in
           let y : at ≡ c .at = cc in
           rw (← x, ← y) (left (ltb at n) r at (head-is s n h))
       go (got r at) h (Refused k p) e = never cc

@@ -1,31 +1,37 @@
 -- Where what follows the affected users ends, as the window at its place says, and where the whole PDU does. Assumes nothing.
 use mathlib.Core.Path.{_≡_, refl, sym, ap, _∙_, subst}
-use mathlib.Core.Bool.{Bool, true, _&&_}
+use mathlib.Core.Bool.{Bool, true, false, _&&_}
 use mathlib.Core.List.{List}
 use Prim.Native.Nat.{ℕ, _+_, _-_, _*_, _/_, _%_, _^_, _≤_, _<_}
 use native.Mathlib.Omega.{arith}
 use borrow.Author.Tests.{eqb-true}
+use lib.ListN.{length}
 use lib.Dec.{eqb}
 use lib.Pow.{field, shr-shr, mod-mod-pow}
 use Rattle.bits.specs.Frame.{bitsIn}
 use Rattle.bits.specs.Element.{windowAt}
-use Rattle.bits.proofs.Tests.{both, picked}
+use Rattle.bits.proofs.Tests.{differ, both, picked}
 use Rattle.codec.specs.Parts.{absent, element, only}
 use Rattle.codec.specs.Places.{places}
-use Rattle.codec.specs.Reading.{resume}
+use Rattle.codec.specs.Reading.{got, readAt, resume}
 use Rattle.codec.specs.declared.Reached.the-variants.{At}
 use Rattle.codec.proofs.Reading.{readAt-absent}
 use Rattle.codec.proofs.Onward.{element-got}
-use Rattle.grammar.specs.SiteSheet.{ssType, rangeRefusal, serviceRefusal, kindRefusal, resultRefusal, askedRefusal, countRefusal}
-use Rattle.grammar.specs.SiteSheet.{acknowledgementRefusal, definitionRefusal, definedPart}
-use Rattle.grammar.specs.Grammar.{identities, services, partOf, define, interrogate, interrogateAck, restOf}
-use Rattle.grammar.specs.declared.site.ListKind.the-variants as of
-use Rattle.grammar.proofs.Steps.{services-at}
-use Rattle.walk.specs.Inner.{pass, coded, passing, servicesIn, resultFrom, resultIn, Ends, Finds}
+use Rattle.codec.proofs.Seen.{seen-legal}
+use Rattle.grammar.specs.SiteSheet.{ssType, pduType, kindRefusal, serviceRefusal, countRefusal}
+use Rattle.grammar.specs.Grammar.{services, partOf}
+use Rattle.grammar.specs.Rows.{formOf, partIn, figuresOf, usersOf, widthOf, figuresIn}
+use Rattle.grammar.specs.declared.site.PduType.{PduType}
+use Rattle.grammar.specs.declared.site.PduType.the-variants.{Define, DefineAck, DefineExternal, DefineUser, DefineUserAck, DefineExternalUser}
+use Rattle.grammar.specs.declared.site.PduType.the-variants.{Interrogate, InterrogateAck, CallBarred, NoPduType}
+use Rattle.grammar.specs.declared.record.Figures.{Figures}
+use Rattle.grammar.proofs.Rows.{narrow, figures-seen}
+use Rattle.grammar.proofs.Steps.{services-at, noServices-at, noPart-at}
+use Rattle.walk.specs.Inner.{pass, passing, servicesIn, resultFrom, resultIn, Ends, Finds}
 use Rattle.walk.proofs.Passes.{past, pass-places}
-use Rattle.walk.proofs.Results.{define-result, interrogate-result, ack-result, pdu-result}
+use Rattle.walk.proofs.Results.{pdu-result}
 use Rattle.walk.proofs.Aheads.{ends-as, Holds, in-window, in-front, coded-ends, row-ends}
-use Rattle.walk.proofs.Sights.{within, list-ends}
+use Rattle.walk.proofs.Sights.{within}
 
 -- ---- services
 
@@ -64,78 +70,67 @@ services-found {s} {p} {width} at k here few is some =
     (ends-as (λ l r. refl) (omega arith) (services-end (in-window s at k 3 p here (omega arith) (omega arith) counted) legal
     (in-window s at (k + 3) (3 * count) (p + 3) (omega arith) (omega arith) (omega arith) listed) (test .1)))
 
--- result, delivery status, number of services and services stand in one window
-pub ack-finds : {s : List ℕ} {at result width m end : ℕ} → result ≡ windowAt s at / 2 ^ 54 → resultRefusal result ≡ 0
-    → width ≡ servicesIn (windowAt s at / 2 ^ 28 % 2 ^ 24) → (width ≡ 0 → ⊥) → Ends (pass (partOf result)) s (at + 5 + width) m end
-    → Finds (λ l. resultFrom interrogateAck l (At (record { at = at }))) s at result end
-unfolding resultFrom resume
-ack-finds {s} {at} {result} {width} {end = end} is legal wide some r =
-    let listed = services-found at 5 refl (omega arith) wide some in
-    let after = r .after in
-    record {
-      after = omega arith;
-      there = λ n few i.
-          let l : List Bool = bitsIn n s in
-          let a = element-got 3 resultRefusal l at result (at + 3) (in-front s at 3 54 refl (omega arith) is n (omega arith)) legal in
-          let b = in-window s at 3 2 (at + 3) refl (omega arith) (omega arith) refl n (omega arith) in
-          let two : at + 3 + 2 ≡ at + 5 = omega arith in
-          ack-result l at ∙ rw (a, b, two)
-          (past services l (At (record { at = at + 5 })) (At (record { at = at + 5 + width })) _ (sym (listed .there n few (omega arith)))
-          ∙ past (partOf result) l (At (record { at = at + 5 + width })) (At (record { at = end })) _ (sym (r .there n few i)));
-    }
+-- ---- what follows the affected users
 
--- and so do delivery, acknowledgement, definition type, number of services and services
-pub define-finds : {s : List ℕ} {at delivery asked d width part m end : ℕ} → delivery ≡ windowAt s at / 2 ^ 56 → asked ≡ windowAt s at / 2 ^ 55 % 2 ^ 1
-    → acknowledgementRefusal delivery asked ≡ 0 → d ≡ windowAt s at / 2 ^ 53 % 2 ^ 2 → definitionRefusal d ≡ 0
-    → width ≡ servicesIn (windowAt s at / 2 ^ 29 % 2 ^ 24) → (width ≡ 0 → ⊥) → part ≡ definedPart 1 d → Ends (pass (partOf part)) s (at + 4 + width) m end
-    → Finds (λ l. resultFrom define l (At (record { at = at }))) s at 0 end
-unfolding resultFrom resume
-define-finds {s} {at} {delivery} {asked} {d} {width} {part} {end = end} delivered is allowed kind legal wide some lists r =
-    let listed = services-found at 4 refl (omega arith) wide some in
-    let after = r .after in
-    record {
-      after = omega arith;
-      there = λ n few i.
-          let l : List Bool = bitsIn n s in
-          let a = in-front s at 1 56 refl (omega arith) delivered n (omega arith) in
-          let b = element-got 1 (acknowledgementRefusal delivery) l (at + 1) asked (at + 1 + 1)
-          (in-window s at 1 1 (at + 1) refl (omega arith) (omega arith) is n (omega arith)) allowed in
-          let e = element-got 2 definitionRefusal l (at + 1 + 1) d (at + 1 + 1 + 2)
-          (in-window s at 2 2 (at + 1 + 1) (omega arith) (omega arith) (omega arith) kind n (omega arith)) legal in
-          let four : at + 1 + 1 + 2 ≡ at + 4 = omega arith in
-          define-result l at ∙ rw (a, b, e, four, ← lists)
-          (past services l (At (record { at = at + 4 })) (At (record { at = at + 4 + width })) _ (sym (listed .there n few (omega arith)))
-          ∙ past (partOf part) l (At (record { at = at + 4 + width })) (At (record { at = end })) _ (sym (r .there n few i)));
-    }
+-- without services there are no lists
+no-lists : (t : PduType) (f : Figures) → formOf t .services ≡ false → partIn t f ≡ 0
+unfolding formOf partIn
+no-lists Define f e = differ e
+no-lists DefineAck f e = refl
+no-lists DefineExternal f e = differ e
+no-lists DefineUser f e = differ e
+no-lists DefineUserAck f e = refl
+no-lists DefineExternalUser f e = differ e
+no-lists Interrogate f e = refl
+no-lists InterrogateAck f e = differ e
+no-lists CallBarred f e = refl
+no-lists NoPduType f e = refl
 
-pub asked-finds : {s : List ℕ} {at asked : ℕ} → asked ≡ windowAt s at / 2 ^ 55 → askedRefusal asked ≡ 0
-    → Finds (λ l. resultFrom interrogate l (At (record { at = at }))) s at 0 (at + 2)
-unfolding resultFrom resume
-asked-finds {s} {at} {asked} is legal = record {
-  after = omega arith;
-  there = λ n few i.
-      let a = element-got 2 askedRefusal (bitsIn n s) at asked (at + 2) (in-front s at 2 55 refl (omega arith) is n i) legal in
-      interrogate-result (bitsIn n s) at ∙ rw a;
-}
+module _ (t : PduType) (s : List ℕ) (at : ℕ) {f : Figures} (is : f ≡ figuresIn t (windowAt s at)) (legal : figuresOf t .fault f ≡ 0) where
+  -- figures stand in the window at their place
+  figures-there : (n : ℕ) → at + widthOf t ≤ length (bitsIn n s) → readAt (figuresOf t) (bitsIn n s) at ≡ got f (at + widthOf t)
+  figures-there n i = rw is (seen-legal (figures-seen s n at t i) (rw is at legal))
 
--- SS type, PDU type and range type stand in the first window
-pub pdu-finds : (kind : ℕ) {s : List ℕ} {code m p result end : ℕ} → windowAt s 0 / 2 ^ 46 ≡ 576 + kind → kind < 32 → kindRefusal kind ≡ 0
-    → code ≡ windowAt s 0 / 2 ^ 42 % 2 ^ 4 → rangeRefusal of.Users code ≡ 0 → Ends (pass (coded code)) s 15 m p
-    → Finds (λ l. resultFrom (restOf kind) l (At (record { at = p }))) s p result end → Finds resultIn s 0 result end
-unfolding resultFrom resume
-pdu-finds kind {s} {p = p} is small legal coded single r f =
-    let listed = list-ends of.Users (in-window s 0 11 4 11 refl (omega arith) (omega arith) coded) single r in
+  pub figures-find : formOf t .services ≡ false → Finds (λ l. resultFrom t l (At (record { at = at }))) s at (f .result) (at + widthOf t)
+  unfolding resultFrom resume
+  figures-find e = record {
+    after = omega arith;
+    there = λ n few i. rw (figures-there n i, e, noServices-at, no-lists t f e, noPart-at);
+  }
+
+  -- services follow them in the same window, and then lists
+  pub listed-find : {width part m end : ℕ} → formOf t .services ≡ true → width ≡ servicesIn (windowAt s at / 2 ^ (33 - widthOf t) % 2 ^ 24)
+      → (width ≡ 0 → ⊥) → part ≡ partIn t f → Ends (pass (partOf part)) s (at + widthOf t + width) m end
+      → Finds (λ l. resultFrom t l (At (record { at = at }))) s at (f .result) end
+  unfolding resultFrom resume
+  listed-find {width} {part} {m} {end} e wide some lists r =
+      let listed = services-found at (widthOf t) refl (omega (arith, narrow t)) wide some in
+      let after = r .after in
+      record {
+        after = omega arith;
+        there = λ n few i.
+            let l : List Bool = bitsIn n s in
+            let here : ℕ = at + widthOf t in
+            rw (figures-there n (omega arith), e, ← lists)
+            (past services l (At (record { at = here })) (At (record { at = here + width })) _ (sym (listed .there n few (omega arith)))
+            ∙ past (partOf part) l (At (record { at = here + width })) (At (record { at = end })) _ (sym (r .there n few i)));
+      }
+
+-- SS type, PDU type and affected users before it
+pub pdu-finds : {s : List ℕ} {code m p result end : ℕ} → windowAt s 0 / 2 ^ 51 ≡ ssType → code ≡ windowAt s 0 / 2 ^ 46 % 2 ^ 5 → kindRefusal code ≡ 0
+    → Ends (pass (usersOf (pduType code))) s 11 m p
+    → Finds (λ l. resultFrom (pduType code) l (At (record { at = p }))) s p result end → Finds resultIn s 0 result end
+unfolding resume
+pdu-finds {s} {code} {p = p} marked is legal r f =
     let after = r .after in
     let later = f .after in
-    let ss : ssType ≡ windowAt s 0 / 2 ^ (57 - 0 - 6) % 2 ^ 6 = omega arith in
-    let is : kind ≡ windowAt s 0 / 2 ^ (57 - 6 - 5) % 2 ^ 5 = omega arith in
     record {
       after = omega arith;
       there = λ n few i.
           let l : List Bool = bitsIn n s in
-          let a = element-got 6 (only ssType) l 0 ssType 6 (in-window s 0 0 6 0 refl (omega arith) (omega arith) ss n (omega arith)) refl in
-          let b = element-got 5 kindRefusal l 6 kind 11 (in-window s 0 6 5 6 refl (omega arith) (omega arith) is n (omega arith)) legal in
+          let a = element-got 6 (only ssType) l 0 ssType 6 (in-front s 0 6 51 refl (omega arith) (sym marked) n (omega arith)) refl in
+          let b = element-got 5 kindRefusal l 6 code 11 (in-window s 0 6 5 6 refl (omega arith) (omega arith) is n (omega arith)) legal in
           pdu-result l ∙ rw (a, b)
-          (past (identities of.Users) l (At (record { at = 11 })) (At (record { at = p })) _ (sym (listed .there n few (omega arith)))
+          (past (usersOf (pduType code)) l (At (record { at = 11 })) (At (record { at = p })) _ (sym (r .there n few (omega arith)))
           ∙ f .there n few i);
     }

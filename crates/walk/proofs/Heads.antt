@@ -16,22 +16,25 @@ use Rattle.bits.proofs.Windows.{window-lt}
 use Rattle.codec.specs.Codec.{Codec}
 use Rattle.codec.specs.Parts.{number, absent, tested, element, only}
 use Rattle.codec.specs.Places.{places}
-use Rattle.codec.specs.Reading.{got, unlessAt, readAt}
+use Rattle.codec.specs.Reading.{got, andNext, unlessAt, readAt}
 use Rattle.codec.proofs.Reading.{readAt-absent, readAt-tested}
-use Rattle.grammar.specs.SiteSheet.{ssType, rangeType, rowOfType, rowOf, entriesOf, refusalIn, rangeRefusal, kindRefusal}
-use Rattle.grammar.specs.Grammar.{extension, identity, noIdentity, zeroIdentity, rangeEnds, secondEnd, identities, restOf, toRecord, pdu}
+use Rattle.grammar.specs.SiteSheet.{ssType, rangeType, rowOfType, rowOf, entriesOf, refusalIn, rangeRefusal, pduType, kindRefusal}
+use Rattle.grammar.specs.Grammar.{extension, identity, noIdentity, zeroIdentity, rangeEnds, secondEnd, identities, noIdentities, partOf, Rest, restOf, toRecord, pdu}
+use Rattle.grammar.specs.Rows.{formOf, partIn, figuresOf, usersOf, servicesOf}
+use Rattle.grammar.specs.Zero.{zeroIdentities}
+use Rattle.grammar.specs.declared.site.PduType.{PduType}
 use Rattle.grammar.specs.declared.record.Identity.{Identity}
 use Rattle.grammar.specs.declared.record.Identities.{Identities}
 use Rattle.grammar.specs.declared.record.Record.{Record}
 use Rattle.grammar.specs.declared.site.ListKind.the-variants as of
 use Rattle.grammar.specs.declared.site.RangeType.the-variants.{Empty, Single, FirstAndLast, NoRangeType}
-use Rattle.grammar.proofs.Steps.{identity-at, identities-at}
+use Rattle.grammar.proofs.Steps.{identity-at, identities-at, noIdentities-at}
 use Rattle.walk.specs.Walk.{headOf}
 use Rattle.walk.specs.Inner.{identityIn, headIn}
 use Rattle.walk.specs.declared.Head.{Head}
 use Rattle.walk.proofs.Numbers.{both-found, number-is, element-says}
 use Rattle.walk.proofs.Ranges.{places-first}
-use Rattle.walk.proofs.Results.{pdu-at}
+use Rattle.walk.proofs.Results.{rest-at, pdu-at}
 
 -- affected users are at least one
 some-user : (code : ℕ) → rangeRefusal of.Users code ≡ 0 → 1 ≤ entriesOf code
@@ -107,23 +110,49 @@ module _ (s : List ℕ) (n : ℕ) where
       untested zero p t u x y e = cc
       untested (suc k) p t u x y e = never cc
 
-  pub head-is : {r : Record} {q : ℕ} → readAt pdu (bitsIn n s) 0 ≡ got r q → headOf r ≡ headIn s (r .result)
+  -- where there are none
+  heads-none : {a : Identities} {q : ℕ} → readAt noIdentities (bitsIn n s) 11 ≡ got a q → a ≡ zeroIdentities
+  heads-none e = let f = noIdentities-at (bitsIn n s) 11 in cc
+
+  -- code and first user of a PDU of a type
+  users-of : (users : Bool) {a : Identities} {q : ℕ} → readAt (pick users (identities of.Users) noIdentities) (bitsIn n s) 11 ≡ got a q
+      → (a .code ≡ pick users (windowAt s 0 / 2 ^ 42 % 2 ^ 4) 0)
+      × (getD (a .entries) 0 zeroIdentity ≡ pick users (identityIn (windowAt s 15)) zeroIdentity)
+  users-of true e = users-are e
+  users-of false e =
+      let is = heads-none e in
+      (ap (λ (a : Identities). a .code) is, ap (λ (a : Identities). getD (a .entries) 0 zeroIdentity) is)
+
+  pub head-is : {r : Record} {q : ℕ} → readAt pdu (bitsIn n s) 0 ≡ got r q → headOf r ≡ headIn s (r .figures .result)
   unfolding headIn
   head-is {r} e =
       both-found (readAt (element 6 (only ssType)) l 0) _ (sym (pdu-at l 0) ∙ e) (λ ss p f g.
       let x = number-is s n 0 0 6 (element-says 6 (only ssType) l 0 f .0) refl (omega arith) (omega arith) in
       both-found (readAt (element 5 kindRefusal) l p) _ g (λ kind p′ f′ g′.
       let y = number-is s n 0 6 5 (element-says 5 kindRefusal l p f′ .0) (x .1) (omega arith) (omega arith) in
-      both-found (readAt (identities of.Users) l p′) _ g′ (λ affected p″ f″ g″.
+      let t : PduType = pduType kind in
+      both-found (readAt (restOf t) l p′) _ g′ (λ rest p″ f″ g″.
+      both-found (readAt (usersOf t) l p′) _ (sym (rest-at l p′ t) ∙ f″) (λ affected q f‴ g‴.
       let there : p′ ≡ 11 = omega (arith, x .1, y .1) in
-      let z = users-are (ap (readAt (identities of.Users) l) (sym there) ∙ f″) in
-      both-found (readAt (restOf kind) l p″) _ g″ (λ rest p‴ f‴ g‴.
-      let is : r ≡ toRecord (kind, (affected, rest)) = cc in
-      rw is (heads (y .0) (z .0) (z .1))))))
+      let users : Bool = formOf t .users in
+      let z = users-of users (ap (readAt (usersOf t) l) (sym there) ∙ f‴) in
+      let first : rest .0 ≡ affected = first-is t affected q rest p″ g‴ in
+      let is : r ≡ toRecord (kind, rest) = cc in
+      rw (is, first) (heads _ _ _ _ (y .0) (ap (λ (k : ℕ). formOf (pduType k) .users) (y .0)) (z .0) (z .1))))))
     where
       l : List Bool
       l = bitsIn n s
 
-      heads : {a b c d k : ℕ} {u v : Identity} → a ≡ c → b ≡ d → u ≡ v
-          → _≡_ {A = Head} (record { kind = a; code = b; user = u; result = k }) (record { kind = c; code = d; user = v; result = k })
-      heads f g h = rw (f, g, h)
+      -- the users are the first of what follows the PDU type
+      first-is : (t : PduType) (a : Identities) (q : ℕ) (rest : Rest) (end : ℕ)
+          → andNext (readAt (figuresOf t) l q) (λ f at. andNext (readAt (servicesOf t) l at) (λ v at′. andNext (readAt (partOf (partIn t f)) l at′)
+          (λ i at″. got (a, (f, (v, i))) at″))) ≡ got rest end
+          → rest .0 ≡ a
+      first-is t a q rest end e =
+          both-found (readAt (figuresOf t) l q) _ e (λ f at i j. both-found (readAt (servicesOf t) l at) _ j (λ v at′ i′ j′.
+          both-found (readAt (partOf (partIn t f)) l at′) _ j′ (λ u at″ i″ j″. let h : rest ≡ (a, (f, (v, u))) = cc in ap (λ (x : Rest). x .0) h)))
+
+      heads : (d e : Bool) (w : Identity) (x : ℕ) {a b c k : ℕ} {u : Identity} → a ≡ c → d ≡ e → b ≡ pick d x 0 → u ≡ pick d w zeroIdentity
+          → _≡_ {A = Head} (record { kind = a; code = b; user = u; result = k })
+          (record { kind = c; code = pick e x 0; user = pick e w zeroIdentity; result = k })
+      heads d e w x f g h j = rw (f, ← g, h, j)

@@ -4,7 +4,7 @@ use mathlib.Core.List.{List, [], _∷_}
 use Prim.Native.Nat.{ℕ}
 use Rattle.bits.specs.Bits.{bits}
 use Rattle.bits.specs.Frame.{framed}
-use Rattle.grammar.specs.Grammar.{grammar}
+use Rattle.grammar.specs.Grammar.{zeroIdentity, grammar}
 use Rattle.grammar.specs.ProfileRecords.{A, asking}
 use Rattle.walk.specs.Walk.{headOf, refusing, walkIs}
 use Rattle.walk.specs.declared.BitPlace.the-variants.{At, Nowhere}
@@ -53,7 +53,16 @@ bit-left : walkIs (interrogate 64) 43 ≡ refusing 5 (At 42)
 unfolding computed
 bit-left = refl
 
--- 10: PDU type 13
-not-read : walkIs (73 ∷ 160 ∷ []) 11 ≡ refusing 10 (At 6)
+-- 3 at the PDU type: 4, which table 23 names and which has no PDU
+no-type : walkIs (72 ∷ 128 ∷ []) 11 ≡ refusing 3 (At 6)
 unfolding computed
-not-read = refl
+no-type = refl
+
+-- a CALL BARRED with cause 2, and with cause 3, which is reserved: no affected users
+call-barred : walkIs (73 ∷ 176 ∷ []) 13 ≡ Accepted (record { kind = 13; code = 0; user = zeroIdentity; result = 0 })
+unfolding computed
+call-barred = refl
+
+cause-reserved : walkIs (73 ∷ 184 ∷ []) 13 ≡ refusing 3 (At 11)
+unfolding computed
+cause-reserved = refl

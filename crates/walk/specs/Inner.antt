@@ -14,9 +14,12 @@ use Rattle.codec.specs.Places.{places}
 use Rattle.codec.specs.Reading.{Found, got, andNext, readAt, resume, reachedOf}
 use Rattle.codec.specs.declared.Reached.{Reached}
 use Rattle.codec.specs.declared.Reached.the-variants as reached
-use Rattle.grammar.specs.SiteSheet.{entriesOf, countRefusal, serviceRefusal}
-use Rattle.grammar.specs.Grammar.{identity, noIdentity, rangeEnds, secondEnd, Rest, pdu}
+use Rattle.grammar.specs.SiteSheet.{entriesOf, countRefusal, serviceRefusal, pduType, definedPart}
+use Rattle.grammar.specs.Grammar.{identity, noIdentity, zeroIdentity, rangeEnds, secondEnd, partOf, pdu}
+use Rattle.grammar.specs.Rows.{formOf, partIn, figuresOf, servicesOf}
+use Rattle.grammar.specs.declared.site.PduType.{PduType}
 use Rattle.grammar.specs.declared.record.Identity.{Identity}
+use Rattle.grammar.specs.declared.record.Figures.{Figures}
 use Rattle.walk.specs.Walk.{refusing}
 use Rattle.walk.specs.declared.Head.{Head}
 use Rattle.walk.specs.declared.BitPlace.the-variants as place
@@ -46,12 +49,15 @@ range = tested (places identity noIdentity 8 2) (rangeEnds 9) secondEnd
 unfoldable pub identityIn : ℕ → Identity
 identityIn v = record { ssi = v / 2 ^ 33; present = v / 2 ^ 32 % 2; extension = pick (eqb (v / 2 ^ 32 % 2) 1) (v / 2 ^ 8 % 2 ^ 24) 0 }
 
+-- the type of the PDU
+abbrev pub typeIn : List ℕ → PduType
+typeIn s = pduType (windowAt s 0 / 2 ^ 46 % 2 ^ 5)
+
 unfoldable pub headIn : List ℕ → ℕ → Head
 headIn s result = record {
   kind = windowAt s 0 / 2 ^ 46 % 2 ^ 5;
-  code = windowAt s 0 / 2 ^ 42 % 2 ^ 4;
-  user = identityIn
-      (windowAt s 15);
+  code = pick (formOf (typeIn s) .users) (windowAt s 0 / 2 ^ 42 % 2 ^ 4) 0;
+  user = pick (formOf (typeIn s) .users) (identityIn (windowAt s 15)) zeroIdentity;
   result = result;
 }
 
@@ -60,15 +66,24 @@ unfoldable pub endedIs : List ℕ → ℕ → Reached → ℕ → Walked
 endedIs s n (reached.At c) result = pick (ltb (c .at) n) (refusing 5 (place.At (c .at))) (Accepted (headIn s result))
 endedIs s n (reached.Refused k p) result = refusing k (place.At p)
 
--- ---- the interrogation result
+-- ---- the figures, and the interrogation result among them
+
+-- figures read from where reading stands, and what they steer: the interrogation result, and the part whose lists follow
+unfoldable pub steeredFrom : PduType → List Bool → Reached → Found (ℕ × ℕ)
+steeredFrom t l start = resume start (λ at. andNext (readAt (figuresOf t) l at) (λ f p. got (f .result, partIn t f) p))
+
+-- the same for those of a definition of a part
+unfoldable pub definedFrom : Codec Figures → ℕ → List Bool → Reached → Found (ℕ × ℕ)
+definedFrom c part l start = resume start (λ at. andNext (readAt c l at) (λ f p. got (f .result, definedPart part (f .definition)) p))
 
 -- what follows the affected users, read from where reading stands, and the interrogation result in it
-unfoldable pub resultFrom : Codec Rest → List Bool → Reached → Found ℕ
-resultFrom c l start = resume start (λ at. andNext (readAt c l at) (λ rest p. got (rest .0 .1 .0) p))
+unfoldable pub resultFrom : PduType → List Bool → Reached → Found ℕ
+resultFrom t l start = resume start (λ at. andNext (readAt (figuresOf t) l at) (λ f p. andNext (readAt (servicesOf t) l p) (λ s q.
+    andNext (readAt (partOf (partIn t f)) l q) (λ lists end. got (f .result) end))))
 
 -- the interrogation result of the PDU l
 unfoldable pub resultIn : List Bool → Found ℕ
-resultIn l = andNext (readAt pdu l 0) (λ r p. got (r .result) p)
+resultIn l = andNext (readAt pdu l 0) (λ r p. got (r .figures .result) p)
 
 -- ---- ahead of the end: bits after it are zeros, and whatever is found counts only if it lies inside the PDU
 

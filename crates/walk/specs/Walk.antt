@@ -15,7 +15,7 @@ use Rattle.walk.specs.declared.Walked.the-variants.{Accepted, Refused}
 
 -- what steers the reading of a PDU: PDU type, range type of the affected users, the first of them, interrogation result
 abbrev pub headOf : Record → Head
-headOf r = record { kind = r .kind; code = r .affected .code; user = userOf r; result = r .result }
+headOf r = record { kind = r .kind; code = r .affected .code; user = userOf r; result = r .figures .result }
 
 abbrev pub refusing : ℕ → BitPlace → Walked
 refusing k p = Refused (record { number = k; place = p })

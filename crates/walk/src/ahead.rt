@@ -1,15 +1,20 @@
 // The walk ahead: bits after the end read as zeros, and nothing is tested against the end on the way. Where the end that it finds is
 // the PDU's own, all was inside and no element is refused; otherwise the exact walk says why.
 use bits::DigitCount;
+use grammar::figures;
+use grammar::figures::Form;
 use grammar::site;
 use grammar::site::ListKind;
+use grammar::site::PduType;
 use grammar::site::SS_TYPE;
 ghost use mathlib.Core.Path.{_≡_};
 ghost use Prim.Native.Nat.{_+_, _*_, _^_, _≤_, _<_};
 ghost use lib.ListN.{length, take};
-ghost use Rattle.bits.specs.Bits.{bits};
+ghost use Rattle.bits.specs.Bits.{pick, bits};
+ghost use Rattle.bits.specs.Element.{windowAt};
 ghost use Rattle.grammar.specs.SiteSheet.{serviceRefusal};
-ghost use Rattle.grammar.specs.Grammar.{identity, identities, external, externals, partOf, define, interrogate, interrogateAck};
+ghost use Rattle.grammar.specs.Grammar.{identity, identities, noIdentities, external, externals, partOf};
+ghost use Rattle.grammar.specs.Rows.{formOf};
 ghost use Rattle.grammar.specs.declared.site.ListKind.the-variants as of;
 ghost use Rattle.codec.specs.declared.Reached.the-variants as reached;
 ghost use Rattle.walk.specs.Inner.{pass, steps, range, coded, passing, servicesIn, resultFrom, resultIn, Ends, Finds};
@@ -215,67 +220,6 @@ fn services_in(run: u64) -> usize
     3 + 3 * count
 }
 
-// What follows the affected users in a DEFINE: all up to the lists stands in one window.
-fn define_ahead(s: &[u8], start: usize) -> Ahead
-    requires { ⌜ start ≤ 10000 ⌝ }
-    ensures { λ r. ⌜ Finds (λ l. resultFrom define l (reached.At (record { at = start }))) (now (s .entry)) start (r .result) (r .end) ⌝ }
-{
-    let window = bits::window(s, start);
-    let delivery = (window >> 56u32) as u32;
-    let acknowledgement = ((window >> 55u32) % 2) as u32;
-    let definition = ((window >> 53u32) % 4) as u32;
-    let services_width = services_in((window >> 29u32) % 16777216);
-    if site::between_refusal(0, delivery, acknowledgement) != 0 {
-        return beyond(start);
-    }
-    if site::between_refusal(0, 2, definition) != 0 {
-        return beyond(start);
-    }
-    if services_width == 0 {
-        return beyond(start);
-    }
-    let part = site::defined_part(1, definition);
-    Ahead {
-        result: 0,
-        end: part_ahead(s, start + 4 + services_width, part),
-    }
-}
-
-// What follows the affected users in an INTERROGATE ACK: all up to the lists stands in one window.
-fn ack_ahead(s: &[u8], start: usize) -> Ahead
-    requires { ⌜ start ≤ 10000 ⌝ }
-    ensures { λ r. ⌜ Finds (λ l. resultFrom interrogateAck l (reached.At (record { at = start }))) (now (s .entry)) start (r .result) (r .end) ⌝ }
-{
-    let window = bits::window(s, start);
-    let result = (window >> 54u32) as u32;
-    let services_width = services_in((window >> 28u32) % 16777216);
-    if site::result_refusal(result) != 0 {
-        return beyond(start);
-    }
-    if services_width == 0 {
-        return beyond(start);
-    }
-    Ahead {
-        result,
-        end: part_ahead(s, start + 5 + services_width, result),
-    }
-}
-
-// What follows the affected users in an INTERROGATE: the interrogation type.
-fn interrogate_ahead(s: &[u8], start: usize) -> Ahead
-    requires { ⌜ start ≤ 10000 ⌝ }
-    ensures { λ r. ⌜ Finds (λ l. resultFrom interrogate l (reached.At (record { at = start }))) (now (s .entry)) start (r .result) (r .end) ⌝ }
-{
-    let asked = (bits::window(s, start) >> 55u32) as u32;
-    if site::between_refusal(1, 3, asked) != 0 {
-        return beyond(start);
-    }
-    Ahead {
-        result: 0,
-        end: start + 2,
-    }
-}
-
 fn beyond(start: usize) -> Ahead
     requires { ⌜ start ≤ 10000 ⌝ }
     ensures { λ r. ⌜ r ≡ record { result = 0; end = start + 4097 } ⌝ }
@@ -286,34 +230,65 @@ fn beyond(start: usize) -> Ahead
     }
 }
 
-// The first 11 bits of each PDU: SS type and PDU type.
-const DEFINE: u64 = (SS_TYPE as u64) * 32 + 5;
+// The affected users, where the PDU has them: their range type stands in its first window.
+fn users_ahead(s: &[u8], first: u64, users: bool) -> usize
+    requires { ⌜ first ≡ windowAt (now s) 0 ⌝ }
+    ensures { λ r. ⌜ Ends (pass (pick users (identities of.Users) noIdentities)) (now (s .entry)) 11 4101 r ⌝ }
+{
+    if !users {
+        return 11;
+    }
+    let code = ((first >> 42u32) % 16) as u32;
+    if site::range_refusal(ListKind::Users, code) != 0 {
+        return 11 + BEYOND;
+    }
+    coded_ahead(s, 15, code)
+}
 
-const INTERROGATE: u64 = (SS_TYPE as u64) * 32 + 11;
-
-const ACK: u64 = (SS_TYPE as u64) * 32 + 12;
+// What follows the affected users: figures and services stand in one window.
+fn rest_ahead(s: &[u8], start: usize, kind: PduType, form: Form) -> Ahead
+    requires { ⌜ (start ≤ 10000) × (form ≡ formOf kind) ⌝ }
+    ensures { λ r. ⌜ Finds (λ l. resultFrom kind l (reached.At (record { at = start }))) (now (s .entry)) start (r .result) (r .end) ⌝ }
+{
+    let window = bits::window(s, start);
+    let f = figures::figures_in(kind, window);
+    if figures::figures_refusal(kind, f) != 0 {
+        return beyond(start);
+    }
+    let width = form.width;
+    if !form.services {
+        return Ahead {
+            result: f.result,
+            end: start + width,
+        };
+    }
+    let services_width = services_in((window >> (33 - width)) % 16777216);
+    if services_width == 0 {
+        return beyond(start);
+    }
+    let lists = start + width + services_width;
+    Ahead {
+        result: f.result,
+        end: part_ahead(s, lists, figures::part_in(kind, f)),
+    }
+}
 
 // The whole of a PDU.
 pub(crate) fn pdu_ahead(s: &[u8]) -> Ahead
     ensures { λ r. ⌜ Finds resultIn (now (s .entry)) 0 (r .result) (r .end) ⌝ }
 {
     let first = bits::window(s, 0);
-    let code = ((first >> 42u32) % 16) as u32;
-    if site::range_refusal(ListKind::Users, code) != 0 {
+    if (first >> 51u32) as u32 != SS_TYPE {
         return beyond(0);
     }
-    let users = coded_ahead(s, 15, code);
-    let kind = first >> 46u32;
-    if kind == ACK {
-        return ack_ahead(s, users);
+    let code = ((first >> 46u32) % 32) as u32;
+    if site::kind_refusal(code) != 0 {
+        return beyond(0);
     }
-    if kind == INTERROGATE {
-        return interrogate_ahead(s, users);
-    }
-    if kind == DEFINE {
-        return define_ahead(s, users);
-    }
-    beyond(0)
+    let kind = site::pdu_type(code);
+    let form = figures::form_of(kind);
+    let users = users_ahead(s, first, form.users);
+    rest_ahead(s, users, kind, form)
 }
 
 // The same for fewer than eight bytes, with zeros after them. Apart, so that in the walk of more bytes no window has to look for so few.

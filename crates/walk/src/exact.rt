@@ -4,17 +4,22 @@ use bits::BitCount;
 use bits::Cursor;
 use codec::NumberRead;
 use codec::Reached;
+use grammar::figures;
 use grammar::record::Identity;
 use grammar::site;
 use grammar::site::ListKind;
+use grammar::site::PduType;
 ghost use mathlib.Core.Path.{_≡_};
+ghost use Rattle.bits.specs.Bits.{pick};
 ghost use Rattle.bits.specs.Frame.{bitsIn};
 ghost use Rattle.codec.specs.Parts.{element};
 ghost use Rattle.codec.specs.Reading.{resume, readAt};
 ghost use Rattle.codec.proofs.Onward.{placed};
-ghost use Rattle.grammar.specs.SiteSheet.{digitRefusal, serviceRefusal};
-ghost use Rattle.grammar.specs.Grammar.{identity, identities, external, externals, services, partOf, define, interrogate, interrogateAck};
-ghost use Rattle.walk.specs.Inner.{pass, steps, range, resultFrom, resultIn};
+ghost use Rattle.grammar.specs.SiteSheet.{digitRefusal, serviceRefusal, between, reserved};
+ghost use Rattle.grammar.specs.Grammar.{identity, identities, noIdentities, external, externals, services, noServices, partOf, definition, userDefinition};
+ghost use Rattle.grammar.specs.declared.site.ListKind.the-variants as of;
+ghost use Rattle.grammar.specs.declared.site.PduType.the-variants as type;
+ghost use Rattle.walk.specs.Inner.{pass, steps, range, definedFrom, steeredFrom, resultIn};
 
 // An identity, and where reading then stands; it says nothing beside a refusal.
 pub struct IdentityRead {
@@ -189,6 +194,143 @@ fn pass_part(s: &[u8], n: BitCount, start: Reached, part: u32) -> Reached
     start
 }
 
+// The affected users, where the PDU has them.
+fn pass_users(s: &[u8], n: BitCount, start: Reached, users: bool) -> Reached
+    ensures { λ r. ⌜ r ≡ pass (pick users (identities of.Users) noIdentities) (bitsIn (n .0) (now (s .entry))) start ⌝ }
+{
+    if users {
+        return pass_identities(s, n, start, ListKind::Users);
+    }
+    start
+}
+
+// Services, where the PDU has them.
+fn pass_served(s: &[u8], n: BitCount, start: Reached, served: bool) -> Reached
+    ensures { λ r. ⌜ r ≡ pass (pick served services noServices) (bitsIn (n .0) (now (s .entry))) start ⌝ }
+{
+    if served {
+        return pass_services(s, n, start);
+    }
+    start
+}
+
+// Where reading stands after the figures, and what they steer; it says nothing beside a refusal.
+pub struct Steered {
+    pub reached: Reached,
+    pub result: u32,
+    pub part: u32,
+}
+
+// Figures that steer nothing.
+fn unsteered(reached: Reached) -> Steered
+    ensures { λ r. ⌜ r ≡ record { reached = reached; result = 0; part = 0 } ⌝ }
+{
+    Steered {
+        reached,
+        result: 0,
+        part: 0,
+    }
+}
+
+// Delivery, acknowledgement and definition type, by which the lists of a part follow or not.
+fn pass_definition(s: &[u8], n: BitCount, start: Reached, part: u32) -> Steered
+    ensures { λ r. ⌜ definedFrom definition part (bitsIn (n .0) (now (s .entry))) start ≡ placed (r .reached) (r .result, r .part) ⌝ }
+{
+    let delivery = codec::number(s, n, start, 1);
+    let after_delivery = delivery.reached;
+    let read = codec::number(s, n, after_delivery, 1);
+    let acknowledgement = codec::tested(
+        after_delivery,
+        read,
+        site::between_refusal(0, delivery.value, read.value),
+    );
+    let after_acknowledgement = acknowledgement.reached;
+    let type_read = codec::number(s, n, after_acknowledgement, 2);
+    let definition = codec::tested(
+        after_acknowledgement,
+        type_read,
+        site::between_refusal(0, 2, type_read.value),
+    );
+    let end = definition.reached;
+    Steered {
+        reached: end,
+        result: 0,
+        part: site::defined_part(part, definition.value),
+    }
+}
+
+// The same without delivery.
+fn pass_user_definition(s: &[u8], n: BitCount, start: Reached, part: u32) -> Steered
+    ensures { λ r. ⌜ definedFrom userDefinition part (bitsIn (n .0) (now (s .entry))) start ≡ placed (r .reached) (r .result, r .part) ⌝ }
+{
+    let acknowledgement = codec::number(s, n, start, 1);
+    let after_acknowledgement = acknowledgement.reached;
+    let read = codec::number(s, n, after_acknowledgement, 2);
+    let definition = codec::tested(
+        after_acknowledgement,
+        read,
+        site::between_refusal(0, 2, read.value),
+    );
+    let end = definition.reached;
+    Steered {
+        reached: end,
+        result: 0,
+        part: site::defined_part(part, definition.value),
+    }
+}
+
+// Interrogation result and delivery status.
+fn pass_answer(s: &[u8], n: BitCount, start: Reached) -> Steered
+    ensures { λ r. ⌜ steeredFrom type.InterrogateAck (bitsIn (n .0) (now (s .entry))) start ≡ placed (r .reached) (r .result, r .part) ⌝ }
+{
+    let read = codec::number(s, n, start, 3);
+    let result = codec::tested(start, read, site::reserved_refusal(5, 5, read.value));
+    let after_result = result.reached;
+    let status = codec::number(s, n, after_result, 2);
+    let end = status.reached;
+    Steered {
+        reached: end,
+        result: result.value,
+        part: result.value,
+    }
+}
+
+// A definition or distribution result: three bits, from low to 5 reserved.
+fn pass_outcome(s: &[u8], n: BitCount, start: Reached, low: u32) -> Reached
+    ensures { λ r. ⌜ r ≡ pass (element 3 (reserved low 5)) (bitsIn (n .0) (now (s .entry))) start ⌝ }
+{
+    let read = codec::number(s, n, start, 3);
+    let outcome = codec::tested(start, read, site::reserved_refusal(low, 5, read.value));
+    outcome.reached
+}
+
+// An interrogation type or a rejection cause: two bits, from low to high.
+fn pass_choice(s: &[u8], n: BitCount, start: Reached, low: u32, high: u32) -> Reached
+    ensures { λ r. ⌜ r ≡ pass (element 2 (between low high)) (bitsIn (n .0) (now (s .entry))) start ⌝ }
+{
+    let read = codec::number(s, n, start, 2);
+    let choice = codec::tested(start, read, site::between_refusal(low, high, read.value));
+    choice.reached
+}
+
+// The figures of a PDU of a type.
+fn pass_figures(s: &[u8], n: BitCount, start: Reached, kind: PduType) -> Steered
+    ensures { λ r. ⌜ steeredFrom kind (bitsIn (n .0) (now (s .entry))) start ≡ placed (r .reached) (r .result, r .part) ⌝ }
+{
+    match kind {
+        PduType::Define => pass_definition(s, n, start, 1),
+        PduType::DefineAck => unsteered(pass_outcome(s, n, start, 5)),
+        PduType::DefineExternal => pass_definition(s, n, start, 2),
+        PduType::DefineUser => pass_user_definition(s, n, start, 1),
+        PduType::DefineUserAck => unsteered(pass_outcome(s, n, start, 2)),
+        PduType::DefineExternalUser => pass_user_definition(s, n, start, 1),
+        PduType::Interrogate => unsteered(pass_choice(s, n, start, 1, 3)),
+        PduType::InterrogateAck => pass_answer(s, n, start),
+        PduType::CallBarred => unsteered(pass_choice(s, n, start, 0, 2)),
+        PduType::NoPduType => unsteered(start),
+    }
+}
+
 // The whole of a PDU, and its interrogation result, 0 where it has none.
 pub(crate) fn pass_pdu(s: &[u8], n: BitCount) -> NumberRead
     ensures { λ r. ⌜ resultIn (bitsIn (n .0) (now (s .entry))) ≡ placed (r .reached) (r .value) ⌝ }
@@ -198,72 +340,17 @@ pub(crate) fn pass_pdu(s: &[u8], n: BitCount) -> NumberRead
     let ss_type = codec::tested(start, ss_read, site::ss_refusal(ss_read.value));
     let after_ss = ss_type.reached;
     let kind_read = codec::number(s, n, after_ss, 5);
-    let kind = codec::tested(after_ss, kind_read, site::kind_refusal(kind_read.value));
-    let after_kind = kind.reached;
-    let users = pass_identities(s, n, after_kind, ListKind::Users);
-    if kind.value == 5 {
-        return pass_define(s, n, users);
-    }
-    if kind.value == 11 {
-        return pass_interrogate(s, n, users);
-    }
-    pass_interrogate_ack(s, n, users)
-}
-
-// What follows the affected users in a DEFINE (table 10).
-fn pass_define(s: &[u8], n: BitCount, start: Reached) -> NumberRead
-    ensures { λ r. ⌜ resultFrom define (bitsIn (n .0) (now (s .entry))) start ≡ placed (r .reached) (r .value) ⌝ }
-{
-    let delivery = codec::number(s, n, start, 1);
-    let after_delivery = delivery.reached;
-    let acknowledgement_read = codec::number(s, n, after_delivery, 1);
-    let acknowledgement = codec::tested(
-        after_delivery,
-        acknowledgement_read,
-        site::between_refusal(0, delivery.value, acknowledgement_read.value),
-    );
-    let after_acknowledgement = acknowledgement.reached;
-    let definition_read = codec::number(s, n, after_acknowledgement, 2);
-    let definition = codec::tested(
-        after_acknowledgement,
-        definition_read,
-        site::between_refusal(0, 2, definition_read.value),
-    );
-    let after_definition = definition.reached;
-    let lists = pass_services(s, n, after_definition);
-    let end = pass_part(s, n, lists, site::defined_part(1, definition.value));
+    let code = codec::tested(after_ss, kind_read, site::kind_refusal(kind_read.value));
+    let after_kind = code.reached;
+    let kind = site::pdu_type(code.value);
+    let form = figures::form_of(kind);
+    let users = pass_users(s, n, after_kind, form.users);
+    let steered = pass_figures(s, n, users, kind);
+    let after_figures = steered.reached;
+    let lists = pass_served(s, n, after_figures, form.services);
+    let end = pass_part(s, n, lists, steered.part);
     NumberRead {
         reached: end,
-        value: 0,
-    }
-}
-
-// What follows the affected users in an INTERROGATE (table 16).
-fn pass_interrogate(s: &[u8], n: BitCount, start: Reached) -> NumberRead
-    ensures { λ r. ⌜ resultFrom interrogate (bitsIn (n .0) (now (s .entry))) start ≡ placed (r .reached) (r .value) ⌝ }
-{
-    let read = codec::number(s, n, start, 2);
-    let asked = codec::tested(start, read, site::between_refusal(1, 3, read.value));
-    let end = asked.reached;
-    NumberRead {
-        reached: end,
-        value: 0,
-    }
-}
-
-// What follows the affected users in an INTERROGATE ACK (table 17).
-fn pass_interrogate_ack(s: &[u8], n: BitCount, start: Reached) -> NumberRead
-    ensures { λ r. ⌜ resultFrom interrogateAck (bitsIn (n .0) (now (s .entry))) start ≡ placed (r .reached) (r .value) ⌝ }
-{
-    let read = codec::number(s, n, start, 3);
-    let result = codec::tested(start, read, site::result_refusal(read.value));
-    let after_result = result.reached;
-    let status = codec::number(s, n, after_result, 2);
-    let after_status = status.reached;
-    let lists = pass_services(s, n, after_status);
-    let end = pass_part(s, n, lists, result.value);
-    NumberRead {
-        reached: end,
-        value: result.value,
+        value: steered.result,
     }
 }

@@ -3,7 +3,9 @@
 use ahead::Ahead;
 use bits::BitCount;
 use codec::Reached;
+use grammar::figures;
 use grammar::record::Identity;
+use grammar::site;
 ghost use mathlib.Core.Path.{_≡_};
 ghost use Prim.Native.Nat.{_<_, _^_};
 ghost use mathlib.Core.Bool.{true};
@@ -25,7 +27,7 @@ pub struct Refusal {
     pub place: BitPlace,
 }
 
-// What steers the reading of a PDU: PDU type, range type of the affected users, the first of them, interrogation result (0 where it has none).
+// What steers the reading of a PDU: PDU type, range type of the affected users, the first of them, interrogation result; zero where it has none.
 pub struct Head {
     pub kind: u32,
     pub code: u32,
@@ -101,9 +103,23 @@ fn head_in(s: &[u8], result: u32) -> Head
     ensures { λ r. ⌜ r ≡ headIn (now (s .entry)) result ⌝ }
 {
     let first = bits::window(s, 0);
+    let kind = ((first >> 46u32) % 32) as u32;
+    let form = figures::form_of(site::pdu_type(kind));
+    if !form.users {
+        return Head {
+            kind,
+            code: 0,
+            user: Identity {
+                ssi: 0,
+                present: 0,
+                extension: 0,
+            },
+            result,
+        };
+    }
     let user = identity_in(bits::window(s, 15));
     Head {
-        kind: ((first >> 46u32) % 32) as u32,
+        kind,
         code: ((first >> 42u32) % 16) as u32,
         user,
         result,

@@ -1,45 +1,34 @@
--- SS type, PDU type and range type in the first window, the affected users, and what the type says. Assumes nothing.
-use mathlib.Core.Path.{refl, sym, ap, _∙_}
+-- SS type, PDU type, affected users, and what follows them. Assumes nothing.
+use borrow.Author.Needs.{needs}
+use mathlib.Core.Path.{sym, ap, _∙_}
 use Prim.Native.Nat.{ℕ, _/_, _%_, _^_}
 use native.Mathlib.Omega.{arith}
-use borrow.Author.Needs.{needs}
-use Rattle.grammar.specs.SiteSheet.{kindRefusal}
-use Rattle.grammar.specs.declared.site.ListKind.the-variants as of
 use Rattle.walk.proofs.Aheads.{found-off}
-use Rattle.walk.proofs.Sights.{legal-code}
 use Rattle.walk.proofs.Following.{pdu-finds}
 use Rattle.walk.proofs.ahead.pdu_ahead.Statement.{statement}
 use Rattle.walk.proofs.ahead.pdu_ahead.Tie as tie
 
+returns : tie.Need-returns
+returns c = rw (c .beyond .ensures) (found-off _ _ 0 0)
+
 returns-2 : tie.Need-returns-2
-unfolding kindRefusal
-returns-2 c =
-    let t = c .before in let u = t .before in let e = u .before in let r = e .before in let w = r .before in
-    pdu-finds 12 (ap (λ (x : ℕ). x / 2 ^ 46) (sym (w .window .ensures)) ∙ t .if2 .taken) (omega arith) refl
-    (ap (λ (x : ℕ). x / 2 ^ 42 % 16) (w .window .ensures)) (sym (r .range-refusal .ensures) ∙ e .if1 .left) (u .coded-ahead .ensures)
-    (c .ack-ahead .ensures)
+returns-2 c = rw (c .beyond2 .ensures) (found-off _ _ 0 0)
+
+rest-ahead-requires : tie.Need-rest-ahead-requires
+rest-ahead-requires c κs = (omega (arith, c .users-ahead .ensures .near), c .before .form-of .ensures)
 
 returns-3 : tie.Need-returns-3
-unfolding kindRefusal
 returns-3 c =
-    let t = c .before in let u = t .before .before in let e = u .before in let r = e .before in let w = r .before in
-    pdu-finds 11 (ap (λ (x : ℕ). x / 2 ^ 46) (sym (w .window .ensures)) ∙ t .if3 .taken) (omega arith) refl
-    (ap (λ (x : ℕ). x / 2 ^ 42 % 16) (w .window .ensures)) (sym (r .range-refusal .ensures) ∙ e .if1 .left) (u .coded-ahead .ensures)
-    (c .interrogate-ahead .ensures)
-
-returns-4 : tie.Need-returns-4
-unfolding kindRefusal
-returns-4 c =
-    let t = c .before in let u = t .before .before .before in let e = u .before in let r = e .before in let w = r .before in
-    pdu-finds 5 (ap (λ (x : ℕ). x / 2 ^ 46) (sym (w .window .ensures)) ∙ t .if4 .taken) (omega arith) refl
-    (ap (λ (x : ℕ). x / 2 ^ 42 % 16) (w .window .ensures)) (sym (r .range-refusal .ensures) ∙ e .if1 .left) (u .coded-ahead .ensures)
-    (c .define-ahead .ensures)
+    let u = c .before in let f = u .before in let y = f .before in let e = y .before in let k = e .before in let m = k .before in
+    let w = m .before .window .ensures in
+    let same = y .pdu-type .ensures in
+    pdu-finds (ap (λ (x : ℕ). x / 2 ^ 51) (sym w) ∙ m .if1 .left) (ap (λ (x : ℕ). x / 2 ^ 46 % 32) w)
+    (sym (k .kind-refusal .ensures) ∙ e .if2 .left) (rw (f .form-of .ensures, same) at (u .users-ahead .ensures)) (rw same at (c .rest-ahead .ensures))
 
 pub pdu-ahead-spec : {M : Type 1} → statement M
 pdu-ahead-spec =
-    tie.close (tie.spec (λ c κs. search needs) (λ c. search needs) (λ c. search needs) (λ c. search needs) (λ c κs. search needs)
-    (λ c κs. search needs)
-    (λ c. rw (c .beyond .ensures) (found-off _ _ 0 0))
-    (λ c κs. (omega arith, legal-code of.Users _ (sym (c .before .range-refusal .ensures) ∙ c .if1 .left))) (λ c. search needs) (λ c. search needs)
-    (λ c κs. omega (arith, c .before .coded-ahead .ensures .near)) returns-2 (λ c κs. omega (arith, c .before .before .coded-ahead .ensures .near))
-    returns-3 (λ c κs. omega (arith, c .before .before .before .coded-ahead .ensures .near)) returns-4 (λ c κs. search needs) (λ c. rw (c .beyond2 .ensures) (found-off _ _ 0 0)))
+    tie.close
+    (tie.spec
+    (λ c κs. search needs) (λ c. search needs) (λ c. search needs) (λ c. search needs) (λ c κs. search needs) returns (λ c. search needs)
+    (λ c. search needs) (λ c. search needs) (λ c κs. search needs) (λ c κs. search needs) returns-2 (λ c κs. search needs)
+    (λ c κs. search needs) (λ c κs. search needs) rest-ahead-requires returns-3)
