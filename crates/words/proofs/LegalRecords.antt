@@ -8,7 +8,6 @@ use lib.ListN.{length}
 use lib.Dec.{eqb}
 use Rattle.bits.specs.Bits.{pick, Bytes}
 use Rattle.bits.specs.Lists.{Each}
-use Rattle.bits.proofs.Tests.{by-test}
 use Rattle.codec.specs.Codec.{Codec, Legal}
 use Rattle.codec.specs.Parts.{absent, seq}
 use Rattle.codec.proofs.Legality.{legal-seq, legal-shaped, legal-tested, legal-mark, legal-element, legal-absent, legal-places, legal-length}
@@ -17,6 +16,7 @@ use Rattle.grammar.specs.Grammar.{identities, noIdentities, external, noExterna
 use Rattle.grammar.specs.Grammar.{numberPart, noPart, Rest, restOf, fromLists, fromRecord, pdu}
 use Rattle.grammar.specs.Rows.{formOf, partIn, rowed}
 use Rattle.grammar.specs.declared.site.ListKind.{ListKind}
+use Rattle.grammar.specs.declared.site.ListKind.the-variants.{Users}
 use Rattle.grammar.specs.declared.site.PduType.{PduType}
 use Rattle.grammar.specs.declared.record.Identities.{Identities}
 use Rattle.grammar.specs.declared.record.Number.{Number}
@@ -147,6 +147,14 @@ record SmallRest (q : Rest) : Type 0 where
   pub services : length (q .1 .1 .0 .list) ≡ 7
   pub lists : SmallLists (q .1 .1 .1)
 
+users-sized : (carried : Bool) (l : Identities) → Legal (pick carried (identities Users) noIdentities) l → SizedIdentities l
+users-sized true l h = identities-sized Users l h
+users-sized false l h = no-identities-sized l h
+
+all-services-sized : (carried : Bool) (s : Services) → Legal (pick carried services noServices) s → length (s .list) ≡ 7
+all-services-sized true s h = services-sized s h
+all-services-sized false s h = no-services-sized s h
+
 -- by its row
 row-small : (t : PduType) (q : Rest) → Legal (rowed t) q → SmallRest q
 row-small t q h =
@@ -154,12 +162,9 @@ row-small t q h =
     let s = legal-seq _ _ _ (legal-seq _ _ _ (u .1) .1) in
     let part = partIn t (q .1 .0) in
     record {
-      affected =
-          by-test (λ (c : Codec Identities). Legal c (q .0) → SizedIdentities (q .0)) (formOf t .users) (identities-sized _ _) (no-identities-sized _) (u .0);
-      services =
-          by-test (λ (c : Codec Services). Legal c (q .1 .1 .0) → length (q .1 .1 .0 .list) ≡ 7) (formOf t .services) (services-sized _)
-          (no-services-sized _) (s .0);
-      lists = part-small (eqb part 1) (eqb part 2) _ (s .1);
+      affected = users-sized (formOf t .users) (q .0) (u .0);
+      services = all-services-sized (formOf t .services) (q .1 .1 .0) (s .0);
+      lists = part-small (eqb part 1) (eqb part 2) (q .1 .1 .1) (s .1);
     }
 
 module _ (r : Record) (h : Legal pdu r) where
