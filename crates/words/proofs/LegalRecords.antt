@@ -1,5 +1,5 @@
 -- A legal record is as its struct holds it: every list as long as its array, and the lengths and digits of numbers bytes below 255. Assumes nothing.
-use mathlib.Core.Path.{_≡_}
+use mathlib.Core.Path.{_≡_, subst}
 use mathlib.Core.Bool.{Bool, true, false}
 use mathlib.Core.List.{List, [], _∷_}
 use Prim.Native.Nat.{ℕ, zero, suc, _<_}
@@ -8,21 +8,23 @@ use lib.ListN.{length}
 use lib.Dec.{eqb}
 use Rattle.bits.specs.Bits.{pick, Bytes}
 use Rattle.bits.specs.Lists.{Each}
-use Rattle.bits.proofs.Tests.{by-test}
 use Rattle.codec.specs.Codec.{Codec, Legal}
 use Rattle.codec.specs.Parts.{absent, seq}
 use Rattle.codec.proofs.Legality.{legal-seq, legal-shaped, legal-tested, legal-mark, legal-element, legal-absent, legal-places, legal-length}
-use Rattle.grammar.specs.SiteSheet.{entriesOf, definedPart}
+use Rattle.grammar.specs.SiteSheet.{entriesOf, pduType}
 use Rattle.grammar.specs.Grammar.{identities, noIdentities, external, noExternal, externals, noExternals, services, noServices, identityPart}
-use Rattle.grammar.specs.Grammar.{numberPart, noPart, Rest, define, interrogate, interrogateAck, restOf, fromLists, fromRecord, pdu}
+use Rattle.grammar.specs.Grammar.{numberPart, noPart, Rest, restOf, fromLists, fromRecord, pdu}
+use Rattle.grammar.specs.Rows.{formOf, partIn, rowed}
 use Rattle.grammar.specs.declared.site.ListKind.{ListKind}
 use Rattle.grammar.specs.declared.site.ListKind.the-variants.{Users}
+use Rattle.grammar.specs.declared.site.PduType.{PduType}
 use Rattle.grammar.specs.declared.record.Identities.{Identities}
 use Rattle.grammar.specs.declared.record.Number.{Number}
 use Rattle.grammar.specs.declared.record.Numbers.{Numbers}
 use Rattle.grammar.specs.declared.record.Services.{Services}
 use Rattle.grammar.specs.declared.record.Lists.{Lists}
 use Rattle.grammar.specs.declared.record.Record.{Record}
+use Rattle.grammar.proofs.Rows.{in-rows}
 use Rattle.words.specs.Sized.{SizedIdentities, SizedNumber, SizedNumbers, SizedLists, SizedRecord}
 
 -- less than 255, which a word becomes that is wider than a byte
@@ -140,42 +142,41 @@ part-small false false l h = no-part-small l h
 
 -- ---- the record
 
-abbrev SmallRest : Rest → Type 0
-SmallRest q = (length (q .1 .1 .0 .list) ≡ 7) × SmallLists (q .1 .1 .1)
+record SmallRest (q : Rest) : Type 0 where
+  pub affected : SizedIdentities (q .0)
+  pub services : length (q .1 .1 .0 .list) ≡ 7
+  pub lists : SmallLists (q .1 .1 .1)
 
-define-small : (q : Rest) → Legal define q → SmallRest q
-unfolding define
-define-small q h =
-    let s = legal-seq _ _ _ (legal-seq _ _ _ (legal-seq _ _ _ h .1) .1) in
-    let part = definedPart 1 (q .1 .0 .1 .1) in
-    (services-sized _ (s .0), part-small (eqb part 1) (eqb part 2) _ (s .1))
+users-sized : (carried : Bool) (l : Identities) → Legal (pick carried (identities Users) noIdentities) l → SizedIdentities l
+users-sized true l h = identities-sized Users l h
+users-sized false l h = no-identities-sized l h
 
-interrogate-small : (q : Rest) → Legal interrogate q → SmallRest q
-unfolding interrogate
-interrogate-small q h =
-    let s = legal-seq _ _ _ (legal-seq _ _ _ (legal-seq _ _ _ h .1) .1) in
-    (no-services-sized _ (s .0), no-part-small _ (s .1))
+all-services-sized : (carried : Bool) (s : Services) → Legal (pick carried services noServices) s → length (s .list) ≡ 7
+all-services-sized true s h = services-sized s h
+all-services-sized false s h = no-services-sized s h
 
-ack-small : (q : Rest) → Legal interrogateAck q → SmallRest q
-unfolding interrogateAck
-ack-small q h =
-    let s = legal-seq _ _ _ (legal-seq _ _ _ (legal-seq _ _ _ h .1) .1) in
-    let part = q .0 .1 .0 in
-    (services-sized _ (s .0), part-small (eqb part 1) (eqb part 2) _ (s .1))
+-- by its row
+row-small : (t : PduType) (q : Rest) → Legal (rowed t) q → SmallRest q
+row-small t q h =
+    let u = legal-seq _ _ _ h in
+    let s = legal-seq _ _ _ (legal-seq _ _ _ (u .1) .1) in
+    let part = partIn t (q .1 .0) in
+    record {
+      affected = users-sized (formOf t .users) (q .0) (u .0);
+      services = all-services-sized (formOf t .services) (q .1 .1 .0) (s .0);
+      lists = part-small (eqb part 1) (eqb part 2) (q .1 .1 .1) (s .1);
+    }
 
 module _ (r : Record) (h : Legal pdu r) where
-  users : Legal (identities Users) (r .affected) × Legal (restOf (r .kind)) (fromRecord r .1 .1)
+  rest : SmallRest (fromRecord r .1)
   unfolding pdu
-  users = legal-seq _ _ _ (legal-seq _ _ _ (legal-shaped _ _ _ _ _ _ (legal-mark _ _ _ _ h)) .1)
-
-  rest : SmallRest (fromRecord r .1 .1)
   rest =
-      let q = fromRecord r .1 .1 in
-      let P : Codec Rest → Type 0 = λ c. Legal c q → SmallRest q in
-      by-test P (eqb (r .kind) 5) (define-small q) (by-test P (eqb (r .kind) 11) (interrogate-small q) (ack-small q)) (users .1)
+      let t = pduType (r .kind) in
+      let l : Legal (restOf t) (fromRecord r .1) = legal-seq _ _ _ (legal-shaped _ _ _ _ _ _ (legal-mark _ _ _ _ h)) .1 in
+      row-small t (fromRecord r .1) (subst (λ (c : Codec Rest). Legal c (fromRecord r .1)) (in-rows t) l)
 
   pub record-sized : SizedRecord r
-  record-sized = record { affected = identities-sized _ _ (users .0); services = rest .0; lists = rest .1 .sized }
+  record-sized = record { affected = rest .affected; services = rest .services; lists = rest .lists .sized }
 
   pub numbers-small : Each SmallNumber (r .lists .numbers .entries) × Each SmallNumber (r .lists .excepted .entries)
-  numbers-small = (rest .1 .numbers .1, rest .1 .excepted .1)
+  numbers-small = (rest .lists .numbers .1, rest .lists .excepted .1)

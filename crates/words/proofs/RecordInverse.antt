@@ -1,5 +1,5 @@
 -- A record's words read back as that record, and as many words as a record has are written again as they were. Assumes nothing.
-use mathlib.Core.Path.{_≡_, ap, _∙_}
+use mathlib.Core.Path.{_≡_, refl, ap, _∙_}
 use mathlib.Core.List.{List, [], _∷_, _++_, append-assoc}
 use Prim.Native.Nat.{ℕ, suc, _+_, _-_, _≤_}
 use native.Mathlib.Omega.{arith}
@@ -10,10 +10,10 @@ use Rattle.grammar.specs.declared.record.Identities.{Identities}
 use Rattle.grammar.specs.declared.record.Record.{Record}
 use Rattle.words.specs.Places.{identitiesWidth, entriesWidth, numbersWidth, servicesWidth, restrictedAt, exceptionsAt, numbersAt}
 use Rattle.words.specs.Places.{exceptedAt, listsWidth, affectedAt, askedAt, resultAt, statusAt, servicesAt, listsAt, deliveryAt}
-use Rattle.words.specs.Places.{acknowledgementAt, definitionAt, recordWidth}
+use Rattle.words.specs.Places.{acknowledgementAt, definitionAt, definedAt, distributedAt, causeAt, recordWidth}
 use Rattle.words.specs.Places.{numberEntriesAt, exceptedEntriesAt}
 use Rattle.words.specs.RecordWords.{identitiesWords, numbersWords, servicesWords, listsWords, recordWords, identitiesFrom, numbersFrom}
-use Rattle.words.specs.RecordWords.{word, servicesFrom, listsFrom, recordFrom}
+use Rattle.words.specs.RecordWords.{word, servicesFrom, listsFrom, figuresFrom, recordFrom}
 use Rattle.words.specs.Sized.{SizedIdentities, SizedRecord}
 use Rattle.words.proofs.Layouts.{drop-after, word-after, spelt-word, spelt-then}
 use Rattle.words.proofs.ListInverse.{identities-long, identities-back, identities-forth, numbers-long, numbers-back, numbers-forth}
@@ -80,36 +80,47 @@ module _ (r : Record) (f : SizedRecord r) where
   record-long = simp length-append (omega (arith, identities-long (r .affected) (f .affected), f .services, lists-long))
 
   pub record-back : recordFrom (recordWords r) ≡ r
-  unfolding recordWords recordFrom servicesWords
+  unfolding recordWords recordFrom figuresFrom servicesWords
   record-back =
       let a = identitiesWords (r .affected) in
       let s = servicesWords (r .services) in
       let l = listsWords (r .lists) in
-      let d = r .delivery ∷ r .acknowledgement ∷ r .definition ∷ [] in
+      let g = r .figures in
+      let d = g .delivery ∷ g .acknowledgement ∷ g .definition ∷ g .defined ∷ g .distributed ∷ g .cause ∷ [] in
       let t = l ++ d in
-      let q = r .asked ∷ r .result ∷ r .status ∷ s ++ t in
+      let three = g .asked ∷ g .result ∷ g .status ∷ [] in
+      let q = three ++ (s ++ t) in
       let long = identities-long (r .affected) (f .affected) in
       let few : length s ≡ servicesWidth = ap suc (f .services) in
       let after-a = drop-after a q identitiesWidth (listsAt - askedAt) long ∙ drop-after s t servicesWidth 0 few in
-      let last : (k : ℕ) → word t (listsWidth + k) ≡ word d k = λ k. word-after l d listsWidth k lists-long in
+      let last : (k : ℕ) → word (a ++ q) (identitiesWidth + (3 + (servicesWidth + (listsWidth + k)))) ≡ word d k =
+      λ k. word-after a q identitiesWidth (3 + (servicesWidth + (listsWidth + k))) long
+      ∙ word-after three (s ++ t) 3 (servicesWidth + (listsWidth + k)) refl
+      ∙ word-after s t servicesWidth (listsWidth + k) few
+      ∙ word-after l d listsWidth k lists-long
+      in
       λ i. record {
         kind = r .kind;
         affected = identities-back (r .affected) (f .affected) q i;
-        asked = word-after a q identitiesWidth 0 long i;
-        result = word-after a q identitiesWidth 1 long i;
-        status = word-after a q identitiesWidth 2 long i;
+        figures = record {
+          asked = word-after a q identitiesWidth 0 long i;
+          result = word-after a q identitiesWidth 1 long i;
+          status = word-after a q identitiesWidth 2 long i;
+          delivery = last 0 i;
+          acknowledgement = last 1 i;
+          definition = last 2 i;
+          defined = last 3 i;
+          distributed = last 4 i;
+          cause = last 5 i;
+        };
         services = (ap servicesFrom (drop-after a q identitiesWidth 3 long) ∙ services-back (r .services) t (f .services)) i;
         lists = (ap listsFrom after-a ∙ lists-back d) i;
-        delivery = (word-after a q identitiesWidth (deliveryAt - askedAt) long ∙ word-after s t servicesWidth listsWidth few ∙ last 0) i;
-        acknowledgement =
-            (word-after a q identitiesWidth (acknowledgementAt - askedAt) long ∙ word-after s t servicesWidth (listsWidth + 1) few ∙ last 1) i;
-        definition = (word-after a q identitiesWidth (definitionAt - askedAt) long ∙ word-after s t servicesWidth (listsWidth + 2) few ∙ last 2) i;
       }
 
 -- the lengths and digits of numbers have to be bytes
 pub record-forth : (w : List ℕ) → length w ≡ recordWidth → Bytes (take entriesWidth (drop numberEntriesAt w))
     → Bytes (take entriesWidth (drop exceptedEntriesAt w)) → recordWords (recordFrom w) ≡ w
-unfolding recordWords recordFrom
+unfolding recordWords recordFrom figuresFrom
 record-forth w h b b′ =
     let room : (at : ℕ) → length (drop at w) ≡ length w - at = λ at. length-drop at w in
     let lists =
@@ -122,7 +133,10 @@ record-forth w h b b′ =
     (spelt-then w resultAt 1 (recordWidth - statusAt) (spelt-word w resultAt (omega arith))
     (spelt-then w statusAt 1 (recordWidth - servicesAt) (spelt-word w statusAt (omega arith))
     (spelt-then w servicesAt servicesWidth (recordWidth - listsAt) (services-forth (drop servicesAt w) (omega (arith, room servicesAt)))
-    (spelt-then w listsAt listsWidth 3 lists
-    (spelt-then w deliveryAt 1 2 (spelt-word w deliveryAt (omega arith))
-    (spelt-then w acknowledgementAt 1 1 (spelt-word w acknowledgementAt (omega arith)) (spelt-word w definitionAt (omega arith))))))))))
+    (spelt-then w listsAt listsWidth 6 lists
+    (spelt-then w deliveryAt 1 5 (spelt-word w deliveryAt (omega arith))
+    (spelt-then w acknowledgementAt 1 4 (spelt-word w acknowledgementAt (omega arith))
+    (spelt-then w definitionAt 1 3 (spelt-word w definitionAt (omega arith))
+    (spelt-then w definedAt 1 2 (spelt-word w definedAt (omega arith))
+    (spelt-then w distributedAt 1 1 (spelt-word w distributedAt (omega arith)) (spelt-word w causeAt (omega arith)))))))))))))
     ∙ take-all recordWidth w (omega arith)

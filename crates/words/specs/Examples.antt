@@ -9,6 +9,7 @@ use Rattle.grammar.specs.declared.record.Identities.{Identities}
 use Rattle.grammar.specs.declared.record.Number.{Number}
 use Rattle.grammar.specs.declared.record.Numbers.{Numbers}
 use Rattle.grammar.specs.declared.record.Record.{Record}
+use Rattle.grammar.specs.Zero.{zeroFigures}
 use Rattle.grammar.specs.ProfileRecords.{A}
 use Rattle.rules.specs.ProfileCalls.{speech, group500}
 use Rattle.rules.specs.declared.request.Destination.{Destination}
@@ -17,9 +18,9 @@ use Rattle.rules.specs.declared.request.Group.{Group}
 use Rattle.rules.specs.declared.request.Group.the-variants.{Of, NoGroup}
 use Rattle.rules.specs.declared.request.Request.{Request}
 use Rattle.words.specs.Places.{affectedAt, askedAt, resultAt, statusAt, servicesAt, listsAt, deliveryAt, acknowledgementAt, definitionAt}
-use Rattle.words.specs.Places.{recordWidth, serviceAt, kindAt, identityAt}
+use Rattle.words.specs.Places.{definedAt, distributedAt, causeAt, recordWidth, serviceAt, kindAt, identityAt}
 use Rattle.words.specs.Places.{lengthAt, digitsAt, givenAt, groupAt, requestWidth}
-use Rattle.words.specs.RecordWords.{word, recordWords, recordFrom, narrowed, records}
+use Rattle.words.specs.RecordWords.{word, recordWords, recordFrom, givenFigures, narrowed, records}
 use Rattle.words.specs.RequestWords.{areRequest, requestFrom, requestWords, requests}
 
 -- n, n + 1, .., so many of them
@@ -28,8 +29,9 @@ counted n zero = []
 counted n (suc k) = n ∷ counted (n + 1) k
 
 -- where the parts begin that have a name, and how many words there are, as the tables of include/boc.h say
-record-places : affectedAt ∷ askedAt ∷ resultAt ∷ statusAt ∷ servicesAt ∷ listsAt ∷ deliveryAt ∷ acknowledgementAt ∷ definitionAt ∷ recordWidth ∷ []
-    ≡ 1 ∷ 26 ∷ 27 ∷ 28 ∷ 29 ∷ 37 ∷ 514 ∷ 515 ∷ 516 ∷ 517 ∷ []
+record-places : affectedAt ∷ askedAt ∷ resultAt ∷ statusAt ∷ servicesAt ∷ listsAt ∷ deliveryAt ∷ acknowledgementAt ∷ definitionAt
+    ∷ definedAt ∷ distributedAt ∷ causeAt ∷ recordWidth ∷ []
+    ≡ 1 ∷ 26 ∷ 27 ∷ 28 ∷ 29 ∷ 37 ∷ 514 ∷ 515 ∷ 516 ∷ 517 ∷ 518 ∷ 519 ∷ 520 ∷ []
 record-places = refl
 
 request-places : serviceAt ∷ kindAt ∷ identityAt ∷ lengthAt ∷ digitsAt ∷ givenAt ∷ groupAt ∷ requestWidth ∷ [] ≡ 2 ∷ 3 ∷ 4 ∷ 6 ∷ 7 ∷ 31 ∷ 32 ∷ 34 ∷ []
@@ -125,7 +127,17 @@ module _ (word byte : ℕ → ℕ) where
   placed = record {
     kind = word 0;
     affected = identities 1;
-    figures = toFigures (((word 26), ((word 27), (word 28))), (((word 514), ((word 515), (word 516))), (0, (0, 0))));
+    figures = record {
+      asked = word 26;
+      result = word 27;
+      status = word 28;
+      delivery = word 514;
+      acknowledgement = word 515;
+      definition = word 516;
+      defined = word 517;
+      distributed = word 518;
+      cause = word 519;
+    };
     services = record { count = word 29; list = map word (30 ∷ 31 ∷ 32 ∷ 33 ∷ 34 ∷ 35 ∷ 36 ∷ []) };
     lists = record {
       groups = identities 37;
@@ -136,19 +148,28 @@ module _ (word byte : ℕ → ℕ) where
     };
   }
 
--- its words are the values in their places, 517 of them
-placed-words : recordWords (placed (λ n. n) (λ n. n)) ≡ counted 0 517
+-- its words are the values in their places, 520 of them
+placed-words : recordWords (placed (λ n. n) (λ n. n)) ≡ counted 0 520
 unfolding records counted
 placed-words = refl
 
 -- and read back; lengths and digits are bytes there, so words from 255 on show their places by counting down
-placed-record : recordFrom (counted 0 517) ≡ placed (λ n. n) (λ n. min n 255)
+placed-record : recordFrom (counted 0 520) ≡ placed (λ n. n) (λ n. min n 255)
 unfolding records counted
 placed-record = refl
 
-placed-down : recordFrom (map (λ n. 516 - n) (counted 0 517)) ≡ placed (λ n. 516 - n) (λ n. min (516 - n) 255)
+placed-down : recordFrom (map (λ n. 519 - n) (counted 0 520)) ≡ placed (λ n. 519 - n) (λ n. min (519 - n) 255)
 unfolding records counted
 placed-down = refl
+
+-- the figures alone; of a word less or more there are none
+placed-figures : givenFigures (counted 0 520) ≡ placed (λ n. n) (λ n. n) .figures
+unfolding records counted givenFigures
+placed-figures = refl
+
+no-figures : (givenFigures (counted 0 519) ≡ zeroFigures) × (givenFigures (counted 0 521) ≡ zeroFigures)
+unfolding counted givenFigures
+no-figures = (refl, refl)
 
 -- profile A: the PDU type; the user's list and SSI; result; services; the range 100 to 199; the exception 150
 places-of-A : map (word (recordWords A)) (0 ∷ 1 ∷ 2 ∷ 27 ∷ 29 ∷ 30 ∷ 62 ∷ 63 ∷ 66 ∷ 87 ∷ 88 ∷ [])

@@ -89,8 +89,18 @@ acknowledgementAt = deliveryAt + 1
 abbrev pub definitionAt : ℕ
 definitionAt = acknowledgementAt + 1
 
+-- definition result, distribution result, rejection cause
+abbrev pub definedAt : ℕ
+definedAt = definitionAt + 1
+
+abbrev pub distributedAt : ℕ
+distributedAt = definedAt + 1
+
+abbrev pub causeAt : ℕ
+causeAt = distributedAt + 1
+
 abbrev pub recordWidth : ℕ
-recordWidth = definitionAt + 1
+recordWidth = causeAt + 1
 
 -- where the lengths and digits of restricted numbers and of exceptions to them begin
 abbrev pub numberEntriesAt : ℕ

@@ -1,23 +1,24 @@
 -- A record as words of 32 bits, in this order: PDU type; affected users; interrogation type, result, delivery status;
 -- number of services and 7 services; groups, restricted, exceptions; restricted numbers and exceptions to them;
--- delivery to affected users, acknowledgement from them, definition type.
+-- delivery to affected users, acknowledgement from them, definition type; definition result, distribution result, rejection cause.
 use Prim.Native.Nat.{ℕ, zero, suc, min}
 use mathlib.Core.Bool.{Bool, true, false}
 use mathlib.Core.List.{List, [], _∷_, _++_}
 use lib.ListN.{length, take, drop, getD}
 use lib.Dec.{eqb}
 use Rattle.bits.specs.Bits.{pick}
-use Rattle.grammar.specs.Zero.{zeroRecord}
+use Rattle.grammar.specs.Zero.{zeroFigures, zeroRecord}
 use Rattle.grammar.specs.declared.record.Identity.{Identity}
 use Rattle.grammar.specs.declared.record.Identities.{Identities}
 use Rattle.grammar.specs.declared.record.Number.{Number}
 use Rattle.grammar.specs.declared.record.Numbers.{Numbers}
+use Rattle.grammar.specs.declared.record.Figures.{Figures}
 use Rattle.grammar.specs.declared.record.Services.{Services}
 use Rattle.grammar.specs.declared.record.Lists.{Lists}
 use Rattle.grammar.specs.declared.record.Record.{Record}
 use Rattle.words.specs.Places.{listPlaces, digitPlaces, servicePlaces, identityWidth, numberWidth, restrictedAt, exceptionsAt, numbersAt}
 use Rattle.words.specs.Places.{exceptedAt, affectedAt, askedAt, resultAt, statusAt, servicesAt, listsAt, deliveryAt, acknowledgementAt, definitionAt}
-use Rattle.words.specs.Places.{recordWidth}
+use Rattle.words.specs.Places.{definedAt, distributedAt, causeAt, recordWidth}
 use Rattle.words.specs.declared.record.GivenRecord.{GivenRecord}
 
 -- ---- to words
@@ -50,8 +51,10 @@ listsWords l =
 unfoldable pub recordWords : Record → List ℕ
 recordWords r =
     r .kind ∷ identitiesWords (r .affected)
-    ++ (r .asked ∷ r .result ∷ r .status ∷ servicesWords (r .services)
-    ++ (listsWords (r .lists) ++ (r .delivery ∷ r .acknowledgement ∷ r .definition ∷ [])))
+    ++ (r .figures .asked ∷ r .figures .result ∷ r .figures .status ∷ servicesWords (r .services)
+    ++ (listsWords (r .lists)
+    ++ (r .figures .delivery ∷ r .figures .acknowledgement ∷ r .figures .definition
+    ∷ r .figures .defined ∷ r .figures .distributed ∷ r .figures .cause ∷ [])))
 
 -- ---- from words
 
@@ -95,18 +98,27 @@ listsFrom w = record {
   excepted = numbersFrom (drop exceptedAt w);
 }
 
+-- the figures have their places among the words of a whole record
+unfoldable pub figuresFrom : List ℕ → Figures
+figuresFrom w = record {
+  asked = word w askedAt;
+  result = word w resultAt;
+  status = word w statusAt;
+  delivery = word w deliveryAt;
+  acknowledgement = word w acknowledgementAt;
+  definition = word w definitionAt;
+  defined = word w definedAt;
+  distributed = word w distributedAt;
+  cause = word w causeAt;
+}
+
 unfoldable pub recordFrom : List ℕ → Record
 recordFrom w = record {
   kind = word w 0;
   affected = identitiesFrom (drop affectedAt w);
-  asked = word w askedAt;
-  result = word w resultAt;
-  status = word w statusAt;
+  figures = figuresFrom w;
   services = servicesFrom (drop servicesAt w);
   lists = listsFrom (drop listsAt w);
-  delivery = word w deliveryAt;
-  acknowledgement = word w acknowledgementAt;
-  definition = word w definitionAt;
 }
 
 -- ---- a slice of words: as many as a record has are one; another number of them gives no record and is left alone
@@ -120,13 +132,17 @@ putRecord r words = pick (areRecord (length words)) (recordWords r) words
 unfoldable pub givenRecord : List ℕ → GivenRecord
 givenRecord words = pick (areRecord (length words)) (record { given = true; found = recordFrom words }) (record { given = false; found = zeroRecord })
 
+-- the figures of as many words as a record has, otherwise zeros
+unfoldable pub givenFigures : List ℕ → Figures
+givenFigures words = pick (areRecord (length words)) (figuresFrom words) zeroFigures
+
 -- `unfolding records` opens all of it
 unfoldable pub intoWords : Unit {0}
 unfolding inTurn identityWords identitiesWords numberWords numbersWords servicesWords listsWords recordWords
 intoWords = tt
 
 unfoldable pub outOfWords : Unit {0}
-unfolding entriesFrom narrowed identityFrom identitiesFrom numberFrom numbersFrom servicesFrom listsFrom recordFrom
+unfolding entriesFrom narrowed identityFrom identitiesFrom numberFrom numbersFrom servicesFrom listsFrom figuresFrom recordFrom
 outOfWords = tt
 
 unfoldable pub records : Unit {0}

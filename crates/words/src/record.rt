@@ -1,6 +1,7 @@
 // A record as words: PDU type; affected users; interrogation type, result, delivery status; services; the five lists;
-// delivery to affected users, acknowledgement from them, definition type.
+// delivery to affected users, acknowledgement from them, definition type; definition result, distribution result, rejection cause.
 use bits::DigitCount;
+use grammar::record::Figures;
 use grammar::record::Identities;
 use grammar::record::Identity;
 use grammar::record::Lists;
@@ -8,6 +9,7 @@ use grammar::record::Number;
 use grammar::record::Numbers;
 use grammar::record::Record;
 use grammar::record::Services;
+use grammar::zero::zero_figures;
 use grammar::zero::zero_record;
 ghost use mathlib.Core.Path.{_≡_};
 ghost use mathlib.Core.List.{_∷_, []};
@@ -15,7 +17,7 @@ ghost use Prim.Native.Nat.{_+_, _≤_, _<_};
 ghost use lib.ListN.{length, take, drop};
 ghost use Rattle.words.specs.Places.{digitPlaces, identityWidth, identitiesWidth, numberWidth, numbersWidth, servicesWidth, listsWidth, recordWidth};
 ghost use Rattle.words.specs.Inner.{Put};
-ghost use Rattle.words.specs.RecordWords.{identityWords, identitiesWords, numberWords, numbersWords, servicesWords, listsWords, recordWords, narrow, narrowed, identityFrom, identitiesFrom, numberFrom, numbersFrom, servicesFrom, listsFrom, recordFrom, givenRecord, putRecord};
+ghost use Rattle.words.specs.RecordWords.{identityWords, identitiesWords, numberWords, numbersWords, servicesWords, listsWords, recordWords, narrow, narrowed, identityFrom, identitiesFrom, numberFrom, numbersFrom, servicesFrom, listsFrom, figuresFrom, recordFrom, givenRecord, givenFigures, putRecord};
 
 // ---- how many words each part has, and where it begins: after those before it
 
@@ -68,7 +70,13 @@ const ACKNOWLEDGEMENT: usize = DELIVERY + 1;
 
 const DEFINITION_TYPE: usize = ACKNOWLEDGEMENT + 1;
 
-pub const RECORD_WORDS: usize = DEFINITION_TYPE + 1;
+const DEFINITION_RESULT: usize = DEFINITION_TYPE + 1;
+
+const DISTRIBUTION_RESULT: usize = DEFINITION_RESULT + 1;
+
+const REJECTION_CAUSE: usize = DISTRIBUTION_RESULT + 1;
+
+pub const RECORD_WORDS: usize = REJECTION_CAUSE + 1;
 
 // Whether words are a record's, and that record. Beside other words all of it is zero.
 pub struct GivenRecord {
@@ -179,19 +187,33 @@ fn put_fields(words: &mut [u32], found: Record)
     ensures { λ _. ⌜ now (words .exit) ≡ recordWords found ⌝ }
 {
     let affected = found.affected;
+    let figures = found.figures;
     let services = found.services;
     let lists = found.lists;
     let affected_at = put_word(words, PDU_TYPE, found.kind);
     let asked_at = put_identities(words, affected_at, affected);
-    let services_at = put_three(words, asked_at, found.asked, found.result, found.status);
+    let services_at = put_three(
+        words,
+        asked_at,
+        figures.asked,
+        figures.result,
+        figures.status,
+    );
     let lists_at = put_services(words, services_at, services);
     let delivery_at = put_lists(words, lists_at, lists);
-    put_three(
+    let defined_at = put_three(
         words,
         delivery_at,
-        found.delivery,
-        found.acknowledgement,
-        found.definition,
+        figures.delivery,
+        figures.acknowledgement,
+        figures.definition,
+    );
+    put_three(
+        words,
+        defined_at,
+        figures.defined,
+        figures.distributed,
+        figures.cause,
     );
 }
 
@@ -326,6 +348,23 @@ fn lists_from(words: &[u32], at: usize) -> Lists
     }
 }
 
+fn nine_from(words: &[u32]) -> Figures
+    requires { ⌜ length (now words) ≡ recordWidth ⌝ }
+    ensures { λ r. ⌜ r ≡ figuresFrom (now (words .entry)) ⌝ }
+{
+    Figures {
+        asked: words[INTERROGATION_TYPE],
+        result: words[INTERROGATION_RESULT],
+        status: words[DELIVERY_STATUS],
+        delivery: words[DELIVERY],
+        acknowledgement: words[ACKNOWLEDGEMENT],
+        definition: words[DEFINITION_TYPE],
+        defined: words[DEFINITION_RESULT],
+        distributed: words[DISTRIBUTION_RESULT],
+        cause: words[REJECTION_CAUSE],
+    }
+}
+
 fn fields_from(words: &[u32]) -> Record
     requires { ⌜ length (now words) ≡ recordWidth ⌝ }
     ensures { λ r. ⌜ r ≡ recordFrom (now (words .entry)) ⌝ }
@@ -333,14 +372,9 @@ fn fields_from(words: &[u32]) -> Record
     Record {
         kind: words[PDU_TYPE],
         affected: identities_from(words, AFFECTED),
-        asked: words[INTERROGATION_TYPE],
-        result: words[INTERROGATION_RESULT],
-        status: words[DELIVERY_STATUS],
+        figures: nine_from(words),
         services: services_from(words, SERVICE_COUNT),
         lists: lists_from(words, GROUPS),
-        delivery: words[DELIVERY],
-        acknowledgement: words[ACKNOWLEDGEMENT],
-        definition: words[DEFINITION_TYPE],
     }
 }
 
@@ -358,4 +392,14 @@ pub fn record_from(words: &[u32]) -> GivenRecord
         given: true,
         found: fields_from(words),
     }
+}
+
+// The figures of as many words as a record has, otherwise zeros.
+pub fn figures_from(words: &[u32]) -> Figures
+    ensures { λ r. ⌜ r ≡ givenFigures (now (words .entry)) ⌝ }
+{
+    if words.len() != RECORD_WORDS {
+        return zero_figures();
+    }
+    nine_from(words)
 }
