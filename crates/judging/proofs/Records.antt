@@ -7,6 +7,6 @@ use Rattle.walk.specs.Walk.{headOf}
 use Rattle.judging.specs.Judge.{mayHold, judgedIs}
 use Rattle.judging.specs.declared.Judged.the-variants.{Part, Other}
 
-pub judged-record : (r : Record) → judgedIs (headOf r) ≡ pick (mayHold r) (Part (userOf r) (r .result)) Other
+pub judged-record : (r : Record) → judgedIs (headOf r) ≡ pick (mayHold r) (Part (userOf r) (r .figures .result)) Other
 unfolding judgedIs
 judged-record r = refl

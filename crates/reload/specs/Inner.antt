@@ -1,4 +1,4 @@
--- What a private function gives and leaves: the DEFINE of a body that stands in an archive's bytes.
+-- What a private function gives and leaves: the PDU that puts back a body that stands in an archive's bytes.
 use mathlib.Core.List.{List}
 use Prim.Native.Nat.{ℕ}
 use lib.ListN.{take, drop}
@@ -11,13 +11,14 @@ use Rattle.archive.specs.declared.Restored.{Restored}
 use Rattle.reload.specs.Define.{defineOf}
 use Rattle.reload.specs.Reload.{redefined}
 use Rattle.reload.specs.declared.Definition.{Definition}
+use Rattle.reload.specs.declared.Target.{Target}
 
 -- the record of the body of n bits at a place
 abbrev pub partAt : List ℕ → ℕ → ℕ → Record
 partAt b at n = readIs (take (bytesFor n) (drop at b)) n .found
 
-abbrev pub reloadedFrom : List ℕ → ℕ → ℕ → Definition → List ℕ → Restored
-reloadedFrom b at n d out = redefined d (partAt b at n) out
+abbrev pub reloadedFrom : Target → List ℕ → ℕ → ℕ → Definition → List ℕ → Restored
+reloadedFrom t b at n d out = redefined t d (partAt b at n) out
 
-abbrev pub reloadedOut : List ℕ → ℕ → ℕ → Definition → List ℕ → List ℕ
-reloadedOut b at n d out = restores (reloadedFrom b at n d out) (pack (pdu .print (defineOf d (partAt b at n)))) out
+abbrev pub reloadedOut : Target → List ℕ → ℕ → ℕ → Definition → List ℕ → List ℕ
+reloadedOut t b at n d out = restores (reloadedFrom t b at n d out) (pack (pdu .print (defineOf t d (partAt b at n)))) out

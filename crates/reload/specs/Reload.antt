@@ -21,6 +21,7 @@ use Rattle.archive.specs.declared.Restored.{Restored}
 use Rattle.archive.specs.declared.Restored.the-variants.{Bits, Refused}
 use Rattle.reload.specs.Define.{isDefinition, defineOf, stands}
 use Rattle.reload.specs.declared.Definition.{Definition}
+use Rattle.reload.specs.declared.Target.{Target}
 
 -- the record of a held PDU
 abbrev pub recordOf : Held → Record
@@ -31,26 +32,26 @@ abbrev pub asWritten : Written → Restored
 asWritten (written.Bits n) = Bits n
 asWritten (written.Refused k) = Refused (plain k)
 
--- of a part: 12 where a list that is not empty has no place in the DEFINE; then what writing it answers
-abbrev pub redefined : Definition → Record → List ℕ → Restored
-redefined d part out = guard (stands (d .definition) (part .lists)) (Refused (plain 12)) (asWritten (writeIs (defineOf d part) out))
+-- of a part: 12 where a list that is not empty has no place in the PDU; then what writing it answers
+abbrev pub redefined : Target → Definition → Record → List ℕ → Restored
+redefined t d part out = guard (stands t (d .definition) (part .lists)) (Refused (plain 12)) (asWritten (writeIs (defineOf t d part) out))
 
 -- 11 for a part that is not held
-abbrev pub reloaded : Definition → Option Held → List ℕ → Restored
-reloaded d none out = Refused (plain 11)
-reloaded d (some h) out = redefined d (recordOf h) out
+abbrev pub reloaded : Target → Definition → Option Held → List ℕ → Restored
+reloaded t d none out = Refused (plain 11)
+reloaded t d (some h) out = redefined t d (recordOf h) out
 
-unfoldable pub reloadIs : List ℕ → Key → Definition → List ℕ → Restored
-reloadIs b k d out =
+unfoldable pub reloadIs : Target → List ℕ → Key → Definition → List ℕ → Restored
+reloadIs t b k d out =
     guard (inRange k && isDefinition d) (Refused (plain 9))
     (ifArchive (checkIs b) Refused
-    (reloaded d (lookup k (reading b .held)) out))
+    (reloaded t d (lookup k (reading b .held)) out))
 
--- the bytes of the DEFINE
-abbrev pub defineBytes : Definition → Option Held → List ℕ
-defineBytes d none = []
-defineBytes d (some h) = pack (pdu .print (defineOf d (recordOf h)))
+-- the bytes of the PDU
+abbrev pub defineBytes : Target → Definition → Option Held → List ℕ
+defineBytes t d none = []
+defineBytes t d (some h) = pack (pdu .print (defineOf t d (recordOf h)))
 
 -- a refusal changes no byte
-unfoldable pub reloadOut : List ℕ → Key → Definition → List ℕ → List ℕ
-reloadOut b k d out = restores (reloadIs b k d out) (defineBytes d (lookup k (reading b .held))) out
+unfoldable pub reloadOut : Target → List ℕ → Key → Definition → List ℕ → List ℕ
+reloadOut t b k d out = restores (reloadIs t b k d out) (defineBytes t d (lookup k (reading b .held))) out
