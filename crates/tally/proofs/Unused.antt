@@ -115,10 +115,10 @@ uncarried-byte (x ∷ w) l = record {
 }
 
 -- two words, and three
-pub uncarried-two : Uncarried 2 (seq absent (λ a. absent)) (λ w. (word w 0, word w 1))
+uncarried-two : Uncarried 2 (seq absent (λ a. absent)) (λ w. (word w 0, word w 1))
 uncarried-two = uncarried-as (λ w l. λ i. (word w 0, getD-drop 1 w 0 0 i)) (uncarried-seq uncarried-word uncarried-word)
 
-pub uncarried-three : Uncarried 3 (seq absent (λ a. seq absent (λ b. absent))) (λ w. (word w 0, (word w 1, word w 2)))
+uncarried-three : Uncarried 3 (seq absent (λ a. seq absent (λ b. absent))) (λ w. (word w 0, (word w 1, word w 2)))
 uncarried-three =
     uncarried-as (λ w l. λ i. (word w 0, (getD-drop 1 w 0 0 i, getD-drop 1 w 1 0 i))) (uncarried-seq uncarried-word uncarried-two)
 
@@ -142,7 +142,7 @@ uncarried-numbers : Uncarried 201 noExternals numbersFrom
 unfolding noExternals numbersFrom
 uncarried-numbers = uncarried-shape _ _ _ _ (uncarried-seq uncarried-word (uncarried-places noExternal uncarried-number 8))
 
-uncarried-services : Uncarried 8 noServices servicesFrom
+pub uncarried-services : Uncarried 8 noServices servicesFrom
 unfolding noServices servicesFrom
 uncarried-services =
     uncarried-shape _ _ _ _ (uncarried-seq uncarried-word (uncarried-as (λ w l. words-taken 7 w l) (uncarried-places absent uncarried-word 7)))
@@ -171,7 +171,3 @@ uncarried-part =
     ))
     (uncarried-seq uncarried-identities (uncarried-seq uncarried-identities
     (uncarried-seq uncarried-identities (uncarried-seq uncarried-numbers uncarried-numbers)))))
-
--- services and lists
-pub uncarried-rest : Uncarried 485 (seq noServices (λ s. noPart)) (λ w. (servicesFrom w, listsFrom (drop 8 w)))
-uncarried-rest = uncarried-seq uncarried-services uncarried-part

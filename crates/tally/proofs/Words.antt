@@ -6,7 +6,7 @@ use native.Mathlib.Omega.{arith}
 use lib.ListN.{length, take, drop, length-drop}
 use lib.Seq.{getD-drop, drop-drop}
 use Rattle.codec.specs.Parts.{absent, seq}
-use Rattle.grammar.specs.Grammar.{noExternals, noServices, noPart}
+use Rattle.grammar.specs.Grammar.{noExternals}
 use Rattle.grammar.specs.declared.record.Identity.{Identity}
 use Rattle.grammar.specs.declared.record.Identities.{Identities}
 use Rattle.grammar.specs.declared.record.Number.{Number}
@@ -16,7 +16,7 @@ use Rattle.grammar.specs.declared.record.Lists.{Lists}
 use Rattle.words.specs.RecordWords.{word, narrow, narrowed, entriesFrom, identityFrom}
 use Rattle.words.specs.RecordWords.{identitiesFrom, numberFrom, numbersFrom, servicesFrom, listsFrom}
 use Rattle.words.proofs.Filling.{first-word}
-use Rattle.tally.proofs.Unused.{Absent, uncarried-word, uncarried-two, uncarried-three, uncarried-two-numbers, uncarried-rest}
+use Rattle.tally.proofs.Unused.{Absent, uncarried-word, uncarried-two-numbers}
 
 module _ (w : List ℕ) (at : ℕ) where
   abbrev pub identityAt : Identity
@@ -30,20 +30,6 @@ module _ (w : List ℕ) (at : ℕ) where
   pub word-unused : at < length w → Absent absent (word w at) (take 1 (drop at w))
   word-unused h =
       subst (λ (x : ℕ). Absent absent x (take 1 (drop at w))) (sym (first-word w at)) (uncarried-word (drop at w) (omega (arith, length-drop at w)))
-
-  -- two of them, and three
-  pub two-unused : at + 2 ≤ length w → Absent (seq absent (λ a. absent)) (word w at, word w (at + 1)) (take 2 (drop at w))
-  two-unused h =
-      subst (λ (x : ℕ × ℕ). Absent (seq absent (λ a. absent)) x (take 2 (drop at w)))
-      (λ i. (sym (first-word w at) i, getD-drop at w 1 0 i))
-      (uncarried-two (drop at w) (omega (arith, length-drop at w)))
-
-  pub three-unused : at + 3 ≤ length w
-      → Absent (seq absent (λ a. seq absent (λ b. absent))) (word w at, (word w (at + 1), word w (at + 2))) (take 3 (drop at w))
-  three-unused h =
-      subst (λ (x : ℕ × (ℕ × ℕ)). Absent (seq absent (λ a. seq absent (λ b. absent))) x (take 3 (drop at w)))
-      (λ i. (sym (first-word w at) i, (getD-drop at w 1 0 i, getD-drop at w 2 0 i)))
-      (uncarried-three (drop at w) (omega (arith, length-drop at w)))
 
   abbrev pub identitiesAt : Identities
   identitiesAt = record { code = word w at; entries = entriesFrom identityFrom 3 8 (drop (at + 1) w) }
@@ -106,10 +92,3 @@ pub extension-unused : (w : List ℕ) (at : ℕ) → at + 3 ≤ length w → Abs
 unfolding identityFrom
 extension-unused w at h = subst (λ (x : ℕ). Absent absent x (take 1 (drop (at + 2) w))) (sym (getD-drop at w 2 0))
     (word-unused w (at + 2) (omega arith))
-
--- the services and lists, which an INTERROGATE has none of
-pub rest-unused : (w : List ℕ) → length w ≡ 517 → Absent (seq noServices (λ s. noPart)) (servicesFrom (drop 29 w), listsFrom (drop 37 w))
-    (take 485 (drop 29 w))
-rest-unused w h =
-    subst (λ (v : List ℕ). Absent (seq noServices (λ s. noPart)) (servicesFrom (drop 29 w), listsFrom v) (take 485 (drop 29 w))) (drop-drop 8 29 w)
-    (uncarried-rest (drop 29 w) (omega (arith, length-drop 29 w)))

@@ -10,5 +10,5 @@ use Rattle.tally.specs.declared.Tally.{Tally}
 abbrev Nothing : ℕ → Type 0
 Nothing words = (t : Tally) → TalliesWords (replicate words 0) t → t ≡ record { clean = false; refusal = 0; bits = 0 }
 
-no-record : Nothing 0 × Nothing 516 × Nothing 518
+no-record : Nothing 0 × Nothing 519 × Nothing 521
 no-record = (λ t h. h .of-others refl, λ t h. h .of-others refl, λ t h. h .of-others refl)

@@ -6,24 +6,32 @@ mod lists;
 mod numbers;
 mod services;
 
+use elements::both;
+use elements::first_refusal;
 use elements::tally_element;
 use elements::tally_unused;
+use grammar::figures::figures_clean;
+use grammar::figures::figures_refusal;
+use grammar::figures::form_of;
+use grammar::figures::part_in;
+use grammar::record::Figures;
 use grammar::site::ListKind;
+use grammar::site::PduType;
 use grammar::site::SS_TYPE;
-use grammar::site::between_refusal;
-use grammar::site::defined_part;
 use grammar::site::kind_refusal;
-use grammar::site::result_refusal;
+use grammar::site::pdu_type;
 use identities::tally_identities;
 use lists::tally_part;
 use services::tally_services;
 use words::record::RECORD_WORDS;
+use words::record::figures_from;
 ghost use mathlib.Core.Path.{_≡_};
-ghost use lib.ListN.{length};
-ghost use Rattle.grammar.specs.Grammar.{define, interrogate, interrogateAck, fromRecord, pdu};
-ghost use Rattle.words.specs.RecordWords.{recordFrom};
+ghost use lib.ListN.{length, drop};
+ghost use Rattle.grammar.specs.Grammar.{restOf, fromRecord, pdu};
+ghost use Rattle.grammar.specs.Rows.{widthOf, figuresOf};
+ghost use Rattle.words.specs.RecordWords.{identitiesFrom, servicesFrom, recordFrom};
 ghost use Rattle.tally.specs.Tally.{nothing, Tallies, TalliesWords};
-ghost use Rattle.tally.specs.Inner.{Fits};
+ghost use Rattle.tally.specs.Inner.{Fits, usersIf, servicesIf};
 
 // What the parts so far come to: all is zero that must be, the first refusal number or 0, and the length in bits.
 // Each function counts one part more, from `start` on.
@@ -33,61 +41,56 @@ pub struct Tally {
     pub bits: usize,
 }
 
-// What follows the affected users in a DEFINE.
-fn tally_define(start: Tally, words: &[u32]) -> Tally
-    requires { ⌜ (length (now words) ≡ 517) × Fits define (fromRecord (recordFrom (now words)) .1 .1) start ⌝ }
-    ensures { λ r. ⌜ Tallies define (fromRecord (recordFrom (now (words .entry))) .1 .1) start r ⌝ }
+// Affected users, where the PDU has them.
+fn tally_users(start: Tally, carried: bool, words: &[u32]) -> Tally
+    requires { ⌜ (length (now words) ≡ 520) × Fits (usersIf carried) (identitiesFrom (drop 1 (now words))) start ⌝ }
+    ensures { λ r. ⌜ Tallies (usersIf carried) (identitiesFrom (drop 1 (now (words .entry)))) start r ⌝ }
 {
-    let delivery = words[514];
-    let acknowledgement = words[515];
-    let definition = words[516];
-    let none_asked = tally_unused(start, words, 26, 3);
-    let after_delivery = tally_element(none_asked, 1, delivery, 0);
-    let after_acknowledgement = tally_element(
-        after_delivery,
-        1,
-        acknowledgement,
-        between_refusal(0, delivery, acknowledgement),
-    );
-    let after_definition = tally_element(
-        after_acknowledgement,
-        2,
-        definition,
-        between_refusal(0, 2, definition),
-    );
-    let after_services = tally_services(after_definition, words, 29);
-    tally_part(after_services, defined_part(1, definition), words, 37)
+    if carried {
+        return tally_identities(start, ListKind::Users, words, 1);
+    }
+    tally_unused(start, words, 1, 25)
 }
 
-// What follows them in an INTERROGATE.
-fn tally_interrogate(start: Tally, words: &[u32]) -> Tally
-    requires { ⌜ (length (now words) ≡ 517) × Fits interrogate (fromRecord (recordFrom (now words)) .1 .1) start ⌝ }
-    ensures { λ r. ⌜ Tallies interrogate (fromRecord (recordFrom (now (words .entry))) .1 .1) start r ⌝ }
+// The figures of a type, so many bits of them.
+fn tally_figures(start: Tally, kind: PduType, width: usize, figures: Figures) -> Tally
+    requires { ⌜ (width ≡ widthOf kind) × Fits (figuresOf kind) figures start ⌝ }
+    ensures { λ r. ⌜ Tallies (figuresOf kind) figures start r ⌝ }
 {
-    let asked = words[26];
-    let after_asked = tally_element(start, 2, asked, between_refusal(1, 3, asked));
-    let no_result = tally_unused(after_asked, words, 27, 2);
-    let none_defined = tally_unused(no_result, words, 514, 3);
-    tally_unused(none_defined, words, 29, 485)
+    Tally {
+        clean: both(start.clean, figures_clean(kind, figures)),
+        refusal: first_refusal(start.refusal, figures_refusal(kind, figures)),
+        bits: start.bits + width,
+    }
 }
 
-// And in an INTERROGATE ACK.
-fn tally_interrogate_ack(start: Tally, words: &[u32]) -> Tally
-    requires { ⌜ (length (now words) ≡ 517) × Fits interrogateAck (fromRecord (recordFrom (now words)) .1 .1) start ⌝ }
-    ensures { λ r. ⌜ Tallies interrogateAck (fromRecord (recordFrom (now (words .entry))) .1 .1) start r ⌝ }
+// Services, where the PDU has them.
+fn tally_services_if(start: Tally, carried: bool, words: &[u32]) -> Tally
+    requires { ⌜ (length (now words) ≡ 520) × Fits (servicesIf carried) (servicesFrom (drop 29 (now words))) start ⌝ }
+    ensures { λ r. ⌜ Tallies (servicesIf carried) (servicesFrom (drop 29 (now (words .entry)))) start r ⌝ }
 {
-    let result = words[27];
-    let not_asked = tally_unused(start, words, 26, 1);
-    let after_result = tally_element(not_asked, 3, result, result_refusal(result));
-    let after_status = tally_element(after_result, 2, words[28], 0);
-    let none_defined = tally_unused(after_status, words, 514, 3);
-    let after_services = tally_services(none_defined, words, 29);
-    tally_part(after_services, result, words, 37)
+    if carried {
+        return tally_services(start, words, 29);
+    }
+    tally_unused(start, words, 29, 8)
 }
 
-// SS type, PDU type, affected users, and what follows them.
+// What follows the PDU type: the row of its table.
+fn tally_rest(start: Tally, kind: PduType, words: &[u32]) -> Tally
+    requires { ⌜ (length (now words) ≡ 520) × Fits (restOf kind) (fromRecord (recordFrom (now words)) .1) start ⌝ }
+    ensures { λ r. ⌜ Tallies (restOf kind) (fromRecord (recordFrom (now (words .entry))) .1) start r ⌝ }
+{
+    let form = form_of(kind);
+    let figures = figures_from(words);
+    let after_users = tally_users(start, form.users, words);
+    let after_figures = tally_figures(after_users, kind, form.width, figures);
+    let after_services = tally_services_if(after_figures, form.services, words);
+    tally_part(after_services, part_in(kind, figures), words, 37)
+}
+
+// SS type, PDU type, and what follows them.
 fn tally_record(words: &[u32]) -> Tally
-    requires { ⌜ length (now words) ≡ 517 ⌝ }
+    requires { ⌜ length (now words) ≡ 520 ⌝ }
     ensures { λ r. ⌜ Tallies pdu (recordFrom (now (words .entry))) nothing r ⌝ }
 {
     let kind = words[0];
@@ -98,14 +101,7 @@ fn tally_record(words: &[u32]) -> Tally
     };
     let after_ss = tally_element(start, 6, SS_TYPE, 0);
     let after_kind = tally_element(after_ss, 5, kind, kind_refusal(kind));
-    let after_users = tally_identities(after_kind, ListKind::Users, words, 1);
-    if kind == 5 {
-        return tally_define(after_users, words);
-    }
-    if kind == 11 {
-        return tally_interrogate(after_users, words);
-    }
-    tally_interrogate_ack(after_users, words)
+    tally_rest(after_kind, pdu_type(kind), words)
 }
 
 // The words of a record; words of another count are no record's.
