@@ -13,7 +13,7 @@ use Rattle.bits.specs.Bits.{pick, bitsOf}
 use Rattle.bits.specs.Frame.{bitsIn}
 use Rattle.bits.specs.Element.{windowAt}
 use Rattle.bits.proofs.Numbers.{bitsOf-join}
-use Rattle.bits.proofs.Tests.{both, by-test}
+use Rattle.bits.proofs.Tests.{differ, both, by-test}
 use Rattle.bits.proofs.Windows.{window-lt}
 use Rattle.codec.specs.Codec.{Codec, first}
 use Rattle.codec.specs.Parts.{numberFault, number, absent, element, seq, tested, shaped}
@@ -43,6 +43,20 @@ in-rows Interrogate = refl
 in-rows InterrogateAck = refl
 in-rows CallBarred = refl
 in-rows NoPduType = refl
+
+-- without services there are no lists
+pub no-lists : (t : PduType) (f : Figures) → formOf t .services ≡ false → partIn t f ≡ 0
+unfolding formOf partIn
+no-lists Define f e = differ e
+no-lists DefineAck f e = refl
+no-lists DefineExternal f e = differ e
+no-lists DefineUser f e = differ e
+no-lists DefineUserAck f e = refl
+no-lists DefineExternalUser f e = differ e
+no-lists Interrogate f e = refl
+no-lists InterrogateAck f e = differ e
+no-lists CallBarred f e = refl
+no-lists NoPduType f e = refl
 
 -- ---- in the window at their place
 

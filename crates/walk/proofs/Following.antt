@@ -10,7 +10,7 @@ use lib.Dec.{eqb}
 use lib.Pow.{field, shr-shr, mod-mod-pow}
 use Rattle.bits.specs.Frame.{bitsIn}
 use Rattle.bits.specs.Element.{windowAt}
-use Rattle.bits.proofs.Tests.{differ, both, picked}
+use Rattle.bits.proofs.Tests.{both, picked}
 use Rattle.codec.specs.Parts.{absent, element, only}
 use Rattle.codec.specs.Places.{places}
 use Rattle.codec.specs.Reading.{got, readAt, resume}
@@ -22,10 +22,8 @@ use Rattle.grammar.specs.SiteSheet.{ssType, pduType, kindRefusal, serviceRefusa
 use Rattle.grammar.specs.Grammar.{services, partOf}
 use Rattle.grammar.specs.Rows.{formOf, partIn, figuresOf, usersOf, widthOf, figuresIn}
 use Rattle.grammar.specs.declared.site.PduType.{PduType}
-use Rattle.grammar.specs.declared.site.PduType.the-variants.{Define, DefineAck, DefineExternal, DefineUser, DefineUserAck, DefineExternalUser}
-use Rattle.grammar.specs.declared.site.PduType.the-variants.{Interrogate, InterrogateAck, CallBarred, NoPduType}
 use Rattle.grammar.specs.declared.record.Figures.{Figures}
-use Rattle.grammar.proofs.Rows.{narrow, figures-seen}
+use Rattle.grammar.proofs.Rows.{no-lists, narrow, figures-seen}
 use Rattle.grammar.proofs.Steps.{services-at, noServices-at, noPart-at}
 use Rattle.walk.specs.Inner.{pass, passing, servicesIn, resultFrom, resultIn, Ends, Finds}
 use Rattle.walk.proofs.Passes.{past, pass-places}
@@ -71,20 +69,6 @@ services-found {s} {p} {width} at k here few is some =
     (in-window s at (k + 3) (3 * count) (p + 3) (omega arith) (omega arith) (omega arith) listed) (test .1)))
 
 -- ---- what follows the affected users
-
--- without services there are no lists
-no-lists : (t : PduType) (f : Figures) → formOf t .services ≡ false → partIn t f ≡ 0
-unfolding formOf partIn
-no-lists Define f e = differ e
-no-lists DefineAck f e = refl
-no-lists DefineExternal f e = differ e
-no-lists DefineUser f e = differ e
-no-lists DefineUserAck f e = refl
-no-lists DefineExternalUser f e = differ e
-no-lists Interrogate f e = refl
-no-lists InterrogateAck f e = differ e
-no-lists CallBarred f e = refl
-no-lists NoPduType f e = refl
 
 module _ (t : PduType) (s : List ℕ) (at : ℕ) {f : Figures} (is : f ≡ figuresIn t (windowAt s at)) (legal : figuresOf t .fault f ≡ 0) where
   -- figures stand in the window at their place

@@ -5,3 +5,4 @@ pub mod Writes
 pub mod Runs
 pub mod Codes
 pub mod Sized
+pub mod Figured

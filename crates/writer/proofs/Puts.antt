@@ -92,9 +92,12 @@ empty : (l : List Bool) → length l ≤ 0 → l ≡ []
 empty [] h = refl
 empty (b ∷ l) h = absurd (omega arith)
 
+pub no-bits : {A : Type 0} {c : Codec A} (a : A) → Within 0 c → c .print a ≡ []
+no-bits {c} a h = empty (c .print a) (h .size a)
+
 pub put-none : {A : Type 0} {c : Codec A} {a : A} {s : List ℕ} {at : ℕ} → Within 0 c → Puts c a s s at at
 put-none {c} {a} {s} {at} h =
-    let e = empty (c .print a) (h .size a) in
+    let e = no-bits a h in
     record {
       there = sym (ap (λ (l : List Bool). take at (bits s) ++ l) e ∙ append-nil (take at (bits s)));
       next = sym (ap (λ (l : List Bool). at + length l) e ∙ add-zero at);

@@ -61,6 +61,6 @@ module _ (x : Lists) (vs : List Val) (t : Is (row lists-type.the-type) x vs) whe
 pub sized-record : (x : Record) (vs : List Val) → Is (row record-type.the-type) x vs → SizedRecord x
 sized-record x vs t = record {
   affected = identities-length (x .affected) _ (t .1 .1 .1 .0);
-  services = services-length (x .services) _ (t .1 .1 .1 .1 .1 .1 .1 .0);
-  lists = sized-lists (x .lists) _ (t .1 .1 .1 .1 .1 .1 .1 .1 .0);
+  services = services-length (x .services) _ (t .1 .1 .1 .1 .1 .0);
+  lists = sized-lists (x .lists) _ (t .1 .1 .1 .1 .1 .1 .0);
 }

@@ -82,12 +82,12 @@ bits-length bits (suc n) e = never cc
 module _ (r : Record) (sized : SizedRecord r) {words : List ℕ} (spelt : words ≡ recordWords r) (out : List ℕ) where
   pub answer-back : writeWordsIs words out ≡ writeIs r out
   unfolding writeWordsIs
-  answer-back = rw (spelt, eq-eqb (length (recordWords r)) 517 (record-long r sized), record-back r sized)
+  answer-back = rw (spelt, eq-eqb (length (recordWords r)) 520 (record-long r sized), record-back r sized)
 
   pub out-back : writeWordsOut words out ≡ outIs r out
   unfolding writeWordsOut
-  out-back = rw (spelt, eq-eqb (length (recordWords r)) 517 (record-long r sized), record-back r sized)
+  out-back = rw (spelt, eq-eqb (length (recordWords r)) 520 (record-long r sized), record-back r sized)
 
-pub put-spelt : (r : Record) (words : List ℕ) → length words ≡ 517 → putRecord r words ≡ recordWords r
+pub put-spelt : (r : Record) (words : List ℕ) → length words ≡ 520 → putRecord r words ≡ recordWords r
 unfolding putRecord
-put-spelt r words e = rw (eq-eqb (length words) 517 e)
+put-spelt r words e = rw (eq-eqb (length words) 520 e)

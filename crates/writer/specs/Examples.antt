@@ -5,6 +5,7 @@ use Prim.Native.Nat.{ℕ}
 use lib.ListN.{replicate}
 use Rattle.bits.specs.Frame.{bytesOf, pack}
 use Rattle.grammar.specs.Grammar.{grammar, zeroIdentity}
+use Rattle.grammar.specs.Figures.{ofInterrogation, ofDefinition}
 use Rattle.grammar.specs.Zero.{zeroIdentities, zeroNumbers, zeroServices, zeroLists}
 use Rattle.grammar.specs.ProfileRecords.{user, A, asking}
 use Rattle.grammar.specs.declared.record.Identities.{Identities}
@@ -64,7 +65,7 @@ stray = refl
 abbrev answer : Record → Written
 answer r = writeIs r (replicate 100 0)
 
--- PDU types that are not read, named or reserved, and one wider than its element: 3
+-- PDU types that have no PDU, and one wider than its element: 3; a CALL BARRED has no affected users: 3
 abbrev typed : ℕ → Record
 typed kind = record {
   kind = kind;
@@ -76,7 +77,7 @@ typed kind = record {
 
 types : (answer (typed 11) ≡ Bits (record { 0 = 42 }))
     × (answer (typed 0) ≡ Refused 3)
-    × (answer (typed 10) ≡ Refused 3)
+    × (answer (typed 4) ≡ Refused 3)
     × (answer (typed 13) ≡ Refused 3)
     × (answer (typed 31) ≡ Refused 3)
     × (answer (typed 43) ≡ Refused 3)
@@ -158,7 +159,7 @@ nothing-written = refl
 -- an ACK for user 5 with service 1 and one restricted number: its length and the digit 1
 abbrev oneNumber : ℕ → List ℕ
 oneNumber length =
-    12 ∷ 1 ∷ 5 ∷ replicate 23 0 ++ (0 ∷ 2 ∷ 0 ∷ 1 ∷ 1 ∷ replicate 81 0 ++ (1 ∷ length ∷ 1 ∷ replicate 402 0))
+    12 ∷ 1 ∷ 5 ∷ replicate 23 0 ++ (0 ∷ 2 ∷ 0 ∷ 1 ∷ 1 ∷ replicate 81 0 ++ (1 ∷ length ∷ 1 ∷ replicate 405 0))
 
 from-words : writeWordsIs (oneNumber 1) (replicate 9 0) ≡ Bits (record { 0 = 72 })
 unfolding writing records writeWordsIs

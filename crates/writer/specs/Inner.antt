@@ -7,6 +7,12 @@ use lib.ListN.{length, take}
 use Rattle.bits.specs.Bits.{bits, bitsOf}
 use Rattle.bits.specs.Lists.{Each}
 use Rattle.codec.specs.Codec.{Codec}
+use Rattle.codec.specs.Parts.{seq}
+use Rattle.grammar.specs.Grammar.{partOf}
+use Rattle.grammar.specs.Rows.{partIn, figuresOf, servicesOf}
+use Rattle.grammar.specs.declared.site.PduType.{PduType}
+use Rattle.grammar.specs.declared.record.Figures.{Figures}
+use Rattle.grammar.specs.declared.record.Services.{Services}
 use Rattle.grammar.specs.declared.record.Lists.{Lists}
 use Rattle.words.proofs.LegalRecords.{SmallNumber}
 
@@ -41,3 +47,7 @@ RunAfter c a lead w run = (k : ℕ) → bitsOf (k + w) run ≡ bitsOf k lead ++ 
 -- up to eight bits before a place are the last of a number
 abbrev pub Ended : List ℕ → ℕ → ℕ → Type 0
 Ended out at last = (k : ℕ) → k ≤ 8 → take at (bits out) ≡ take (at - k) (bits out) ++ bitsOf k last
+
+-- what follows the affected users in a PDU of a type
+abbrev pub figured : PduType → Codec (Figures × (Services × Lists))
+figured t = seq (figuresOf t) (λ f. seq (servicesOf t) (λ s. partOf (partIn t f)))

@@ -36,7 +36,7 @@ pub fn write(r: Record, out: &mut [u8]) -> Written
     write_words(&spelt, out)
 }
 
-// The same for a record in 517 words; another number of words gives 9.
+// The same for a record in 520 words; another number of words gives 9.
 pub fn write_words(words: &[u32], out: &mut [u8]) -> Written
     ensures { λ w. ⌜ (w ≡ writeWordsIs (now (words .entry)) (now (out .entry))) × (now (out .exit) ≡ writeWordsOut (now (words .entry)) (now (out .entry))) ⌝ }
 {
@@ -53,7 +53,7 @@ pub fn write_words(words: &[u32], out: &mut [u8]) -> Written
 
 // The answer for a buffer of `room` bytes: 3 for a PDU type that we do not read or for what must be zero and is not; then the first fault; then 8.
 fn checked(words: &[u32], room: usize) -> Written
-    requires { ⌜ length (now words) ≡ 517 ⌝ }
+    requires { ⌜ length (now words) ≡ 520 ⌝ }
     ensures { λ w. ⌜ w ≡ written (lengthOf (recordFrom (now (words .entry)))) (writeRefusal (recordFrom (now (words .entry))) room) ⌝ }
 {
     let kind = words[0];
@@ -85,7 +85,7 @@ fn room_refusal(room: usize, length: BitCount) -> u32
 
 // Straight into the PDU's own bytes: the first of the buffer are lent on, exactly as many as hold it.
 fn fill(out: &mut [u8], words: &[u32], n: BitCount)
-    requires { ⌜ (length (now words) ≡ 517) × Small (recordFrom (now words) .lists) × (bytesFor (lengthOf (recordFrom (now words))) ≤ length (now out)) × (n .0 ≡ lengthOf (recordFrom (now words))) ⌝ }
+    requires { ⌜ (length (now words) ≡ 520) × Small (recordFrom (now words) .lists) × (bytesFor (lengthOf (recordFrom (now words))) ≤ length (now out)) × (n .0 ≡ lengthOf (recordFrom (now words))) ⌝ }
     ensures { λ u. ⌜ now (out .exit) ≡ pack (pdu .print (recordFrom (now (words .entry)))) ++ drop (bytesFor (lengthOf (recordFrom (now (words .entry))))) (now (out .entry)) ⌝ }
 {
     let count = n.bytes();
@@ -94,7 +94,7 @@ fn fill(out: &mut [u8], words: &[u32], n: BitCount)
 
 // The record's elements in exactly the bytes that hold them, and zeros in the unused bits of the last.
 fn fill_bytes(place: &mut [u8], words: &[u32])
-    requires { ⌜ (length (now words) ≡ 517) × Small (recordFrom (now words) .lists) × (length (now place) ≡ bytesFor (lengthOf (recordFrom (now words)))) ⌝ }
+    requires { ⌜ (length (now words) ≡ 520) × Small (recordFrom (now words) .lists) × (length (now place) ≡ bytesFor (lengthOf (recordFrom (now words)))) ⌝ }
     ensures { λ u. ⌜ now (place .exit) ≡ pack (pdu .print (recordFrom (now (words .entry)))) ⌝ }
 {
     let end = put_record(place, words);

@@ -1,9 +1,15 @@
 // A record that is not refused, put into the lent buffer part by part, each element straight from its words into its place.
 use bits::DigitCount;
+use grammar::figures::Form;
+use grammar::figures::figures_run;
+use grammar::figures::form_of;
+use grammar::figures::part_in;
+use grammar::site::PduType;
 use grammar::site::RangeType;
 use grammar::site::SS_TYPE;
-use grammar::site::defined_part;
+use grammar::site::pdu_type;
 use grammar::site::range_type;
+use words::record::figures_from;
 ghost use mathlib.Core.Path.{_≡_};
 ghost use Prim.Native.Nat.{ℕ, _+_, _*_, _^_, _≤_, _<_};
 ghost use lib.ListN.{length, take, drop};
@@ -12,11 +18,13 @@ ghost use Rattle.codec.specs.Parts.{number, seq};
 ghost use Rattle.codec.specs.Places.{places};
 ghost use Rattle.grammar.specs.SiteSheet.{entriesOf};
 ghost use Rattle.grammar.specs.Grammar.{identity, noIdentity, identities, external, noExternal, externals, services};
-ghost use Rattle.grammar.specs.Grammar.{identityPart, numberPart, partOf, define, interrogateAck, fromRecord, pdu};
+ghost use Rattle.grammar.specs.Grammar.{identityPart, numberPart, partOf, fromRecord, pdu};
+ghost use Rattle.grammar.specs.Rows.{formOf};
 ghost use Rattle.grammar.specs.declared.site.ListKind.the-variants as of;
 ghost use Rattle.words.specs.RecordWords.{entriesFrom, identityFrom, identitiesFrom, numberFrom, numbersFrom, servicesFrom, listsFrom, recordFrom};
+ghost use Rattle.tally.specs.Inner.{usersIf};
 ghost use Rattle.words.proofs.LegalRecords.{SmallNumber};
-ghost use Rattle.writer.specs.Inner.{Room, Puts, Small, CodesAfter, RunAfter, Ended};
+ghost use Rattle.writer.specs.Inner.{Room, Puts, Small, CodesAfter, RunAfter, Ended, figured};
 
 // Puts a run of up to 57 bits, the low ones of a number, at a place, and gives the next place, as each function below does. Of the bits after it
 // nothing is said.
@@ -288,44 +296,45 @@ fn put_part(out: &mut [u8], at: usize, part: u32, words: &[u32], from: usize) ->
     at
 }
 
-// ---- the three PDUs
+// ---- the PDU
 
-// What follows the affected users in a DEFINE; delivery, acknowledgement, definition type and services are one run.
-fn put_define(out: &mut [u8], at: usize, words: &[u32]) -> usize
-    requires { ⌜ (length (now words) ≡ 517) × Small (recordFrom (now words) .lists) × Room define (fromRecord (recordFrom (now words)) .1 .1) (now out) at ⌝ }
-    ensures { λ r. ⌜ Puts define (fromRecord (recordFrom (now (words .entry))) .1 .1) (now (out .entry)) (now (out .exit)) at r ⌝ }
+// The affected users, where the PDU has them.
+fn put_users(out: &mut [u8], at: usize, users: bool, words: &[u32]) -> usize
+    requires { ⌜ (length (now words) ≡ 520) × Room (usersIf users) (identitiesFrom (drop 1 (now words))) (now out) at ⌝ }
+    ensures { λ r. ⌜ Puts (usersIf users) (identitiesFrom (drop 1 (now (words .entry)))) (now (out .entry)) (now (out .exit)) at r ⌝ }
 {
-    let definition = words[516];
-    let lead = (words[514] % 2) * 8 + (words[515] % 2) * 4 + definition % 4;
-    let after_services = put_services(out, at, lead, 4, words, 29);
-    put_part(out, after_services, defined_part(1, definition), words, 37)
+    if users {
+        return put_identities(out, at, words, 1);
+    }
+    at
 }
 
-// And in an INTERROGATE ACK; result, delivery status and services are one run.
-fn put_interrogate_ack(out: &mut [u8], at: usize, words: &[u32]) -> usize
-    requires { ⌜ (length (now words) ≡ 517) × Small (recordFrom (now words) .lists) × Room interrogateAck (fromRecord (recordFrom (now words)) .1 .1) (now out) at ⌝ }
-    ensures { λ r. ⌜ Puts interrogateAck (fromRecord (recordFrom (now (words .entry))) .1 .1) (now (out .entry)) (now (out .exit)) at r ⌝ }
+// What follows the affected users in a PDU of a type; figures and services are one run.
+fn put_figured(out: &mut [u8], at: usize, kind: PduType, form: Form, words: &[u32]) -> usize
+    requires { ⌜ (length (now words) ≡ 520) × (form ≡ formOf kind) × Small (recordFrom (now words) .lists) × Room (figured kind) (fromRecord (recordFrom (now words)) .1 .1) (now out) at ⌝ }
+    ensures { λ r. ⌜ Puts (figured kind) (fromRecord (recordFrom (now (words .entry))) .1 .1) (now (out .entry)) (now (out .exit)) at r ⌝ }
 {
-    let result = words[27];
-    let lead = (result % 8) * 4 + words[28] % 4;
-    let after_services = put_services(out, at, lead, 5, words, 29);
-    put_part(out, after_services, result, words, 37)
+    let figures = figures_from(words);
+    let run = figures_run(kind, figures);
+    let width = form.width;
+    if !form.services {
+        return put_run(out, at, width, run);
+    }
+    let lead = (run % 32) as u32;
+    let after_services = put_services(out, at, lead, width, words, 29);
+    put_part(out, after_services, part_in(kind, figures), words, 37)
 }
 
 // The whole record, from the first bit on: SS type, PDU type, affected users, and what follows them.
 pub(crate) fn put_record(out: &mut [u8], words: &[u32]) -> usize
-    requires { ⌜ (length (now words) ≡ 517) × Small (recordFrom (now words) .lists) × Room pdu (recordFrom (now words)) (now out) 0 ⌝ }
+    requires { ⌜ (length (now words) ≡ 520) × Small (recordFrom (now words) .lists) × Room pdu (recordFrom (now words)) (now out) 0 ⌝ }
     ensures { λ r. ⌜ Puts pdu (recordFrom (now (words .entry))) (now (out .entry)) (now (out .exit)) 0 r ⌝ }
 {
-    let kind = words[0];
+    let code = words[0];
+    let kind = pdu_type(code);
+    let form = form_of(kind);
     let after_ss = put_element(out, 0, 6, SS_TYPE);
-    let after_kind = put_element(out, after_ss, 5, kind);
-    let after_users = put_identities(out, after_kind, words, 1);
-    if kind == 5 {
-        return put_define(out, after_users, words);
-    }
-    if kind == 11 {
-        return put_element(out, after_users, 2, words[26]);
-    }
-    put_interrogate_ack(out, after_users, words)
+    let after_kind = put_element(out, after_ss, 5, code);
+    let after_users = put_users(out, after_kind, form.users, words);
+    put_figured(out, after_users, kind, form, words)
 }

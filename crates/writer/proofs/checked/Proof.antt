@@ -28,7 +28,7 @@ returns c =
 -- the words are a record's
 tallied : (c : tie.After-tally-words) → Tallies pdu (recordFrom (now (c .before .before .before .before .before .args .words))) nothing
     (c .tally-words .result)
-tallied c = c .tally-words .ensures .of-record (eq-eqb _ 517 (c .before .before .before .before .before .pre))
+tallied c = c .tally-words .ensures .of-record (eq-eqb _ 520 (c .before .before .before .before .before .pre))
 
 returns-2 : tie.Need-returns-2
 returns-2 c =

@@ -14,7 +14,7 @@ returns c =
     let p = c .before .before .before .before .before .before in
     let b = p .before .before .before in
     let sized = sized-record (b .args .r) _ (b .good .0) in
-    let spelt = p .put-record .ensures ∙ put-spelt (b .args .r) (replicate 517 0) (length-replicate {A = ℕ} 517 0) in
+    let spelt = p .put-record .ensures ∙ put-spelt (b .args .r) (replicate 520 0) (length-replicate {A = ℕ} 520 0) in
     let e = c .before .before .write-words .ensures in
     (e .0 ∙ answer-back (b .args .r) sized spelt (now (b .args .out)), e .1 ∙ out-back (b .args .r) sized spelt (now (b .args .out)))
 

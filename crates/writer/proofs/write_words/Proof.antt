@@ -14,7 +14,7 @@ use Rattle.writer.proofs.write_words.Tie as tie
 
 returns : tie.Need-returns
 unfolding writeWordsIs writeWordsOut
-returns c = rw (ne-eqb (length (now (c .before .before .before .args .words))) 517 (c .if1 .taken)) (refl, refl)
+returns c = rw (ne-eqb (length (now (c .before .before .before .args .words))) 520 (c .if1 .taken)) (refl, refl)
 
 returns-2 : tie.Need-returns-2
 unfolding writeWordsIs writeWordsOut writeIs outIs
@@ -24,7 +24,7 @@ returns-2 c =
     let a = q .args in
     let r = recordFrom (now (a .words)) in
     let k = c .before .before .checked in
-    rw (eq-eqb (length (now (a .words))) 517 (p .if1 .left))
+    rw (eq-eqb (length (now (a .words))) 520 (p .if1 .left))
     (k .ensures, sym (rw (refused-some (lengthOf r) (writeRefusal r (length (now (a .out)))) (sym (k .ensures) ∙ c .enum-told .given .1))))
 
 -- the answer is a length
@@ -56,7 +56,7 @@ returns-3 c =
     let q = p .before .before in
     let r = q .before in
     let s = r .before .before .before in
-    rw (eq-eqb (length (now (s .args .words))) 517 (r .if1 .left))
+    rw (eq-eqb (length (now (s .args .words))) 520 (r .if1 .left))
     (sym (told p), rw (none p) (c .before .before .fill .ensures))
 
 pub write-words-spec : {M : Type 1} → statement M

@@ -1,132 +1,99 @@
--- SS type, PDU type, affected users, and what follows them by the PDU type. Assumes nothing.
-use mathlib.Core.List.{List}
-use Prim.Native.Nat.{ℕ}
-use borrow.Author.Tests.{eq-eqb, ne-eqb}
-use Rattle.codec.specs.Parts.{element, seq, mark, only}
-use Rattle.codec.proofs.Sizes.{size-seq, size-absent}
-use Rattle.grammar.specs.SiteSheet.{ssType, kindRefusal, askedRefusal}
-use Rattle.grammar.specs.Grammar.{identities, interrogationType, noDefinition, interrogate, restOf, fromRecord, pdu}
-use Rattle.grammar.specs.declared.site.ListKind.the-variants.{Users, Identities}
-use Rattle.grammar.proofs.Sizes.{size-noServices, size-noPart}
-use Rattle.words.specs.RecordWords.{word, recordFrom}
-use Rattle.writer.specs.Inner.{Room, Puts}
-use Rattle.writer.proofs.Puts.{room-first, room-next, room-shape, room-element, room-listing}
-use Rattle.writer.proofs.Puts.{put-then, put-shape, put-element, put-listing, put-none}
+-- SS type, PDU type, affected users, and what follows them. Assumes nothing.
 use borrow.Author.Needs.{needs}
+use mathlib.Core.Path.{_≡_, sym, subst}
 use native.Mathlib.Omega.{arith}
 use denote.Ref.{now}
+use Rattle.codec.specs.Codec.{Codec}
+use Rattle.codec.specs.Parts.{element, seq, mark, only}
+use Rattle.grammar.specs.SiteSheet.{ssType, pduType, kindRefusal}
+use Rattle.grammar.specs.Grammar.{Rest, restOf, fromRecord, pdu}
+use Rattle.grammar.specs.Rows.{usersOf, rowed}
+use Rattle.grammar.specs.declared.site.PduType.{PduType}
+use Rattle.grammar.proofs.Rows.{in-rows}
+use Rattle.words.specs.RecordWords.{recordFrom}
+use Rattle.writer.specs.Inner.{Room, Puts}
+use Rattle.writer.proofs.Puts.{room-first, room-next, room-shape, room-element, put-then, put-shape, put-element}
 use Rattle.writer.proofs.put.put_record.Statement.{statement}
 use Rattle.writer.proofs.put.put_record.Tie as tie
+
+abbrev start : tie.After-form-of → tie.Start
+start c = c .before .before .before .before .before
+
+-- the type is that of the first word
+typed : (c : tie.After-form-of) → c .before .pdu-type .result ≡ pduType (recordFrom (now (start c .args .words)) .kind)
+unfolding recordFrom
+typed c = c .before .pdu-type .ensures
 
 put-element-requires : tie.Need-put-element-requires
 unfolding pdu mark
 put-element-requires c κs =
-    let p = c .before .before .before .before in
-    (omega arith, room-element 6 (only ssType) (room-first _ (room-shape _ _ _ _ (p .pre .2))))
+    (omega arith, room-element 6 (only ssType) (room-first _ (room-shape _ _ _ _ (start (c .before) .pre .2))))
 
 -- after the SS type
-kind-room : (c : tie.After-put-element) → let r = recordFrom (now (c .before .before .before .before .before .args .words)) in
-    Room (seq (element 5 kindRefusal) (λ kind. seq (identities Users) (λ users. restOf kind))) (fromRecord r) (c .put-element .last .0)
-    (c .put-element .result)
+kind-room : (c : tie.After-put-element) → let r = recordFrom (now (start (c .before .before) .args .words)) in
+    Room (seq (element 5 kindRefusal) (λ kind. restOf (pduType kind))) (fromRecord r) (c .put-element .last .0) (c .put-element .result)
 unfolding pdu mark
 kind-room c =
-    let p = c .before .before .before .before .before in
-    room-shape _ _ _ _ (room-next _ (room-shape _ _ _ _ (p .pre .2)) (put-element 6 (only ssType) (c .put-element .ensures)))
+    room-shape _ _ _ _ (room-next _ (room-shape _ _ _ _ (start (c .before .before) .pre .2)) (put-element 6 (only ssType) (c .put-element .ensures)))
 
 put-element-requires-2 : tie.Need-put-element-requires-2
 unfolding recordFrom
 put-element-requires-2 c κs = (omega arith, room-element 5 kindRefusal (room-first _ (kind-room (c .before .before .before))))
 
--- after the PDU type
-users-room : (c : tie.After-put-element2) → let r = recordFrom (now
-    (c .before .before .before .before .before .before .before .before .before .args .words)) in
-    Room (seq (identities Users) (λ users. restOf (r .kind))) (fromRecord r .1) (c .put-element2 .last .0) (c .put-element2 .result)
+-- after the PDU type: the row of its table
+row-room : (c : tie.After-put-element2) → let f = c .before .before .before .before .before .before in
+    Room (rowed (f .before .pdu-type .result)) (fromRecord (recordFrom (now (start f .args .words))) .1) (c .put-element2 .last .0) (c .put-element2 .result)
 unfolding recordFrom
-users-room c = room-next _ (kind-room (c .before .before .before .before)) (put-element 5 kindRefusal (c .put-element2 .ensures))
+row-room c =
+    let f = c .before .before .before .before .before .before in
+    let r = recordFrom (now (start f .args .words)) in
+    subst (λ (t : PduType). Room (rowed t) (fromRecord r .1) (c .put-element2 .last .0) (c .put-element2 .result)) (sym (typed f))
+    (subst (λ (t : Codec Rest). Room t (fromRecord r .1) (c .put-element2 .last .0) (c .put-element2 .result)) (in-rows (pduType (r .kind)))
+    (room-next _ (kind-room (c .before .before .before .before)) (put-element 5 kindRefusal (c .put-element2 .ensures))))
 
-put-identities-requires : tie.Need-put-identities-requires
+put-users-requires : tie.Need-put-users-requires
 unfolding recordFrom
-put-identities-requires c κs =
-    let p = c .before .before .before in
-    let q = p .before .before .before .before .before .before .before .before .before in
-    (omega (arith, q .pre .0), room-listing Users Identities (room-first _ (users-room p)))
+put-users-requires c κs =
+    let k = c .before .before .before in
+    let f = k .before .before .before .before .before .before in
+    (start f .pre .0, rw (f .form-of .ensures) (room-first _ (row-room k)))
 
-abbrev start : tie.After-put-identities → tie.Start
-start c = c .before .before .before .before .before .before .before .before .before .before .before .before .before
-
-abbrev kind : tie.After-put-identities → ℕ
-kind c = word (now (start c .args .words)) 0
-
--- after the affected users
-rest-room : (c : tie.After-put-identities) →
-    Room (restOf (kind c)) (fromRecord (recordFrom (now (start c .args .words))) .1 .1) (c .put-identities .last .0) (c .put-identities .result)
+users : (c : tie.After-put-users) → let k = c .before .before .before .before in let f = k .before .before .before .before .before .before in
+    Puts (usersOf (f .before .pdu-type .result)) (recordFrom (now (start f .args .words)) .affected)
+    (k .put-element2 .last .0) (c .put-users .last .0) (k .put-element2 .result) (c .put-users .result)
 unfolding recordFrom
-rest-room c =
-    let p = c .before .before .before .before in
-    room-next _ (users-room p) (put-listing Identities Users (c .put-identities .ensures))
+users c =
+    let k = c .before .before .before .before in let f = k .before .before .before .before .before .before in
+    rw (f .form-of .ensures) at (c .put-users .ensures)
 
--- and then the whole
-done : (c : tie.After-put-identities) → let r = recordFrom (now (start c .args .words)) in (out : List ℕ) (end : ℕ)
-    → Puts (restOf (kind c)) (fromRecord r .1 .1) (c .put-identities .last .0) out (c .put-identities .result) end
-    → Puts pdu r (now (start c .args .out)) out 0 end
-unfolding pdu mark recordFrom
-done c out end p =
-    let q = c .before .before .before .before in
-    let r = q .before .before .before .before in
-    put-shape _ _ _ _ (put-then _ (room-shape _ _ _ _ (start c .pre .2)) (put-element 6 (only ssType) (r .put-element .ensures))
-    (λ h. put-shape _ _ _ _ (put-then _ (room-shape _ _ _ _ h) (put-element 5 kindRefusal (q .put-element2 .ensures))
-    (λ k. put-then _ k (put-listing Identities Users (c .put-identities .ensures)) (λ m. p)))))
-
-put-define-requires : tie.Need-put-define-requires
-put-define-requires c κs =
-    let p = c .before .before .before .before in
-    (start p .pre .0, start p .pre .1, rw (eq-eqb (kind p) 5 (c .before .if1 .taken)) at (rest-room p))
+put-figured-requires : tie.Need-put-figured-requires
+put-figured-requires c κs =
+    let u = c .before .before .before in
+    let k = u .before .before .before .before in
+    let f = k .before .before .before .before .before .before in
+    (start f .pre .0, f .form-of .ensures, start f .pre .1, room-next _ (row-room k) (users u))
 
 returns : tie.Need-returns
+unfolding pdu mark recordFrom
 returns c =
-    let d = c .before .before in
-    let t = d .before .before in
-    let p = t .before .before .before in
-    done p _ _ (rw (eq-eqb (kind p) 5 (t .if1 .taken)) (d .put-define .ensures))
-
--- an INTERROGATE has its type, and nothing after it
-asking-room : (c : tie.Then2) → let p = c .before .before .before .before in
-    Room interrogate (fromRecord (recordFrom (now (start p .args .words))) .1 .1) (p .put-identities .last .0) (p .put-identities .result)
-asking-room c =
-    let p = c .before .before .before .before in
-    rw (ne-eqb (kind p) 5 (c .before .if1 .left), eq-eqb (kind p) 11 (c .if2 .taken)) at (rest-room p)
-
-put-element-requires-3 : tie.Need-put-element-requires-3
-unfolding interrogate interrogationType recordFrom
-put-element-requires-3 c κs = (omega arith, room-element 2 askedRefusal (room-first _ (room-first _ (asking-room (c .before .before)))))
-
-returns-2 : tie.Need-returns-2
-unfolding interrogate interrogationType noDefinition recordFrom
-returns-2 c =
-    let t = c .before .before .before .before .before in
-    let p = t .before .before .before .before in
-    let two = size-seq size-absent (λ x. size-absent) in
-    done p _ _ (rw (ne-eqb (kind p) 5 (t .before .if1 .left), eq-eqb (kind p) 11 (t .if2 .taken))
-    (put-then _ (asking-room t)
-    (put-then _ (room-first _ (asking-room t)) (put-element 2 askedRefusal (c .before .before .put-element3 .ensures)) (λ k. put-none two))
-    (λ k. put-none (size-seq (size-seq size-absent (λ x. two)) (λ d. size-seq size-noServices (λ s. size-noPart))))))
-
-put-interrogate-ack-requires : tie.Need-put-interrogate-ack-requires
-put-interrogate-ack-requires c κs =
-    let e = c .before .before in
-    let p = e .before .before .before in
-    (start p .pre .0, start p .pre .1, rw (ne-eqb (kind p) 5 (e .if1 .left), ne-eqb (kind p) 11 (c .before .if2 .left)) at (rest-room p))
-
-returns-3 : tie.Need-returns-3
-returns-3 c =
-    let a = c .before .before in
-    let e = a .before .before .before in
-    let p = e .before .before .before in
-    done p _ _ (rw (ne-eqb (kind p) 5 (e .if1 .left), ne-eqb (kind p) 11 (a .before .before .if2 .left)) (a .put-interrogate-ack .ensures))
+    let g = c .before .before in
+    let u = g .before .before .before .before in
+    let k = u .before .before .before .before in
+    let e = k .before .before .before .before in
+    let f = e .before .before in
+    let r = recordFrom (now (start f .args .words)) in
+    let row = put-then _ (row-room k) (users u) (λ h. g .put-figured .ensures) in
+    let rest = subst (λ (t : Codec Rest). Puts t (fromRecord r .1) (k .put-element2 .last .0) (g .put-figured .last .0) (k .put-element2 .result)
+    (g .put-figured .result)) (sym (in-rows (pduType (r .kind))))
+    (subst (λ (t : PduType). Puts (rowed t) (fromRecord r .1) (k .put-element2 .last .0) (g .put-figured .last .0) (k .put-element2 .result)
+    (g .put-figured .result)) (typed f) row) in
+    put-shape _ _ _ _ (put-then _ (room-shape _ _ _ _ (start f .pre .2)) (put-element 6 (only ssType) (e .put-element .ensures))
+    (λ h. put-shape _ _ _ _ (put-then _ (room-shape _ _ _ _ h) (put-element 5 kindRefusal (k .put-element2 .ensures))
+    (λ m. rest))))
 
 pub put-record-spec : {M : Type 1} → statement M
 put-record-spec =
     tie.close
     (tie.spec
-    (λ c. search needs) put-element-requires put-element-requires-2 put-identities-requires put-define-requires (λ c. search needs) returns
-    (λ c. search needs) put-element-requires-3 (λ c. search needs) returns-2 put-interrogate-ack-requires (λ c. search needs) returns-3)
+    (λ c. search needs) (λ c κs. search needs) (λ c κs. search needs) put-element-requires put-element-requires-2 put-users-requires
+    put-figured-requires (λ c. search needs) returns)
