@@ -57,10 +57,11 @@ fn tally_figures(start: Tally, kind: PduType, width: usize, figures: Figures) ->
     requires { ⌜ (width ≡ widthOf kind) × Fits (figuresOf kind) figures start ⌝ }
     ensures { λ r. ⌜ Tallies (figuresOf kind) figures start r ⌝ }
 {
+    let bits = start.bits + width;
     Tally {
         clean: both(start.clean, figures_clean(kind, figures)),
         refusal: first_refusal(start.refusal, figures_refusal(kind, figures)),
-        bits: start.bits + width,
+        bits,
     }
 }
 

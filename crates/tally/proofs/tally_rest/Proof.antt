@@ -64,7 +64,8 @@ figures : (c : tie.After-tally-figures) → let b = c .before .before in
     Tallies (figuresOf (kind b)) (figuresFrom (words b)) (c .before .tally-users .result) (c .tally-figures .result)
 figures c =
     let b = c .before .before in
-    subst (λ (f : Figures). Tallies (figuresOf (kind b)) f (c .before .tally-users .result) (c .tally-figures .result)) (found b) (c .tally-figures .ensures)
+    let u = c .before .tally-users .result in
+    subst (λ (f : Figures). Tallies (figuresOf (kind b)) f u (c .tally-figures .result)) (found b) (c .tally-figures .ensures)
 
 services-as : (c : tie.After-figures-from) → servicesIf (c .before .form-of .result .services) ≡ servicesOf (kind c)
 services-as c = ap (λ (f : Form). servicesIf (f .services)) (c .before .form-of .ensures)
