@@ -63,11 +63,18 @@ figuresOf InterrogateAck = interrogationResult
 figuresOf CallBarred = rejectionCause
 figuresOf NoPduType = noFigures
 
+-- affected users, and services, where the PDU has them
+abbrev pub usersIf : Bool → Codec Identities
+usersIf carried = pick carried (identities of.Users) noIdentities
+
+abbrev pub servicesIf : Bool → Codec Services
+servicesIf carried = pick carried services noServices
+
 abbrev pub usersOf : PduType → Codec Identities
-usersOf t = pick (formOf t .users) (identities of.Users) noIdentities
+usersOf t = usersIf (formOf t .users)
 
 abbrev pub servicesOf : PduType → Codec Services
-servicesOf t = pick (formOf t .services) services noServices
+servicesOf t = servicesIf (formOf t .services)
 
 -- a PDU's row
 abbrev pub rowed : PduType → Codec Rest

@@ -5,27 +5,15 @@ use mathlib.Core.List.{List}
 use Prim.Native.Nat.{ℕ, _+_, _*_, _/_, _^_, _≤_, _<_}
 use lib.ListN.{length, drop}
 use lib.Dec.{leb}
-use Rattle.bits.specs.Bits.{pick}
 use Rattle.bits.specs.Lists.{every}
 use Rattle.codec.specs.Codec.{Codec}
-use Rattle.grammar.specs.Grammar.{identities, noIdentities, services, noServices}
 use Rattle.grammar.specs.declared.record.Identity.{Identity}
-use Rattle.grammar.specs.declared.record.Identities.{Identities}
-use Rattle.grammar.specs.declared.record.Services.{Services}
-use Rattle.grammar.specs.declared.site.ListKind.the-variants.{Users}
 use Rattle.words.specs.RecordWords.{identityFrom}
 use Rattle.tally.specs.declared.Tally.{Tally}
 
 -- after what is counted, the part's own length fits: no PDU is longer than 4,096 bits
 pub record Fits {A : Type 0} (c : Codec A) (a : A) (t : Tally) : Type 0 where
   pub short : t .bits + length (c .print a) ≤ 4096
-
--- affected users, and services, where the PDU has them
-abbrev pub usersIf : Bool → Codec Identities
-usersIf carried = pick carried (identities Users) noIdentities
-
-abbrev pub servicesIf : Bool → Codec Services
-servicesIf carried = pick carried services noServices
 
 -- whether no number of a list is above the greatest that it may be
 unfoldable pub noneAbove : ℕ → List ℕ → Bool

@@ -28,10 +28,10 @@ use words::record::figures_from;
 ghost use mathlib.Core.Path.{_≡_};
 ghost use lib.ListN.{length, drop};
 ghost use Rattle.grammar.specs.Grammar.{restOf, fromRecord, pdu};
-ghost use Rattle.grammar.specs.Rows.{widthOf, figuresOf};
+ghost use Rattle.grammar.specs.Rows.{usersIf, servicesIf, figuresOf, widthOf};
 ghost use Rattle.words.specs.RecordWords.{identitiesFrom, servicesFrom, recordFrom};
 ghost use Rattle.tally.specs.Tally.{nothing, Tallies, TalliesWords};
-ghost use Rattle.tally.specs.Inner.{Fits, usersIf, servicesIf};
+ghost use Rattle.tally.specs.Inner.{Fits};
 
 // What the parts so far come to: all is zero that must be, the first refusal number or 0, and the length in bits.
 // Each function counts one part more, from `start` on.

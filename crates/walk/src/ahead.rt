@@ -10,11 +10,11 @@ use grammar::site::SS_TYPE;
 ghost use mathlib.Core.Path.{_≡_};
 ghost use Prim.Native.Nat.{_+_, _*_, _^_, _≤_, _<_};
 ghost use lib.ListN.{length, take};
-ghost use Rattle.bits.specs.Bits.{pick, bits};
+ghost use Rattle.bits.specs.Bits.{bits};
 ghost use Rattle.bits.specs.Element.{windowAt};
 ghost use Rattle.grammar.specs.SiteSheet.{serviceRefusal};
-ghost use Rattle.grammar.specs.Grammar.{identity, identities, noIdentities, external, externals, partOf};
-ghost use Rattle.grammar.specs.Rows.{formOf};
+ghost use Rattle.grammar.specs.Grammar.{identity, identities, external, externals, partOf};
+ghost use Rattle.grammar.specs.Rows.{formOf, usersIf};
 ghost use Rattle.grammar.specs.declared.site.ListKind.the-variants as of;
 ghost use Rattle.codec.specs.declared.Reached.the-variants as reached;
 ghost use Rattle.walk.specs.Inner.{pass, steps, range, coded, passing, servicesIn, resultFrom, resultIn, Ends, Finds};
@@ -233,7 +233,7 @@ fn beyond(start: usize) -> Ahead
 // The affected users, where the PDU has them: their range type stands in its first window.
 fn users_ahead(s: &[u8], first: u64, users: bool) -> usize
     requires { ⌜ first ≡ windowAt (now s) 0 ⌝ }
-    ensures { λ r. ⌜ Ends (pass (pick users (identities of.Users) noIdentities)) (now (s .entry)) 11 4101 r ⌝ }
+    ensures { λ r. ⌜ Ends (pass (usersIf users)) (now (s .entry)) 11 4101 r ⌝ }
 {
     if !users {
         return 11;

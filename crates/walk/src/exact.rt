@@ -10,14 +10,13 @@ use grammar::site;
 use grammar::site::ListKind;
 use grammar::site::PduType;
 ghost use mathlib.Core.Path.{_≡_};
-ghost use Rattle.bits.specs.Bits.{pick};
 ghost use Rattle.bits.specs.Frame.{bitsIn};
 ghost use Rattle.codec.specs.Parts.{element};
 ghost use Rattle.codec.specs.Reading.{resume, readAt};
 ghost use Rattle.codec.proofs.Onward.{placed};
 ghost use Rattle.grammar.specs.SiteSheet.{digitRefusal, serviceRefusal, between, reserved};
-ghost use Rattle.grammar.specs.Grammar.{identity, identities, noIdentities, external, externals, services, noServices, partOf, definition, userDefinition};
-ghost use Rattle.grammar.specs.declared.site.ListKind.the-variants as of;
+ghost use Rattle.grammar.specs.Grammar.{identity, identities, external, externals, services, partOf, definition, userDefinition};
+ghost use Rattle.grammar.specs.Rows.{usersIf, servicesIf};
 ghost use Rattle.grammar.specs.declared.site.PduType.the-variants as type;
 ghost use Rattle.walk.specs.Inner.{pass, steps, range, definedFrom, steeredFrom, resultIn};
 
@@ -196,7 +195,7 @@ fn pass_part(s: &[u8], n: BitCount, start: Reached, part: u32) -> Reached
 
 // The affected users, where the PDU has them.
 fn pass_users(s: &[u8], n: BitCount, start: Reached, users: bool) -> Reached
-    ensures { λ r. ⌜ r ≡ pass (pick users (identities of.Users) noIdentities) (bitsIn (n .0) (now (s .entry))) start ⌝ }
+    ensures { λ r. ⌜ r ≡ pass (usersIf users) (bitsIn (n .0) (now (s .entry))) start ⌝ }
 {
     if users {
         return pass_identities(s, n, start, ListKind::Users);
@@ -206,7 +205,7 @@ fn pass_users(s: &[u8], n: BitCount, start: Reached, users: bool) -> Reached
 
 // Services, where the PDU has them.
 fn pass_served(s: &[u8], n: BitCount, start: Reached, served: bool) -> Reached
-    ensures { λ r. ⌜ r ≡ pass (pick served services noServices) (bitsIn (n .0) (now (s .entry))) start ⌝ }
+    ensures { λ r. ⌜ r ≡ pass (servicesIf served) (bitsIn (n .0) (now (s .entry))) start ⌝ }
 {
     if served {
         return pass_services(s, n, start);

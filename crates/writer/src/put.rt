@@ -19,10 +19,9 @@ ghost use Rattle.codec.specs.Places.{places};
 ghost use Rattle.grammar.specs.SiteSheet.{entriesOf};
 ghost use Rattle.grammar.specs.Grammar.{identity, noIdentity, identities, external, noExternal, externals, services};
 ghost use Rattle.grammar.specs.Grammar.{identityPart, numberPart, partOf, fromRecord, pdu};
-ghost use Rattle.grammar.specs.Rows.{formOf};
+ghost use Rattle.grammar.specs.Rows.{formOf, usersIf};
 ghost use Rattle.grammar.specs.declared.site.ListKind.the-variants as of;
 ghost use Rattle.words.specs.RecordWords.{entriesFrom, identityFrom, identitiesFrom, numberFrom, numbersFrom, servicesFrom, listsFrom, recordFrom};
-ghost use Rattle.tally.specs.Inner.{usersIf};
 ghost use Rattle.words.proofs.LegalRecords.{SmallNumber};
 ghost use Rattle.writer.specs.Inner.{Room, Puts, Small, CodesAfter, RunAfter, Ended, figured};
 

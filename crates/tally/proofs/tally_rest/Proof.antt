@@ -9,7 +9,7 @@ use denote.Ref.{now}
 use lib.ListN.{drop}
 use Rattle.codec.specs.Parts.{seq}
 use Rattle.grammar.specs.Grammar.{partOf}
-use Rattle.grammar.specs.Rows.{partIn, figuresOf, usersOf, servicesOf, rowed}
+use Rattle.grammar.specs.Rows.{partIn, figuresOf, usersIf, servicesIf, usersOf, servicesOf, rowed}
 use Rattle.grammar.specs.declared.site.PduType.{PduType}
 use Rattle.grammar.specs.declared.figures.Form.{Form}
 use Rattle.grammar.specs.declared.record.Figures.{Figures}
@@ -17,7 +17,7 @@ use Rattle.grammar.proofs.Rows.{in-rows}
 use Rattle.words.specs.RecordWords.{identitiesFrom, servicesFrom, listsFrom, figuresFrom, recordFrom}
 use Rattle.words.proofs.Given.{figures-found}
 use Rattle.tally.specs.Tally.{Tallies}
-use Rattle.tally.specs.Inner.{Fits, usersIf, servicesIf}
+use Rattle.tally.specs.Inner.{Fits}
 use Rattle.tally.proofs.Parts.{then, fits-first, fits-next, tallies-as, fits-as}
 use Rattle.tally.proofs.tally_rest.Statement.{statement}
 use Rattle.tally.proofs.tally_rest.Tie as tie
