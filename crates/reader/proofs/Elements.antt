@@ -85,9 +85,7 @@ module _ (s : List ℕ) (at : ℕ) where
   pub number-fits : (w : ℕ) → 1 ≤ w → length s ≤ 512 → Reads (number w) (bits s) at → at + w ≤ 4096
   number-fits w h l r = omega (arith, length-bits s, number-there (bits s) at w h (r .read .same))
 
-  -- ---- an identity
-
-  all-bits : bitsIn (8 * length s) s ≡ bits s
+  pub all-bits : bitsIn (8 * length s) s ≡ bits s
   all-bits = take-all (8 * length s) (bits s) (omega (arith, length-bits s))
 
   -- a number anywhere in a window
@@ -95,6 +93,8 @@ module _ (s : List ℕ) (at : ℕ) where
       → readAt (number w) (bits s) p ≡ got (v / 2 ^ (57 - k - w) % 2 ^ w) (p + w)
   number-inside w k {p} {v} ep h inside there e =
       rw e (rw all-bits at (number-in-window s (8 * length s) at k w p (p + w) ep refl h inside (rw all-bits there)))
+
+  -- ---- an identity
 
   module _ (r : Reads identity (bits s) at) where
     pub identity-short : at + 25 ≤ length (bits s)

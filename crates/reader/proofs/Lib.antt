@@ -2,5 +2,6 @@ pub mod Elements
 pub mod Entries
 pub mod Alike
 pub mod Parts
+pub mod Rows
 pub mod Runs
 pub mod Walked

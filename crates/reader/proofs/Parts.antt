@@ -2,24 +2,22 @@
 -- Assumes nothing.
 use mathlib.Core.Path.{_≡_, refl, sym, ap, _∙_, subst}
 use mathlib.Core.Bool.{Bool, true}
-use mathlib.Core.List.{List, _++_, append-assoc}
+use mathlib.Core.List.{List, _++_}
 use Prim.Native.Nat.{ℕ, _+_, _≤_}
 use native.Mathlib.Nat.{add-assoc}
-use native.Mathlib.Omega.{arith}
 use lib.ListN.{length, replicate}
 use Rattle.codec.specs.Codec.{Codec}
-use Rattle.codec.specs.Parts.{number, absent, numberFault, element, seq, tested, shaped, mark, only, first-none}
+use Rattle.codec.specs.Parts.{number, numberFault, element, seq, tested, shaped, mark, only, first-none}
 use Rattle.codec.specs.Places.{places}
 use Rattle.codec.specs.Reading.{got, andNext, unlessAt, readAt}
-use Rattle.codec.proofs.Reading.{readAt-seq, readAt-tested, readAt-shaped, readAt-absent, readAt-legal, mark-at}
-use Rattle.grammar.specs.Grammar.{noIdentities, noExternals, noServices, noPart, Interrogation, Definition}
-use Rattle.grammar.specs.Zero.{zeroIdentities, zeroNumbers, zeroServices, zeroLists}
-use Rattle.grammar.proofs.Steps.{noIdentities-at, noExternals-at, noServices-at, noPart-at}
+use Rattle.codec.proofs.Reading.{readAt-seq, readAt-tested, readAt-shaped, readAt-legal, mark-at}
+use Rattle.grammar.specs.Grammar.{noIdentities, noExternals}
+use Rattle.grammar.specs.Zero.{zeroIdentities, zeroNumbers}
+use Rattle.grammar.proofs.Steps.{noIdentities-at, noExternals-at}
 use Rattle.walk.proofs.Numbers.{element-says}
 use Rattle.words.specs.Inner.{Put}
-use Rattle.words.specs.RecordWords.{servicesWords, listsWords}
 use Rattle.words.proofs.Putting as words
-use Rattle.reader.specs.Inner.{one, three, listed, listedWords, restWords, Read, Reads, Fillable, Fills}
+use Rattle.reader.specs.Inner.{one, Read, Reads, Fillable, Fills}
 use Rattle.reader.proofs.Elements.{steps, first-reads, passed, number-end}
 use Rattle.reader.proofs.Entries.{put-as}
 
@@ -141,28 +139,6 @@ no-numbers s at = readAt-seq noExternals (λ l. noExternals) s at ∙ rw (noExte
 -- a list of identities that the PDU does not carry
 pub no-identities : (s : List Bool) (at : ℕ) → Read noIdentities s at zeroIdentities at
 no-identities s at = record { same = noIdentities-at s at }
-
--- three numbers, and services with lists, that the PDU does not carry
-pub none-of-three : (s : List Bool) (at : ℕ) → Read (seq absent (λ a. seq absent (λ b. absent))) s at (0, (0, 0)) at
-none-of-three s at = record { same = rw (readAt-seq, readAt-absent, readAt-seq, readAt-absent, readAt-absent) }
-
-pub none-listed : (s : List Bool) (at : ℕ) → Read (seq noServices (λ c. noPart)) s at (zeroServices, zeroLists) at
-none-listed s at = record { same = rw (readAt-seq, noServices-at, noPart-at) }
-
--- ---- what follows the affected users: an interrogation's numbers, services and lists, a definition's numbers
-
-pub rest-fill : {c : Codec Interrogation} {d : Codec Definition} (part : Interrogation → Definition → ℕ) {s : List Bool} {at m n end to : ℕ}
-    {i : Interrogation} {q : Definition} {w w₁ w₂ w₃ : List ℕ}
-    → Read c s at i m → Read d s m q n → to + 491 ≤ length w → length w₁ ≡ length w → Put w to (three i) 3 w₁ (to + 3)
-    → Fills (listed (part i q)) listedWords 485 s n w₁ (to + 3) w₂ end → Put w₂ (to + 3 + 485) (three q) 3 w₃ (to + 3 + 485 + 3)
-    → Fills (seq c (λ i. seq d (λ q. listed (part i q)))) restWords 491 s at w to w₃ end
-rest-fill part {to = to} {i = i} {q = q} a b room long p f r = record {
-  value = (i, (q, f .value));
-  read = read-then _ _ a (read-then _ _ b (f .read));
-  put =
-      put-as (words.then (omega arith) p (words.then (omega (arith, long)) (f .put) r))
-      (ap (λ (x : List ℕ). three i ++ x) (append-assoc (servicesWords (f .value .0)) (listsWords (f .value .1)) (three q))) refl (omega arith);
-}
 
 -- ---- a fixed number before a part: it has no word
 

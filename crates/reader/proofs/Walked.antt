@@ -105,19 +105,19 @@ module _ (s : List ℕ) (n : ℕ) where
 -- ---- the record that the words give back
 
 given-back : (r : Record) → Legal pdu r → givenRecord (recordWords r) .found ≡ r
-given-back r l = let f = record-sized r l in record-found (recordWords r) (eq-eqb _ 517 (record-long r f)) ∙ record-back r f
+given-back r l = let f = record-sized r l in record-found (recordWords r) (eq-eqb _ 520 (record-long r f)) ∙ record-back r f
 
-given-zeros : givenRecord (replicate 517 0) .found ≡ zeroRecord
+given-zeros : givenRecord (replicate 520 0) .found ≡ zeroRecord
 unfolding givenRecord records
 given-zeros = refl
 
 -- what reading accepts is read back from its words, and zeros are the record beside a refusal
-pub found-back : (s : List ℕ) (n : ℕ) → givenRecord (readWords s n (replicate 517 0)) .found ≡ readIs s n .found
+pub found-back : (s : List ℕ) (n : ℕ) → givenRecord (readWords s n (replicate 520 0)) .found ≡ readIs s n .found
 unfolding readIs readWords
 found-back s n = go (framed s n) (wholeParse pdu (bitsIn n s)) refl
   where
     go : (t : Bool) (o : Outcome Record) → wholeParse pdu (bitsIn n s) ≡ o → let q = pick t (answered o) (refusing 1 Nowhere) in
-        givenRecord (ifAccepted (q .answer) (recordWords (q .found)) (replicate 517 0)) .found ≡ q .found
+        givenRecord (ifAccepted (q .answer) (recordWords (q .found)) (replicate 520 0)) .found ≡ q .found
     go true (ok r at left) e = given-back r (whole-sound pdu (bitsIn n s) r at left e .0)
     go true (no k p) e = given-zeros
     go false o e = given-zeros

@@ -4,35 +4,43 @@ use mathlib.Core.Bool.{Bool}
 use mathlib.Core.List.{List, [], _∷_, _++_}
 use Prim.Native.Nat.{ℕ, _+_, _-_, _*_, _/_, _%_, _^_, _≤_}
 use lib.ListN.{length}
-use Rattle.bits.specs.Bits.{bits}
+use Rattle.bits.specs.Bits.{bits, pick}
 use Rattle.bits.proofs.Table.{values}
 use Rattle.codec.specs.Codec.{Codec}
 use Rattle.codec.specs.Parts.{seq}
 use Rattle.codec.specs.Reading.{got, readAt}
-use Rattle.grammar.specs.Grammar.{services, partOf, Rest}
+use Rattle.grammar.specs.Grammar.{services, noServices, partOf, Rest}
+use Rattle.grammar.specs.declared.record.Figures.{Figures}
 use Rattle.grammar.specs.declared.record.Services.{Services}
 use Rattle.grammar.specs.declared.record.Lists.{Lists}
 use Rattle.words.specs.Inner.{Put}
-use Rattle.words.specs.RecordWords.{servicesWords, listsWords}
+use Rattle.words.specs.RecordWords.{identitiesWords, servicesWords, listsWords}
 
 -- a number as one word
 abbrev pub one : ℕ → List ℕ
 one x = x ∷ []
 
--- three numbers as words: those of an interrogation, or of a definition
-abbrev pub three : ℕ × (ℕ × ℕ) → List ℕ
-three (a, (b, c)) = a ∷ b ∷ c ∷ []
-
--- services and the lists of a part, and their words
-abbrev pub listed : ℕ → Codec (Services × Lists)
-listed part = seq services (λ s. partOf part)
+-- services, if they are carried, and the lists of a part; and their words
+abbrev pub listed : Bool → ℕ → Codec (Services × Lists)
+listed served part = seq (pick served services noServices) (λ s. partOf part)
 
 abbrev pub listedWords : Services × Lists → List ℕ
 listedWords (s, l) = servicesWords s ++ listsWords l
 
--- what follows the affected users, as words: those of a definition come last
+-- the figures of an interrogation, of a definition and of an outcome, as words
+abbrev pub interrogationWords : Figures → List ℕ
+interrogationWords f = f .asked ∷ f .result ∷ f .status ∷ []
+
+abbrev pub definitionWords : Figures → List ℕ
+definitionWords f = f .delivery ∷ f .acknowledgement ∷ f .definition ∷ []
+
+abbrev pub outcomeWords : Figures → List ℕ
+outcomeWords f = f .defined ∷ f .distributed ∷ f .cause ∷ []
+
+-- what follows the PDU type, as words: figures of a definition and of an outcome come last
 abbrev pub restWords : Rest → List ℕ
-restWords (i, (d, (s, l))) = three i ++ (servicesWords s ++ (listsWords l ++ three d))
+restWords (u, (f, (s, l))) =
+    identitiesWords u ++ (interrogationWords f ++ (servicesWords s ++ (listsWords l ++ (definitionWords f ++ outcomeWords f))))
 
 -- the part c at a place is the value v, up to `end`
 pub record Read {A : Type 0} (c : Codec A) (s : List Bool) (at : ℕ) (v : A) (end : ℕ) : Type 0 where

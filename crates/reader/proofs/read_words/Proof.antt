@@ -1,4 +1,4 @@
--- 517 words or 9; then the walk's refusal, or the words of the record that it accepts. Assumes nothing.
+-- 520 words or 9; then the walk's refusal, or the words of the record that it accepts. Assumes nothing.
 use mathlib.Core.Path.{_≡_, sym, ap, _∙_}
 use mathlib.Core.Bool.{true, false}
 use native.Mathlib.Omega.{arith}
@@ -20,7 +20,7 @@ returns c =
     let e : areRecord (length (now (c .before .before .before .args .words))) ≡ false = ne-eqb _ _ (c .if1 .taken) in
     (rw e, rw e)
 
--- there are 517 words
+-- there are 520 words
 whole : (c : tie.Else1) → areRecord (length (now (c .before .before .before .args .words))) ≡ true
 whole c = eq-eqb _ _ (c .if1 .left)
 
