@@ -18,7 +18,7 @@ use Rattle.archive.specs.declared.filing.Filing.the-variants.{Under, Now
 -- a user's network is the extension if present, otherwise the home network; results 1 and 2 are parts 1 and 2: identities, numbers
 abbrev pub entryFor : ℕ → Record → ℕ → Entry
 entryFor home r n = record {
-  key = record { network = networkOf home (userOf r); ssi = userOf r .ssi; part = r .result };
+  key = record { network = networkOf home (userOf r); ssi = userOf r .ssi; part = r .figures .result };
   bits = record { 0 = n };
 }
 

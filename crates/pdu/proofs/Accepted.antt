@@ -1,5 +1,6 @@
 -- What is accepted is framed and legal, and the numbers of its first affected user have 24 bits. Assumes nothing.
-use mathlib.Core.Path.{_≡_}
+use mathlib.Core.Path.{_≡_, subst}
+use mathlib.Core.Bool.{Bool, true, false}
 use mathlib.Core.List.{List, [], _∷_}
 use Prim.Native.Nat.{ℕ, _^_, _<_}
 use native.Mathlib.Omega.{arith}
@@ -10,10 +11,13 @@ use Rattle.bits.specs.Lists.{Each}
 use Rattle.bits.proofs.Tests.{by-test}
 use Rattle.codec.specs.Codec.{Codec, Legal}
 use Rattle.codec.proofs.Legality.{legal-seq, legal-shaped, legal-tested, legal-mark, legal-number, legal-absent, legal-places}
-use Rattle.grammar.specs.SiteSheet.{entriesOf}
-use Rattle.grammar.specs.Grammar.{extension, identity, noIdentity, zeroIdentity, identities, pdu}
+use Rattle.grammar.specs.SiteSheet.{entriesOf, pduType}
+use Rattle.grammar.specs.Grammar.{extension, identity, noIdentity, zeroIdentity, identities, noIdentities, Rest, fromRecord, pdu}
+use Rattle.grammar.specs.Rows.{formOf, usersIf, rowed}
 use Rattle.grammar.specs.declared.record.Identity.{Identity}
+use Rattle.grammar.specs.declared.record.Identities.{Identities}
 use Rattle.grammar.specs.declared.record.Record.{Record}
+use Rattle.grammar.proofs.Rows.{in-rows}
 use Rattle.reader.specs.Read.{readIs}
 use Rattle.reader.specs.declared.Answer.the-variants.{Accepted}
 use Rattle.pdu.specs.Accepted.{acceptedAs}
@@ -53,12 +57,25 @@ first-small : (l : List Identity) → Each Small l → Small (getD l 0 zeroIdent
 first-small [] h = record { ssi = omega arith; extension = omega arith }
 first-small (e ∷ l) (h, t) = h
 
+-- what follows the PDU type of a legal record is legal by its row
+pub row-legal : (r : Record) → Legal pdu r → Legal (rowed (pduType (r .kind))) (fromRecord r .1)
+unfolding pdu
+row-legal r h =
+    subst (λ (c : Codec Rest). Legal c (fromRecord r .1)) (in-rows (pduType (r .kind)))
+    (legal-seq _ _ _ (legal-shaped _ _ _ _ _ _ (legal-mark _ _ _ _ h)) .1)
+
+-- an affected user, or none
+listed-small : (users : Bool) (l : Identities) → Legal (usersIf users) l → Small (getD (l .entries) 0 zeroIdentity)
+unfolding identities noIdentities
+listed-small true l h =
+    let k = legal-tested _ _ _ _ (legal-seq _ _ _ (legal-shaped _ _ _ _ _ _ h) .1) in
+    first-small (l .entries) (legal-places Small identity-small unused-small 8 (entriesOf (l .code)) (l .entries) k .1)
+listed-small false l h =
+    let k = legal-seq _ _ _ (legal-shaped _ _ _ _ _ _ h) .1 in
+    first-small (l .entries) (legal-places Small unused-small unused-small 8 0 (l .entries) k .1)
+
 users-small : (r : Record) → Legal pdu r → Small (getD (r .affected .entries) 0 zeroIdentity)
-unfolding pdu identities
-users-small r h =
-    let users = legal-seq _ _ _ (legal-seq _ _ _ (legal-shaped _ _ _ _ _ _ (legal-mark _ _ _ _ h)) .1) .0 in
-    let l = legal-tested _ _ _ _ (legal-seq _ _ _ (legal-shaped _ _ _ _ _ _ users) .1) in
-    first-small (r .affected .entries) (legal-places Small identity-small unused-small 8 (entriesOf (r .affected .code)) (r .affected .entries) l .1)
+users-small r h = listed-small (formOf (pduType (r .kind)) .users) (r .affected) (legal-seq _ _ _ (row-legal r h) .0)
 
 pub accepted-small : (s : List ℕ) (n : ℕ) → readIs s n .answer ≡ Accepted
     → (getD (readIs s n .found .affected .entries) 0 zeroIdentity .ssi < 16777216)

@@ -1,20 +1,17 @@
 -- What is refused in writing: 3 or 4, before the buffer is looked at. Assumes nothing.
-use mathlib.Core.Path.{_≡_, refl, sym, subst}
-use mathlib.Core.Bool.{Bool, true, false, _&&_}
+use mathlib.Core.Bool.{_&&_}
 use mathlib.Core.List.{[], _∷_}
 use Prim.Native.Nat.{ℕ, _^_}
 use lib.Dec.{ltb}
-use Rattle.bits.specs.Bits.{pick}
-use Rattle.bits.proofs.Tests.{both, by-test}
+use Rattle.bits.proofs.Tests.{by-test}
 use Rattle.codec.specs.Codec.{Codec, first}
-use Rattle.codec.specs.Parts.{isZero, is-zero, number, absent, element, seq, tested, shaped, mark}
+use Rattle.codec.specs.Parts.{isZero, number, absent, seq, tested, shaped}
 use Rattle.codec.specs.Places.{nil, cons}
 use Rattle.codec.proofs.Kept.{Kept}
-use Rattle.grammar.specs.SiteSheet.{ssType, kindRefusal}
-use Rattle.grammar.specs.Grammar.{fromRecord, pdu}
-use Rattle.grammar.proofs.Parts.{of-identities, of-rest}
+use Rattle.grammar.specs.SiteSheet.{kindRefusal}
+use Rattle.grammar.specs.Grammar.{pdu}
+use Rattle.grammar.proofs.Parts.{of-pdu}
 use Rattle.writer.specs.Write.{recordRefusal}
-use Rattle.grammar.specs.declared.site.ListKind.the-variants.{Users}
 use Rattle.grammar.specs.declared.record.Record.{Record}
 
 -- no refusal, 3 or 4
@@ -44,20 +41,7 @@ within = record {
   shaped = λ c to from there back h b. h (from b);
 }
 
--- A record whose PDU type we read has no fault, or one with 3 or 4.
-pdu-fault : (r : Record) → kindRefusal (r .kind) ≡ 0 → ThreeOrFour (pdu .fault r)
-unfolding pdu mark shaped seq element tested
-pdu-fault r e =
-    firstly (firstly (within .number 6 ssType) none)
-    (firstly (firstly (within .number 5 (r .kind)) (subst ThreeOrFour (sym e) none))
-    (firstly (of-identities ThreeOrFour none three four Within within Users (r .affected))
-    (of-rest ThreeOrFour none three four Within within (r .kind) (fromRecord r .1 .1))))
-
 -- a record is refused with 3 or 4, and nothing else
 pub refused-with : (r : Record) → ThreeOrFour (recordRefusal r)
 unfolding recordRefusal
-refused-with r = go (isZero (kindRefusal (r .kind)) && pdu .clean r) refl
-  where
-    go : (t : Bool) → isZero (kindRefusal (r .kind)) && pdu .clean r ≡ t → ThreeOrFour (pick t (pdu .fault r) 3)
-    go true e = pdu-fault r (is-zero (kindRefusal (r .kind)) (both (isZero (kindRefusal (r .kind))) (pdu .clean r) e .0))
-    go false e = three
+refused-with r = by-test ThreeOrFour (isZero (kindRefusal (r .kind)) && pdu .clean r) (of-pdu ThreeOrFour none three four Within within r) three

@@ -19,9 +19,8 @@ use Rattle.codec.specs.Codec.{Outcome, ok, no, Legal, first}
 use Rattle.codec.specs.Parts.{first-none, numberFault, number, seq, tested, element, shaped, mark, only, isZero}
 use Rattle.codec.specs.Whole.{wholeParse}
 use Rattle.codec.proofs.Whole.{whole-reads, whole-sound}
-use Rattle.grammar.specs.SiteSheet.{ssType, kindRefusal}
-use Rattle.grammar.specs.Grammar.{pdu, identities, restOf, fromRecord}
-use Rattle.grammar.specs.declared.site.ListKind.the-variants.{Users}
+use Rattle.grammar.specs.SiteSheet.{ssType, pduType, kindRefusal}
+use Rattle.grammar.specs.Grammar.{pdu, restOf, fromRecord}
 use Rattle.grammar.specs.declared.record.Record.{Record}
 use Rattle.grammar.proofs.Sizes.{pdu-size}
 use Rattle.walk.specs.declared.BitPlace.{BitPlace}
@@ -87,8 +86,7 @@ record-unique s n r q a b =
 kind-read : (r : Record) → pdu .fault r ≡ 0 → kindRefusal (r .kind) ≡ 0
 unfolding pdu mark shaped seq element tested number
 kind-read r e =
-    let rest = (restOf (r .kind)) .fault (fromRecord r .1 .1) in
-    let tail = first ((identities Users) .fault (r .affected)) rest in
+    let tail = (restOf (pduType (r .kind))) .fault (fromRecord r .1) in
     let kind = first (numberFault 5 (r .kind)) (kindRefusal (r .kind)) in
     let a = first-none (first (numberFault 6 ssType) (only ssType ssType)) (first kind tail) e in
     let b = first-none kind tail (a .1) in

@@ -59,7 +59,7 @@ affectedUser r = getD (r .affected .entries) 0 zeroIdentity
 pub record Agrees (home : ℕ) (h : Held) (r : Record) : Type 0 where
   pub body : LegalPdu (h .body) (h .entry .bits .0) r
   pub accepting : Holdable r
-  pub part : h .entry .key .part ≡ r .result
+  pub part : h .entry .key .part ≡ r .figures .result
   pub ssi : h .entry .key .ssi ≡ affectedUser r .ssi
   pub network : NetworkOf home (affectedUser r) (h .entry .key .network)
 

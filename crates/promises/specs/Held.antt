@@ -26,7 +26,7 @@ use Rattle.archive.proofs.Model.Checked.{archive-checked}
 -- an INTERROGATE ACK (PDU type 12) that accepts (interrogation result 1 or 2), for one user (affected range type 1)
 pub record Holdable (r : Record) : Type 0 where
   pub kind : r .kind ≡ 12
-  pub result : (r .result ≡ 1) ⊎ (r .result ≡ 2)
+  pub result : (r .figures .result ≡ 1) ⊎ (r .figures .result ≡ 2)
   pub affected : r .affected .code ≡ 1
 
 pub one-or-two : (v : ℕ) → 1 ≤ v → v ≤ 2 → (v ≡ 1) ⊎ (v ≡ 2)
@@ -38,18 +38,18 @@ one-or-two v l h = go (leb v 1) refl
 
 says : (r : Record) → mayHold r ≡ true → Holdable r
 says r m =
-    let p = both (eqb (r .kind) 12) (leb 1 (r .result) && (leb (r .result) 2 && eqb (r .affected .code) 1)) m in
-    let q = both (leb 1 (r .result)) (leb (r .result) 2 && eqb (r .affected .code) 1) (p .1) in
-    let t = both (leb (r .result) 2) (eqb (r .affected .code) 1) (q .1) in
-    record { kind = eqb-true _ _ (p .0); result = one-or-two (r .result) (leb-true _ _ (q .0)) (leb-true _ _ (t .0)); affected = eqb-true _ _ (t .1) }
+    let p = both (eqb (r .kind) 12) (leb 1 (r .figures .result) && (leb (r .figures .result) 2 && eqb (r .affected .code) 1)) m in
+    let q = both (leb 1 (r .figures .result)) (leb (r .figures .result) 2 && eqb (r .affected .code) 1) (p .1) in
+    let t = both (leb (r .figures .result) 2) (eqb (r .affected .code) 1) (q .1) in
+    record { kind = eqb-true _ _ (p .0); result = one-or-two (r .figures .result) (leb-true _ _ (q .0)) (leb-true _ _ (t .0)); affected = eqb-true _ _ (t .1) }
 
 is : (r : Record) → Holdable r → mayHold r ≡ true
 is r h = go (h .result)
   where
-    at : 1 ≤ r .result → r .result ≤ 2 → mayHold r ≡ true
+    at : 1 ≤ r .figures .result → r .figures .result ≤ 2 → mayHold r ≡ true
     at l g = both⁻¹ (eq-eqb _ _ (h .kind)) (both⁻¹ (le-leb _ _ l) (both⁻¹ (le-leb _ _ g) (eq-eqb _ _ (h .affected))))
 
-    go : (r .result ≡ 1) ⊎ (r .result ≡ 2) → mayHold r ≡ true
+    go : (r .figures .result ≡ 1) ⊎ (r .figures .result ≡ 2) → mayHold r ≡ true
     go (inl e) = at (omega (arith, e)) (omega (arith, e))
     go (inr e) = at (omega (arith, e)) (omega (arith, e))
 

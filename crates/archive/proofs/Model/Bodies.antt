@@ -112,12 +112,12 @@ agrees-is home h a =
 -- ---- numbers fit their bytes
 
 -- a PDU that may be held is of part 1 or 2
-pub part-is : (r : Record) → mayHold r ≡ true → (1 ≤ r .result) × (r .result ≤ 2)
+pub part-is : (r : Record) → mayHold r ≡ true → (1 ≤ r .figures .result) × (r .figures .result ≤ 2)
 part-is r m =
-    let p = both (eqb (r .kind) 12) (leb 1 (r .result) && (leb (r .result) 2 && eqb (r .affected .code) 1)) m in
-    let q = both (leb 1 (r .result)) (leb (r .result) 2 && eqb (r .affected .code) 1) (p .1) in
-    let t = both (leb (r .result) 2) (eqb (r .affected .code) 1) (q .1) in
-    (leb-true 1 (r .result) (q .0), leb-true (r .result) 2 (t .0))
+    let p = both (eqb (r .kind) 12) (leb 1 (r .figures .result) && (leb (r .figures .result) 2 && eqb (r .affected .code) 1)) m in
+    let q = both (leb 1 (r .figures .result)) (leb (r .figures .result) 2 && eqb (r .affected .code) 1) (p .1) in
+    let t = both (leb (r .figures .result) 2) (eqb (r .affected .code) 1) (q .1) in
+    (leb-true 1 (r .figures .result) (q .0), leb-true (r .figures .result) 2 (t .0))
 
 pub record Fits (h : Held) : Type 0 where
   pub entry : EntryFits (h .entry)
