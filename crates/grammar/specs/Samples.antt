@@ -1,4 +1,4 @@
--- Values for the computed examples: identities, numbers, lists, services, and a record of each PDU. Nothing is to be believed of them.
+-- Values for the computed examples: identities, numbers, lists, services, and a record of each PDU. No statement rests on them.
 use mathlib.Core.List.{List, _++_}
 use Prim.Native.Nat.{ℕ, _-_}
 use lib.ListN.{length, replicate}

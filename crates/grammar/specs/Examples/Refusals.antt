@@ -66,11 +66,44 @@ reserved-outcome : (reading (head 6 ++ user ++ (3, 5) ∷ []) ≡ no 3 40)
 unfolding grammar
 reserved-outcome = (refl, refl, refl)
 
+-- interrogation type 0; interrogation result 5
+reserved-interrogation : (reading (head 11 ++ user ++ (2, 0) ∷ []) ≡ no 3 40)
+    × (reading (head 12 ++ user ++ (3, 5) ∷ (2, 0) ∷ service) ≡ no 3 40)
+unfolding grammar
+reserved-interrogation = (refl, refl)
+
+-- no service; service 4
+reserved-service : (reading (head 7 ++ user ++ definition 0 0 2 ++ (3, 0) ∷ []) ≡ no 3 44)
+    × (reading (head 8 ++ userDefinition 0 2 ++ (3, 0) ∷ []) ≡ no 3 14)
+    × (reading (head 10 ++ userDefinition 0 2 ++ (3, 0) ∷ []) ≡ no 3 14)
+    × (reading (head 7 ++ user ++ definition 0 0 2 ++ (3, 1) ∷ (3, 4) ∷ []) ≡ no 3 47)
+    × (reading (head 8 ++ userDefinition 0 2 ++ (3, 1) ∷ (3, 4) ∷ []) ≡ no 3 17)
+    × (reading (head 10 ++ userDefinition 0 2 ++ (3, 1) ∷ (3, 4) ∷ []) ≡ no 3 17)
+unfolding grammar
+reserved-service = (refl, refl, refl, refl, refl, refl)
+
 -- no affected user, in tables 11 and 12
 nobody-affected : (reading (head 6 ++ (4, 0) ∷ (3, 1) ∷ []) ≡ no 3 11)
     × (reading (head 7 ++ (4, 0) ∷ definition 0 0 2 ++ service) ≡ no 3 11)
 unfolding grammar
 nobody-affected = (refl, refl)
+
+-- range type 10 for closed user groups
+reserved-range : (reading (head 7 ++ user ++ definition 0 0 0 ++ service ++ (4, 10) ∷ []) ≡ no 3 50)
+    × (reading (head 8 ++ userDefinition 0 0 ++ service ++ (4, 10) ∷ []) ≡ no 3 20)
+    × (reading (head 10 ++ userDefinition 0 0 ++ service ++ (4, 10) ∷ []) ≡ no 3 20)
+unfolding grammar
+reserved-range = (refl, refl, refl)
+
+-- a restricted external number in table 12: of 0 and of 25 digits; its second digit is 13
+abbrev dialled : Elements → Elements
+dialled number = head 7 ++ user ++ definition 0 0 0 ++ service ++ (4, 0) ∷ (4, 1) ∷ number
+
+no-number : (reading (dialled ((5, 0) ∷ [])) ≡ no 3 58)
+    × (reading (dialled ((5, 25) ∷ [])) ≡ no 3 58)
+    × (reading (dialled ((5, 2) ∷ (4, 1) ∷ (4, 13) ∷ [])) ≡ no 3 67)
+unfolding grammar
+no-number = (refl, refl, refl)
 
 -- a range of external numbers in table 12: restricted, excepted
 number-range : (reading (head 7 ++ user ++ definition 0 0 0 ++ service ++ (4, 0) ∷ (4, 9) ∷ (4, 0) ∷ []) ≡ no 3 54)
