@@ -9,7 +9,7 @@ use lib.Dec.{eqb, leb}
 use Rattle.bits.specs.Bits.{pick}
 use Rattle.bits.proofs.Tests.{both, picked, by-test}
 use Rattle.codec.specs.Parts.{isZero}
-use Rattle.grammar.specs.SiteSheet.{rangeType, rowOfType, rowOf, entriesOf, refusalIn, rangeRefusal, digitOf, digitRefusal, between}
+use Rattle.grammar.specs.SiteSheet.{rangeType, rowOfType, rowOf, entriesOf, refusalIn, rangeRefusal, digitOf, digitRefusal, between, reserved}
 use Rattle.grammar.specs.Grammar.{rangeEnds}
 use Rattle.grammar.specs.declared.record.Identity.{Identity}
 use Rattle.grammar.specs.declared.site.RangeType.{RangeType}
@@ -53,6 +53,14 @@ not-nine code h l = rw (ne-eqb code 9 h)
 -- a value that is not outside its bounds
 pub between-le : (low high v : ℕ) → between low high v ≡ 0 → v ≤ high
 between-le low high v h = leb-true v high (both (leb low v) (leb v high) (picked (leb low v && leb v high) h (λ e. omega arith) .0) .1)
+
+-- what is reserved from low to high is exactly what is between them
+pub reserved-between : (low high v : ℕ) {r : ℕ} → r ≡ between low high v → reserved low high v ≡ pick (eqb r 0) 3 0
+reserved-between low high v e = rw e (go (leb low v && leb v high))
+  where
+    go : (t : Bool) → pick {A = ℕ} t 3 0 ≡ pick (eqb (pick t 0 3) 0) 3 0
+    go true = refl
+    go false = refl
 
 -- ---- digits
 

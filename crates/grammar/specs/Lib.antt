@@ -4,6 +4,6 @@ pub mod Figures
 pub mod Zero
 pub mod Rows
 pub mod ProfileRecords
-pub mod Examples
-pub mod DefineExamples
+pub mod Samples
 pub mod Tables
+pub mod Examples

@@ -114,7 +114,8 @@ acknowledgementRefusal delivery = between 0 delivery
 abbrev pub definitionRefusal : ℕ → ℕ
 definitionRefusal = between 0 2
 
--- the part whose lists a definition carries: its own for addition (0) and replacement (1), none for any other (note 4 of tables 10 and 12, note 1 of 13 and 15)
+-- the part whose lists a definition carries: its own for addition (0) and replacement (1), none for any other (note 4 of tables 10 and 12,
+-- note 1 of 13 and 15)
 unfoldable pub definedPart : ℕ → ℕ → ℕ
 definedPart part definition = pick (leb definition 1) part 0
 

@@ -1,9 +1,9 @@
 -- Every code table over all values of its width, in plain values: what each code means, and the refusal number of each, 0 for none, by its
--- definition and as that element of a PDU. Tables are those of EN 300 392-12-18, clause 5.3.2; the others are the site sheet's.
+-- definition and as that element of every PDU that has it. Tables are those of EN 300 392-12-18, clause 5.3.2; the others are the site sheet's.
 use mathlib.Core.Path.{_≡_, refl}
 use mathlib.Core.Bool.{Bool, true, false}
-use mathlib.Core.List.{List, [], _∷_, _++_}
-use Prim.Native.Nat.{ℕ, _*_}
+use mathlib.Core.List.{List, [], _∷_, _++_, map}
+use Prim.Native.Nat.{ℕ, _*_, _^_}
 use lib.ListN.{length, drop, replicate}
 use Rattle.bits.specs.Bits.{bitsOf}
 use Rattle.bits.proofs.Table.{values}
@@ -14,9 +14,11 @@ use Rattle.grammar.specs.SiteSheet.{ssType, rangeType, rowOf, rangeRefus
 use Rattle.grammar.specs.SiteSheet.{pduType, kindRefusal, resultRefusal, askedRefusal, acknowledgementRefusal, definitionRefusal, definedPart}
 use Rattle.grammar.specs.SiteSheet.{definedRefusal, distributedRefusal, causeRefusal, countRefusal, lengthRefusal}
 use Rattle.grammar.specs.Grammar.{endsRefusal, networkOf, pdu, grammar}
-use Rattle.grammar.specs.Figures.{ofInterrogation, ofDefinition}
-use Rattle.grammar.specs.Zero.{zeroIdentities, zeroNumbers, zeroServices, zeroLists}
+use Rattle.grammar.specs.Figures.{ofInterrogation}
+use Rattle.grammar.specs.Zero.{zeroIdentities, zeroNumbers, zeroLists}
 use Rattle.grammar.specs.ProfileRecords.{asking}
+use Rattle.grammar.specs.Samples.{near, far, list, identityLists, numberLists}
+use Rattle.grammar.specs.Samples as a
 use Rattle.grammar.specs.declared.site.RangeType.the-variants.{Empty, Single, FirstAndLast, NoRangeType}
 use Rattle.grammar.specs.declared.site.ListKind.the-variants as of
 use Rattle.grammar.specs.declared.site.PduType.the-variants.{Define, DefineAck, DefineExternal, DefineUser, DefineUserAck, DefineExternalUser}
@@ -24,66 +26,76 @@ use Rattle.grammar.specs.declared.site.PduType.the-variants.{Interrogate
 use Rattle.grammar.specs.declared.site.Row.{Row}
 use Rattle.grammar.specs.declared.site.Digit.the-variants.{Decimal, Star, Hash, Plus, NoDigit}
 use Rattle.grammar.specs.declared.site.Service.the-variants.{All, Speech, CircuitData, ShortData, NoService}
-use Rattle.grammar.specs.declared.record.Identity.{Identity}
 use Rattle.grammar.specs.declared.record.Identities.{Identities}
 use Rattle.grammar.specs.declared.record.Numbers.{Numbers}
 use Rattle.grammar.specs.declared.record.Services.{Services}
 use Rattle.grammar.specs.declared.record.Lists.{Lists}
 use Rattle.grammar.specs.declared.record.Record.{Record}
 
+-- ---- what is said of an element
+
+-- the refusal numbers of all values of so many bits, in each of several PDUs
+abbrev InEach : ℕ → List ℕ → (ℕ → List Record) → Type 0
+InEach width refusals pdus =
+    values (λ v. map (λ r. pdu .fault r) (pdus v)) 0 (2 ^ width) ≡ map (λ refusal. replicate (length (pdus 0)) refusal) refusals
+
+-- and by the element's definition
+abbrev Refuses : ℕ → List ℕ → (ℕ → ℕ) → (ℕ → List Record) → Type 0
+Refuses width refusals code pdus = (values code 0 (2 ^ width) ≡ refusals) × InEach width refusals pdus
+
 -- ---- PDUs that are legal but for one element
 
--- an identity of the network that a missing extension means, or of another
-abbrev home : ℕ → Identity
-home ssi = record { ssi = ssi; present = 0; extension = 0 }
-
-abbrev abroad : ℕ → ℕ → Identity
-abroad network ssi = record { ssi = ssi; present = 1; extension = network }
-
 abbrev identities : ℕ → Identities
-identities code = record { code = code; entries = replicate 8 (home 5) }
+identities code = list code (replicate 8 (near 5))
 
 -- numbers with one length, and one digit in all places
 abbrev numbers : ℕ → ℕ → ℕ → Numbers
-numbers code digits digit = record { code = code; entries = replicate 8 (record { length = record { 0 = digits }; digits = replicate 24 digit }) }
+numbers code digits digit = a.numbers code (replicate 8 (record { length = record { 0 = digits }; digits = replicate 24 digit }))
 
-abbrev oneService : Services
-oneService = record { count = 1; list = replicate 7 0 }
+abbrev user : Identities
+user = identities 1
 
-abbrev pduOf : ℕ → Identities → ℕ → ℕ → ℕ → Services → Lists → Record
-pduOf kind users asked result status services lists = record {
-  kind = kind;
-  affected = users;
-  figures = ofInterrogation asked result status;
-  services = services;
-  lists = lists;
-}
+abbrev service : Services
+service = a.services (0 ∷ [])
 
--- an INTERROGATE ACK with a result and lists
-abbrev ackOf : ℕ → Lists → Record
-ackOf result lists = pduOf 12 (identities 1) 0 result 0 oneService lists
+-- those with affected users
+abbrev withUsers : Identities → List Record
+withUsers users =
+    a.define users 0 0 0 service zeroLists ∷ a.defineAck users 0 ∷ a.defineExternal users 0 0 0 service zeroLists
+    ∷ a.interrogate users 1 ∷ a.interrogateAck users 0 0 service zeroLists ∷ []
 
-abbrev identityPart : Identities → Identities → Identities → Record
-identityPart groups restricted exceptions = ackOf 1 (record {
-  groups = groups;
-  restricted = restricted;
-  exceptions = exceptions;
-  numbers = zeroNumbers;
-  excepted = zeroNumbers;
-})
+-- those with a definition type: for some affected users, and to an affected user
+abbrev withDefinition : ℕ → List Record
+withDefinition type =
+    a.define user 0 0 type service zeroLists ∷ a.defineExternal user 0 0 type service zeroLists
+    ∷ a.defineUser 0 type service zeroLists ∷ a.defineExternalUser 0 type service zeroLists ∷ []
 
-abbrev numberPart : Identities → Numbers → Numbers → Record
-numberPart groups restricted excepted = ackOf 2 (record {
-  groups = groups;
-  restricted = zeroIdentities;
-  exceptions = zeroIdentities;
-  numbers = restricted;
-  excepted = excepted;
-})
+-- those with services
+abbrev withServices : Services → List Record
+withServices services =
+    a.define user 0 0 0 services zeroLists ∷ a.defineExternal user 0 0 0 services zeroLists
+    ∷ a.defineUser 0 0 services zeroLists ∷ a.defineExternalUser 0 0 services zeroLists ∷ a.interrogateAck user 0 0 services zeroLists ∷ []
 
--- the refusals of a PDU by one of its elements, at all values of so many bits
-abbrev among : ℕ → (ℕ → Record) → List ℕ
-among n r = values (λ v. pdu .fault (r v)) 0 n
+-- those with the lists of an identity part, and of a number part
+abbrev withIdentityPart : Lists → List Record
+withIdentityPart lists =
+    a.define user 0 0 0 service lists ∷ a.defineUser 0 0 service lists ∷ a.defineExternalUser 0 0 service lists
+    ∷ a.interrogateAck user 1 0 service lists ∷ []
+
+abbrev withNumberPart : Lists → List Record
+withNumberPart lists = a.defineExternal user 0 0 0 service lists ∷ a.interrogateAck user 2 0 service lists ∷ []
+
+-- a list as closed user groups, restricted identities, exceptions, and as the groups of a number part
+abbrev withIdentities : Identities → List Record
+withIdentities l =
+    withIdentityPart (identityLists l zeroIdentities zeroIdentities)
+    ++ withIdentityPart (identityLists zeroIdentities l zeroIdentities)
+    ++ withIdentityPart (identityLists zeroIdentities zeroIdentities l)
+    ++ withNumberPart (numberLists l zeroNumbers zeroNumbers)
+
+-- as restricted numbers, and exceptions to them
+abbrev withNumbers : Numbers → List Record
+withNumbers l = withNumberPart (numberLists zeroIdentities l zeroNumbers) ++ withNumberPart (numberLists zeroIdentities zeroNumbers l)
 
 -- ---- SS type, 6 bits: 18 alone
 
@@ -110,42 +122,33 @@ kinds =
     ∷ 3 ∷ 3  -- 14 and 15: reserved
     ∷ 3 ∷ 3 ∷ 3 ∷ 3 ∷ 3 ∷ 3 ∷ 3 ∷ 3 ∷ 3 ∷ 3 ∷ 3 ∷ 3 ∷ 3 ∷ 3 ∷ 3 ∷ 3 ∷ []  -- 16 to 31: beyond the four bits that table 23 has
 
-pdu-types : (values kindRefusal 0 32 ≡ kinds) × (among 32 (λ v. pduOf v (identities 1) 1 0 0 oneService zeroLists) ≡ kinds)
+pdu-types : Refuses 5 kinds kindRefusal (λ v. a.pduOf v user (ofInterrogation 1 0 0) service zeroLists ∷ [])
 unfolding grammar
 pdu-types = (refl, refl)
 
 -- which PDU each is
-types-mean : values pduType 0 15 ≡
+types-mean : values pduType 0 32 ≡
     NoPduType ∷ NoPduType ∷ NoPduType ∷ NoPduType ∷ NoPduType
     ∷ Define ∷ DefineAck ∷ DefineExternal ∷ DefineUser ∷ DefineUserAck ∷ DefineExternalUser ∷ Interrogate ∷ InterrogateAck ∷ CallBarred
-    ∷ NoPduType ∷ []
+    ∷ replicate 18 NoPduType
 unfolding codes
 types-mean = refl
 
--- ---- delivery to affected users and acknowledgement from them, 1 bit each, tables 30 and 19: not requested; requested
+-- ---- acknowledgement from affected users, 1 bit, table 19: not requested; requested
 
--- a DEFINE with these and a definition type
-abbrev defineOf : ℕ → ℕ → ℕ → Lists → Record
-defineOf delivery acknowledgement definition lists = record {
-  kind = 5;
-  affected = identities 1;
-  figures = ofDefinition delivery acknowledgement definition;
-  services = oneService;
-  lists = lists;
-}
-
--- an acknowledgement only where delivery is requested too
-acknowledgements : (values (acknowledgementRefusal 0) 0 2 ≡ 0 ∷ 3 ∷ []) × (values (acknowledgementRefusal 1) 0 2 ≡ 0 ∷ 0 ∷ [])
-    × (among 2 (λ v. defineOf 0 v 0 zeroLists) ≡ 0 ∷ 3 ∷ []) × (among 2 (λ v. defineOf 1 v 0 zeroLists) ≡ 0 ∷ 0 ∷ [])
+-- requested only where delivery (table 30) is requested too; in a PDU to the affected user itself it is free
+acknowledgements :
+    Refuses 1 (0 ∷ 3 ∷ []) (acknowledgementRefusal 0)
+    (λ v. a.define user 0 v 0 service zeroLists ∷ a.defineExternal user 0 v 0 service zeroLists ∷ [])
+    × Refuses 1 (0 ∷ 0 ∷ []) (acknowledgementRefusal 1)
+    (λ v. a.define user 1 v 0 service zeroLists ∷ a.defineExternal user 1 v 0 service zeroLists ∷ [])
+    × InEach 1 (0 ∷ 0 ∷ []) (λ v. a.defineUser v 0 service zeroLists ∷ a.defineExternalUser v 0 service zeroLists ∷ [])
 unfolding grammar
-acknowledgements = (refl, refl, refl, refl)
+acknowledgements = ((refl, refl), (refl, refl), refl)
 
 -- ---- definition type, 2 bits, table 28: addition; replacement; removal; reserved
 
-abbrev definitions : List ℕ
-definitions = 0 ∷ 0 ∷ 0 ∷ 3 ∷ []
-
-definition-types : (values definitionRefusal 0 4 ≡ definitions) × (among 4 (λ v. defineOf 0 0 v zeroLists) ≡ definitions)
+definition-types : Refuses 2 (0 ∷ 0 ∷ 0 ∷ 3 ∷ []) definitionRefusal withDefinition
 unfolding grammar
 definition-types = (refl, refl)
 
@@ -154,10 +157,44 @@ lists-of-definitions : (values (definedPart 1) 0 4 ≡ 1 ∷ 1 ∷ 0 ∷ 0 ∷ [
 unfolding codes
 lists-of-definitions = (refl, refl)
 
--- the lists follow addition and replacement only: 50 bits without, three range types of 4 bits more with them
-lists-defined : values (λ v. length (pdu .print (defineOf 0 0 v zeroLists))) 0 4 ≡ 62 ∷ 62 ∷ 50 ∷ 50 ∷ []
+-- the lists follow addition and replacement only: 50 bits without, or 20 to an affected user; three range types of 4 bits more with them
+lists-defined : values (λ v. map (λ r. length (pdu .print r)) (withDefinition v)) 0 4 ≡
+    (62 ∷ 62 ∷ 32 ∷ 32 ∷ [])
+    ∷ (62 ∷ 62 ∷ 32 ∷ 32 ∷ [])
+    ∷ (50 ∷ 50 ∷ 20 ∷ 20 ∷ [])
+    ∷ (50 ∷ 50 ∷ 20 ∷ 20 ∷ []) ∷ []
 unfolding grammar
 lists-defined = refl
+
+-- ---- definition result, 3 bits, table 27: 5 is reserved
+
+abbrev definedResults : List ℕ
+definedResults =
+    0 ∷ 0 ∷ 0  -- request failed for any reason; accepted by SwMI; accepted, but definition values changed
+    ∷ 0 ∷ 0 ∷ 3  -- user not authorized; unknown TETRA identity; reserved
+    ∷ 0 ∷ 0 ∷ []  -- parameters not valid; insufficient information
+
+definition-results : Refuses 3 definedResults definedRefusal (λ v. a.defineAck user v ∷ [])
+unfolding grammar
+definition-results = (refl, refl)
+
+-- ---- distribution result, 3 bits, table 31: 2 to 5 are reserved
+
+abbrev distributedResults : List ℕ
+distributedResults =
+    0 ∷ 0  -- request failed for any reason; successfully received
+    ∷ 3 ∷ 3 ∷ 3 ∷ 3  -- reserved
+    ∷ 0 ∷ 0 ∷ []  -- parameters not valid; insufficient information
+
+distribution-results : Refuses 3 distributedResults distributedRefusal (λ v. a.defineUserAck v ∷ [])
+unfolding grammar
+distribution-results = (refl, refl)
+
+-- ---- rejection cause, 2 bits, table 38: outside the allowed user group; service type; destination address; reserved
+
+rejection-causes : Refuses 2 (0 ∷ 0 ∷ 0 ∷ 3 ∷ []) causeRefusal (λ v. a.callBarred v ∷ [])
+unfolding grammar
+rejection-causes = (refl, refl)
 
 -- ---- interrogation result, 3 bits, table 35: 5 is reserved
 
@@ -167,37 +204,31 @@ results =
     ∷ 0 ∷ 0 ∷ 3  -- user not authorized; unknown affected user identity; reserved
     ∷ 0 ∷ 0 ∷ []  -- parameters not valid; insufficient information
 
-interrogation-results : (values resultRefusal 0 8 ≡ results) × (among 8 (λ v. ackOf v zeroLists) ≡ results)
+interrogation-results : Refuses 3 results resultRefusal (λ v. a.interrogateAck user v 0 service zeroLists ∷ [])
 unfolding grammar
 interrogation-results = (refl, refl)
 
 -- the lists follow the results 1 and 2 only: 51 bits without, three range types of 4 bits more with them
-lists-follow : values (λ v. length (pdu .print (ackOf v zeroLists))) 0 8 ≡ 51 ∷ 63 ∷ 63 ∷ 51 ∷ 51 ∷ 51 ∷ 51 ∷ 51 ∷ []
+lists-follow : values (λ v. length (pdu .print (a.interrogateAck user v 0 service zeroLists))) 0 8 ≡
+    51 ∷ 63 ∷ 63 ∷ 51 ∷ 51 ∷ 51 ∷ 51 ∷ 51 ∷ []
 unfolding grammar
 lists-follow = refl
 
 -- ---- interrogation type, 2 bits, table 36: reserved; identities; external numbers; both
 
-abbrev askings : List ℕ
-askings = 3 ∷ 0 ∷ 0 ∷ 0 ∷ []
-
-interrogation-types : (values askedRefusal 0 4 ≡ askings) × (among 4 (λ v. pduOf 11 (identities 1) v 0 0 zeroServices zeroLists) ≡ askings)
+interrogation-types : Refuses 2 (3 ∷ 0 ∷ 0 ∷ 0 ∷ []) askedRefusal (λ v. a.interrogate user v ∷ [])
 unfolding grammar
 interrogation-types = (refl, refl)
 
 -- ---- delivery status, 2 bits, table 29: not requested; pending; acknowledged; unknown
 
-delivery-statuses : among 4 (λ v. pduOf 12 (identities 1) 0 0 v oneService zeroLists) ≡ 0 ∷ 0 ∷ 0 ∷ 0 ∷ []
+delivery-statuses : InEach 2 (0 ∷ 0 ∷ 0 ∷ 0 ∷ []) (λ v. a.interrogateAck user 0 v service zeroLists ∷ [])
 unfolding grammar
 delivery-statuses = refl
 
 -- ---- number of services, 3 bits, table 37: reserved; one to seven
 
-abbrev counts : List ℕ
-counts = 3 ∷ 0 ∷ 0 ∷ 0 ∷ 0 ∷ 0 ∷ 0 ∷ 0 ∷ []
-
-numbers-of-services : (values countRefusal 0 8 ≡ counts)
-    × (among 8 (λ v. pduOf 12 (identities 1) 0 0 0 (record { count = v; list = replicate 7 0 }) zeroLists) ≡ counts)
+numbers-of-services : Refuses 3 (3 ∷ 0 ∷ 0 ∷ 0 ∷ 0 ∷ 0 ∷ 0 ∷ 0 ∷ []) countRefusal (λ v. withServices (record { count = v; list = replicate 7 0 }))
 unfolding grammar
 numbers-of-services = (refl, refl)
 
@@ -207,11 +238,7 @@ services-mean : values serviceOf 0 8 ≡ All ∷ Speech ∷ CircuitData ∷ Shor
 unfolding codes
 services-mean = refl
 
-abbrev services : List ℕ
-services = 0 ∷ 0 ∷ 0 ∷ 0 ∷ 3 ∷ 3 ∷ 3 ∷ 3 ∷ []
-
-services-refused : (values serviceRefusal 0 8 ≡ services)
-    × (among 8 (λ v. pduOf 12 (identities 1) 0 0 0 (record { count = 1; list = v ∷ replicate 6 0 }) zeroLists) ≡ services)
+services-refused : Refuses 3 (0 ∷ 0 ∷ 0 ∷ 0 ∷ 3 ∷ 3 ∷ 3 ∷ 3 ∷ []) serviceRefusal (λ v. withServices (a.services (v ∷ [])))
 unfolding grammar
 services-refused = (refl, refl)
 
@@ -240,34 +267,25 @@ range-rows = refl
 abbrev forUsers : List ℕ
 forUsers = 3 ∷ 0 ∷ 0 ∷ 0 ∷ 0 ∷ 0 ∷ 0 ∷ 0 ∷ 0 ∷ 0 ∷ 3 ∷ 3 ∷ 3 ∷ 3 ∷ 3 ∷ 3 ∷ []
 
-users-refused : (values (rangeRefusal of.Users) 0 16 ≡ forUsers)
-    × (among 16 (λ v. pduOf 5 (identities v) 0 0 0 oneService zeroLists) ≡ forUsers)
-    × (among 16 (λ v. pduOf 11 (identities v) 1 0 0 zeroServices zeroLists) ≡ forUsers)
-    × (among 16 (λ v. pduOf 12 (identities v) 0 0 0 oneService zeroLists) ≡ forUsers)
+users-refused : Refuses 4 forUsers (rangeRefusal of.Users) (λ v. withUsers (identities v))
 unfolding grammar
-users-refused = (refl, refl, refl, refl)
+users-refused = (refl, refl)
 
 -- closed user groups, restricted identities and exceptions to them
 abbrev forIdentities : List ℕ
 forIdentities = 0 ∷ 0 ∷ 0 ∷ 0 ∷ 0 ∷ 0 ∷ 0 ∷ 0 ∷ 0 ∷ 0 ∷ 3 ∷ 3 ∷ 3 ∷ 3 ∷ 3 ∷ 3 ∷ []
 
-identities-refused : (values (rangeRefusal of.Identities) 0 16 ≡ forIdentities)
-    × (among 16 (λ v. identityPart (identities v) zeroIdentities zeroIdentities) ≡ forIdentities)
-    × (among 16 (λ v. identityPart zeroIdentities (identities v) zeroIdentities) ≡ forIdentities)
-    × (among 16 (λ v. identityPart zeroIdentities zeroIdentities (identities v)) ≡ forIdentities)
-    × (among 16 (λ v. numberPart (identities v) zeroNumbers zeroNumbers) ≡ forIdentities)
+identities-refused : Refuses 4 forIdentities (rangeRefusal of.Identities) (λ v. withIdentities (identities v))
 unfolding grammar
-identities-refused = (refl, refl, refl, refl, refl)
+identities-refused = (refl, refl)
 
 -- restricted external numbers and exceptions to them: 9 is refused
 abbrev forNumbers : List ℕ
 forNumbers = 0 ∷ 0 ∷ 0 ∷ 0 ∷ 0 ∷ 0 ∷ 0 ∷ 0 ∷ 0 ∷ 3 ∷ 3 ∷ 3 ∷ 3 ∷ 3 ∷ 3 ∷ 3 ∷ []
 
-numbers-refused : (values (rangeRefusal of.Numbers) 0 16 ≡ forNumbers)
-    × (among 16 (λ v. numberPart zeroIdentities (numbers v 1 0) zeroNumbers) ≡ forNumbers)
-    × (among 16 (λ v. numberPart zeroIdentities zeroNumbers (numbers v 1 0)) ≡ forNumbers)
+numbers-refused : Refuses 4 forNumbers (rangeRefusal of.Numbers) (λ v. withNumbers (numbers v 1 0))
 unfolding grammar
-numbers-refused = (refl, refl, refl)
+numbers-refused = (refl, refl)
 
 -- ---- length of an external number, 5 bits: 1 to 24 digits
 
@@ -277,7 +295,7 @@ lengths =
     ∷ 0 ∷ 0 ∷ 0 ∷ 0 ∷ 0 ∷ 0 ∷ 0 ∷ 0 ∷ 0 ∷ 0 ∷ 0 ∷ 0 ∷ 0 ∷ 0 ∷ 0 ∷ 0 ∷ 0 ∷ 0 ∷ 0 ∷ 0 ∷ 0 ∷ 0 ∷ 0 ∷ 0
     ∷ 3 ∷ 3 ∷ 3 ∷ 3 ∷ 3 ∷ 3 ∷ 3 ∷ []
 
-number-lengths : (values lengthRefusal 0 32 ≡ lengths) × (among 32 (λ v. numberPart zeroIdentities (numbers 1 v 0) zeroNumbers) ≡ lengths)
+number-lengths : Refuses 5 lengths lengthRefusal (λ v. withNumbers (numbers 1 v 0))
 unfolding grammar
 number-lengths = (refl, refl)
 
@@ -289,10 +307,8 @@ digits-mean : values digitOf 0 16 ≡
 unfolding codes
 digits-mean = refl
 
-abbrev digits : List ℕ
-digits = 0 ∷ 0 ∷ 0 ∷ 0 ∷ 0 ∷ 0 ∷ 0 ∷ 0 ∷ 0 ∷ 0 ∷ 0 ∷ 0 ∷ 0 ∷ 3 ∷ 3 ∷ 3 ∷ []
-
-digits-refused : (values digitRefusal 0 16 ≡ digits) × (among 16 (λ v. numberPart zeroIdentities zeroNumbers (numbers 1 24 v)) ≡ digits)
+digits-refused :
+    Refuses 4 (0 ∷ 0 ∷ 0 ∷ 0 ∷ 0 ∷ 0 ∷ 0 ∷ 0 ∷ 0 ∷ 0 ∷ 0 ∷ 0 ∷ 0 ∷ 3 ∷ 3 ∷ 3 ∷ []) digitRefusal (λ v. withNumbers (numbers 1 24 v))
 unfolding grammar
 digits-refused = (refl, refl)
 
@@ -304,28 +320,23 @@ digits-tested = refl
 
 -- ---- the two ends of a range: the same present bit and extension, the first SSI at most the last
 
-range-ends : (endsRefusal (home 199) (home 199) ≡ 0) × (endsRefusal (home 200) (home 199) ≡ 4)
-    × (endsRefusal (abroad 2 0) (abroad 2 16777215) ≡ 0) × (endsRefusal (abroad 2 100) (abroad 3 199) ≡ 4)
-    × (endsRefusal (home 100) (abroad 0 199) ≡ 4) × (endsRefusal (abroad 0 100) (home 199) ≡ 4)
+range-ends : (endsRefusal (near 199) (near 199) ≡ 0) × (endsRefusal (near 200) (near 199) ≡ 4)
+    × (endsRefusal (far 2 0) (far 2 16777215) ≡ 0) × (endsRefusal (far 2 100) (far 3 199) ≡ 4)
+    × (endsRefusal (near 100) (far 0 199) ≡ 4) × (endsRefusal (far 0 100) (near 199) ≡ 4)
 unfolding endsRefusal
 range-ends = (refl, refl, refl, refl, refl, refl)
 
 -- they are looked at in every list of identities, and only if its range type is 9
 abbrev reversed : ℕ → Identities
-reversed code = record { code = code; entries = home 200 ∷ replicate 7 (home 199) }
+reversed code = list code (near 200 ∷ replicate 7 (near 199))
 
-abbrev forReversed : List ℕ
-forReversed = 0 ∷ 0 ∷ 0 ∷ 0 ∷ 0 ∷ 0 ∷ 0 ∷ 0 ∷ 0 ∷ 4 ∷ 3 ∷ 3 ∷ 3 ∷ 3 ∷ 3 ∷ 3 ∷ []
-
-reversed-refused : (pdu .fault (pduOf 11 (reversed 9) 1 0 0 zeroServices zeroLists) ≡ 4)
-    × (among 16 (λ v. identityPart (reversed v) zeroIdentities zeroIdentities) ≡ forReversed)
-    × (among 16 (λ v. identityPart zeroIdentities (reversed v) zeroIdentities) ≡ forReversed)
-    × (among 16 (λ v. identityPart zeroIdentities zeroIdentities (reversed v)) ≡ forReversed)
-    × (among 16 (λ v. numberPart (reversed v) zeroNumbers zeroNumbers) ≡ forReversed)
+reversed-refused :
+    InEach 4 (3 ∷ 0 ∷ 0 ∷ 0 ∷ 0 ∷ 0 ∷ 0 ∷ 0 ∷ 0 ∷ 4 ∷ 3 ∷ 3 ∷ 3 ∷ 3 ∷ 3 ∷ 3 ∷ []) (λ v. withUsers (reversed v))
+    × InEach 4 (0 ∷ 0 ∷ 0 ∷ 0 ∷ 0 ∷ 0 ∷ 0 ∷ 0 ∷ 0 ∷ 4 ∷ 3 ∷ 3 ∷ 3 ∷ 3 ∷ 3 ∷ 3 ∷ []) (λ v. withIdentities (reversed v))
 unfolding grammar
-reversed-refused = (refl, refl, refl, refl, refl)
+reversed-refused = (refl, refl)
 
 -- the network is the extension if that is present, 0 too, otherwise the one that a missing extension means
-networks : (networkOf 1 (home 5) ≡ 1) × (networkOf 1 (abroad 2 5) ≡ 2) × (networkOf 1 (abroad 0 5) ≡ 0)
+networks : (networkOf 1 (near 5) ≡ 1) × (networkOf 1 (far 2 5) ≡ 2) × (networkOf 1 (far 0 5) ≡ 0)
 unfolding networkOf
 networks = (refl, refl, refl)

@@ -263,13 +263,11 @@ pub fn kind_refusal(code: u32) -> u32
 pub fn reserved_refusal(low: u32, high: u32, v: u32) -> u32
     ensures { λ r. ⌜ r ≡ reserved low high v ⌝ }
 {
-    if v < low {
-        return 0;
+    if between_refusal(low, high, v) == 0 {
+        3
+    } else {
+        0
     }
-    if high < v {
-        return 0;
-    }
-    3
 }
 
 // The part whose lists a definition of it carries: its own for addition and replacement, none for any other.

@@ -30,7 +30,9 @@ returns-6 c = rw (c .before .enum-told6 .given .1) (c .acknowledged-refusal2 .en
 
 returns-7 : tie.Need-returns-7
 unfolding figures none shaped seq absent element tested number
-returns-7 c = rw (c .before .enum-told7 .given .1) (c .between-refusal .ensures ∙ sym (first-zero _ ∙ first-zero _ ∙ lone-fault 2 1 3 (c .before .before .before .args .f .asked) (omega arith)))
+returns-7 c =
+    let asked = c .before .before .before .args .f .asked in
+    rw (c .before .enum-told7 .given .1) (c .between-refusal .ensures ∙ sym (first-zero _ ∙ first-zero _ ∙ lone-fault 2 1 3 asked (omega arith)))
 
 returns-8 : tie.Need-returns-8
 unfolding figures none shaped seq absent element tested number
@@ -38,7 +40,9 @@ returns-8 c = rw (c .before .enum-told8 .given .1) (c .answer-refusal .ensures �
 
 returns-9 : tie.Need-returns-9
 unfolding figures none shaped seq absent element tested number
-returns-9 c = rw (c .before .enum-told9 .given .1) (c .between-refusal2 .ensures ∙ sym (lone-fault 2 0 2 (c .before .before .before .args .f .cause) (omega arith)))
+returns-9 c =
+    let cause = c .before .before .before .args .f .cause in
+    rw (c .before .enum-told9 .given .1) (c .between-refusal2 .ensures ∙ sym (lone-fault 2 0 2 cause (omega arith)))
 
 returns-10 : tie.Need-returns-10
 unfolding figures none shaped seq absent element tested number

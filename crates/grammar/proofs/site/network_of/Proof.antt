@@ -6,11 +6,11 @@ use Rattle.grammar.proofs.site.network_of.Tie as tie
 
 returns : tie.Need-returns
 unfolding networkOf
-returns c = rw (eq-eqb _ _ (c .if1 .taken))
+returns c = rw (eq-eqb _ 1 (c .if1 .taken))
 
 returns-2 : tie.Need-returns-2
 unfolding networkOf
-returns-2 c = rw (ne-eqb _ _ (c .if1 .left))
+returns-2 c = rw (ne-eqb _ 1 (c .if1 .left))
 
 pub network-of-spec : {M : Type 1} → statement M
 network-of-spec = tie.close (tie.spec returns returns-2)
