@@ -26,6 +26,7 @@ use Rattle.archive.specs.declared.Restored.{Restored}
 use Rattle.archive.specs.declared.Restored.the-variants as restored
 use Rattle.reload.specs.Reload.{reloadIs, reloadOut}
 use Rattle.reload.specs.declared.Definition.{Definition}
+use Rattle.reload.specs.declared.Target.the-variants.{Define, DefineExternal}
 use Rattle.words.specs.RecordWords.{areRecord, recordFrom}
 use Rattle.words.specs.RequestWords.{isRequest, requestFrom}
 use Rattle.barring.specs.Decide.{decideIs}
@@ -102,7 +103,7 @@ emptyLength home out old = storedLength (emptyIs home (length out)) old
 abbrev pub captureAnswer : List ℕ → List ℕ → ℕ → List ℕ → Stored
 captureAnswer b s n out = captureIs b s n (length out)
 
--- ---- boc_restore and boc_reload
+-- ---- boc_restore, boc_reload and boc_reload_external
 
 abbrev pub restoredNumber : Restored → ℕ
 restoredNumber a = restoredRefusal a .number
@@ -132,12 +133,21 @@ definitionOf definition delivery acknowledgement = record { definition = definit
 
 abbrev pub reloadAnswer : List ℕ → ℕ → ℕ → ℕ → ℕ → ℕ → ℕ → List ℕ → Restored
 reloadAnswer b network ssi part definition delivery acknowledgement out =
-    reloadIs b (keyOf network ssi part) (definitionOf definition delivery acknowledgement) out
+    reloadIs Define b (keyOf network ssi part) (definitionOf definition delivery acknowledgement) out
 
 -- what boc_reload leaves in the buffer
 abbrev pub reloadLeaves : List ℕ → ℕ → ℕ → ℕ → ℕ → ℕ → ℕ → List ℕ → List ℕ
 reloadLeaves b network ssi part definition delivery acknowledgement out =
-    reloadOut b (keyOf network ssi part) (definitionOf definition delivery acknowledgement) out
+    reloadOut Define b (keyOf network ssi part) (definitionOf definition delivery acknowledgement) out
+
+-- what boc_reload_external answers of the number part, and leaves in the buffer
+abbrev pub externalAnswer : List ℕ → ℕ → ℕ → ℕ → ℕ → ℕ → List ℕ → Restored
+externalAnswer b network ssi definition delivery acknowledgement out =
+    reloadIs DefineExternal b (keyOf network ssi 2) (definitionOf definition delivery acknowledgement) out
+
+abbrev pub externalLeaves : List ℕ → ℕ → ℕ → ℕ → ℕ → ℕ → List ℕ → List ℕ
+externalLeaves b network ssi definition delivery acknowledgement out =
+    reloadOut DefineExternal b (keyOf network ssi 2) (definitionOf definition delivery acknowledgement) out
 
 -- ---- boc_decide
 

@@ -5,9 +5,9 @@ use Prim.Native.Nat.{ℕ}
 use Rattle.reader.specs.Words.{readWordsIs}
 use Rattle.boc.specs.Calls.{nowhere, readNumber, readPlace, decidedNumber, decidedEntry, decidedPlace, decideAnswer}
 
-read-516 : (s : List ℕ) (n : ℕ) → (readNumber s n 516 ≡ 9) × (readPlace s n 516 77 ≡ nowhere)
+read-519 : (s : List ℕ) (n : ℕ) → (readNumber s n 519 ≡ 9) × (readPlace s n 519 77 ≡ nowhere)
 unfolding readWordsIs
-read-516 s n = (refl, refl)
+read-519 s n = (refl, refl)
 
 decide-nothing : (b : List ℕ) → let d = decideAnswer b [] in
     (decidedNumber d ≡ 9) × (decidedEntry d 77 ≡ nowhere) × (decidedPlace d 77 ≡ nowhere)

@@ -13,6 +13,7 @@ use pdu::Answer;
 use pdu::BitPlace;
 use pdu::Written;
 use reload::Definition;
+use reload::Target;
 use words::request;
 ghost use mathlib.Core.Path.{_≡_};
 ghost use lib.ListN.{length};
@@ -23,6 +24,7 @@ ghost use Rattle.archive.specs.Listing.{listOut};
 ghost use Rattle.boc.specs.Calls.{placeWord, entryWord, readNumber, readPlace, writeNumber, writeOut, writeBits, emptyNumber, emptyLength};
 ghost use Rattle.boc.specs.Calls.{storedNumber, storedLength, storedEntry, storedPlace, captureAnswer, contentsAnswer};
 ghost use Rattle.boc.specs.Calls.{restoredNumber, restoredLength, restoredEntry, restoredPlace, keyOf, restoreAnswer, reloadAnswer, reloadLeaves};
+ghost use Rattle.boc.specs.Calls.{externalAnswer, externalLeaves};
 ghost use Rattle.boc.specs.Calls.{decidedNumber, decidedVerdict, decidedEntry, decidedPlace, decideAnswer};
 
 // No entry, or no place: BOC_NOWHERE.
@@ -57,6 +59,48 @@ fn refuse(refusal: Refusal, entry: &mut usize, place: &mut usize) -> u32
     *entry = entry_word(at_entry);
     *place = place_word(at_place);
     refusal.number
+}
+
+// Tells an answer that is a length in bytes.
+fn tell_stored(
+    answer: Stored,
+    length: &mut usize,
+    entry: &mut usize,
+    place: &mut usize,
+) -> u32
+    ensures { λ r. ⌜ r ≡ storedNumber answer ⌝ }
+    ensures { λ _. ⌜ now (length .exit) ≡ storedLength answer (now (length .entry)) ⌝ }
+    ensures { λ _. ⌜ now (entry .exit) ≡ storedEntry answer (now (entry .entry)) ⌝ }
+    ensures { λ _. ⌜ now (place .exit) ≡ storedPlace answer (now (place .entry)) ⌝ }
+{
+    match answer {
+        Stored::Bytes(n) => {
+            *length = n;
+            0
+        },
+        Stored::Refused(refusal) => refuse(refusal, entry, place),
+    }
+}
+
+// And one that is a length in bits.
+fn tell_restored(
+    answer: Restored,
+    bits: &mut usize,
+    entry: &mut usize,
+    place: &mut usize,
+) -> u32
+    ensures { λ r. ⌜ r ≡ restoredNumber answer ⌝ }
+    ensures { λ _. ⌜ now (bits .exit) ≡ restoredLength answer (now (bits .entry)) ⌝ }
+    ensures { λ _. ⌜ now (entry .exit) ≡ restoredEntry answer (now (entry .entry)) ⌝ }
+    ensures { λ _. ⌜ now (place .exit) ≡ restoredPlace answer (now (place .entry)) ⌝ }
+{
+    match answer {
+        Restored::Bits(n) => {
+            *bits = n.0;
+            0
+        },
+        Restored::Refused(refusal) => refuse(refusal, entry, place),
+    }
 }
 
 // Reads the PDU of `bits` bits in `pdu`; its record goes to `record`.
@@ -125,13 +169,8 @@ pub extern "C" fn boc_capture(
     ensures { λ _. ⌜ now (entry .exit) ≡ storedEntry (captureAnswer (now (archive .entry)) (now (pdu .entry)) bits (now (out .entry))) (now (entry .entry)) ⌝ }
     ensures { λ _. ⌜ now (place .exit) ≡ storedPlace (captureAnswer (now (archive .entry)) (now (pdu .entry)) bits (now (out .entry))) (now (place .entry)) ⌝ }
 {
-    match archive::capture(archive, pdu, BitCount(bits), out) {
-        Stored::Bytes(n) => {
-            *length = n;
-            0
-        },
-        Stored::Refused(refusal) => refuse(refusal, entry, place),
-    }
+    let answer = archive::capture(archive, pdu, BitCount(bits), out);
+    tell_stored(answer, length, entry, place)
 }
 
 // Restores the PDU held for a user and part; its length in bits goes to `bits`.
@@ -153,13 +192,8 @@ pub extern "C" fn boc_restore(
     ensures { λ _. ⌜ now (place .exit) ≡ restoredPlace (restoreAnswer (now (archive .entry)) network ssi part (now (out .entry))) (now (place .entry)) ⌝ }
 {
     let key = Key { network, ssi, part };
-    match archive::restore(archive, key, out) {
-        Restored::Bits(n) => {
-            *bits = n.0;
-            0
-        },
-        Restored::Refused(refusal) => refuse(refusal, entry, place),
-    }
+    let answer = archive::restore(archive, key, out);
+    tell_restored(answer, bits, entry, place)
 }
 
 // Writes the DEFINE of the part held for a user; its length in bits goes to `bits`.
@@ -189,13 +223,42 @@ pub extern "C" fn boc_reload(
         delivery,
         acknowledgement,
     };
-    match reload::reload(archive, key, wanted, out) {
-        Restored::Bits(n) => {
-            *bits = n.0;
-            0
-        },
-        Restored::Refused(refusal) => refuse(refusal, entry, place),
-    }
+    let answer = reload::reload(Target::Define, archive, key, wanted, out);
+    tell_restored(answer, bits, entry, place)
+}
+
+// Writes the DEFINE EXTERNAL of the number part held for a user; its length in bits goes to `bits`.
+#[no_mangle]
+pub extern "C" fn boc_reload_external(
+    archive: &[u8],
+    network: u32,
+    ssi: u32,
+    definition: u32,
+    delivery: u32,
+    acknowledgement: u32,
+    out: &mut [u8],
+    bits: &mut usize,
+    entry: &mut usize,
+    place: &mut usize,
+) -> u32
+    ensures { λ r. ⌜ r ≡ restoredNumber (externalAnswer (now (archive .entry)) network ssi definition delivery acknowledgement (now (out .entry))) ⌝ }
+    ensures { λ _. ⌜ now (out .exit) ≡ externalLeaves (now (archive .entry)) network ssi definition delivery acknowledgement (now (out .entry)) ⌝ }
+    ensures { λ _. ⌜ now (bits .exit) ≡ restoredLength (externalAnswer (now (archive .entry)) network ssi definition delivery acknowledgement (now (out .entry))) (now (bits .entry)) ⌝ }
+    ensures { λ _. ⌜ now (entry .exit) ≡ restoredEntry (externalAnswer (now (archive .entry)) network ssi definition delivery acknowledgement (now (out .entry))) (now (entry .entry)) ⌝ }
+    ensures { λ _. ⌜ now (place .exit) ≡ restoredPlace (externalAnswer (now (archive .entry)) network ssi definition delivery acknowledgement (now (out .entry))) (now (place .entry)) ⌝ }
+{
+    let key = Key {
+        network,
+        ssi,
+        part: 2,
+    };
+    let wanted = Definition {
+        definition,
+        delivery,
+        acknowledgement,
+    };
+    let answer = reload::reload(Target::DefineExternal, archive, key, wanted, out);
+    tell_restored(answer, bits, entry, place)
 }
 
 // Decides a request; the decision goes to `decision`: 0 to 2 barred with that cause, 3 allowed, 4 not held.
@@ -250,11 +313,6 @@ pub extern "C" fn boc_contents(
     ensures { λ _. ⌜ now (entry .exit) ≡ storedEntry (contentsAnswer (now (archive .entry)) (now (out .entry))) (now (entry .entry)) ⌝ }
     ensures { λ _. ⌜ now (place .exit) ≡ storedPlace (contentsAnswer (now (archive .entry)) (now (out .entry))) (now (place .entry)) ⌝ }
 {
-    match listing::list(archive, out) {
-        Stored::Bytes(bytes) => {
-            *length = bytes;
-            0
-        },
-        Stored::Refused(refusal) => refuse(refusal, entry, place),
-    }
+    let answer = listing::list(archive, out);
+    tell_stored(answer, length, entry, place)
 }

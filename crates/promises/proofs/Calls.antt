@@ -32,7 +32,9 @@ use Rattle.archive.specs.declared.Stored.the-variants as stored
 use Rattle.archive.specs.declared.Restored.{Restored}
 use Rattle.archive.specs.declared.Restored.the-variants as restored
 use Rattle.archive.specs.declared.contents.Key.{Key}
+use Rattle.reload.specs.Reload.{reloadIs}
 use Rattle.reload.specs.declared.Definition.{Definition}
+use Rattle.reload.specs.declared.Target.{Target}
 use Rattle.words.specs.RecordWords.{recordWords, recordFrom}
 use Rattle.words.specs.RequestWords.{isRequest, requestFrom}
 use Rattle.barring.specs.Decide.{partIn, decideIs}
@@ -41,11 +43,11 @@ use Rattle.barring.specs.declared.Decision.{Decision}
 use Rattle.barring.specs.declared.Decision.the-variants as decided
 use Rattle.boc.specs.Calls.{placeWord, entryWord, readPlaceOf, writtenLength, writeNumber, writeOut, writeBits}
 use Rattle.boc.specs.Calls.{storedNumber, storedLength, storedEntry, storedPlace, captureAnswer, contentsAnswer}
-use Rattle.boc.specs.Calls.{restoredNumber, restoredLength, restoredEntry, restoredPlace, keyOf, restoreAnswer, definitionOf, reloadAnswer}
+use Rattle.boc.specs.Calls.{restoredNumber, restoredLength, restoredEntry, restoredPlace, keyOf, restoreAnswer}
 use Rattle.boc.specs.Calls.{decidedNumber, decidedVerdict, decidedEntry, decidedPlace, decideAnswer}
 use Rattle.promises.specs.Answers.{Exactly}
 use Rattle.promises.specs.Calls as call
-use Rattle.promises.specs.Calls.{Read, Write, Empty, Capture, Restore, Reload, Decide, Contents}
+use Rattle.promises.specs.Calls.{Read, Write, Empty, Capture, Restore, Reloads, Decide, Contents}
 use Rattle.promises.specs.Broken.{numberOf}
 use Rattle.promises.specs.Demand1.Reading as read
 use Rattle.promises.specs.Demand1.Decision as decision
@@ -110,8 +112,8 @@ module _ (s : List ℕ) (n : ℕ) (w : List ℕ) (place : ℕ) where
   unfolding readWordsIs
   table =
       subst (λ (f : pdu.Refusal). Exactly read.numberOf f (read.numbers ++ (9 ∷ [])) (call.Checked nine (call.OfRecord w) (read.Given s n)))
-      (sym (pick-ap refusalOf (eqb (length w) 517) (readIs s n .answer) (answer.Refused nine)))
-      (looked-at (eqb (length w) 517) (eqb-true (length w) 517) (eq-eqb (length w) 517) refl
+      (sym (pick-ap refusalOf (eqb (length w) 520) (readIs s n .answer) (answer.Refused nine)))
+      (looked-at (eqb (length w) 520) (eqb-true (length w) 520) (eq-eqb (length w) 520) refl
       (wider read.numbers (9 ∷ []) (refusalOf (readIs s n .answer) .number)) (reading.promise .table s n))
 
   pub read-kept : Read s n w place
@@ -122,7 +124,7 @@ module _ (s : List ℕ) (n : ℕ) (w : List ℕ) (place : ℕ) where
         let k = given-record s n (length w) e in
         let p = reading.promise .success s n (k .1) in
         (p .1, p .2, rw (k .0, p .0), rw (k .0, p .0));
-    refusal = bad (eqb (length w) 517) (readIs s n .answer);
+    refusal = bad (eqb (length w) 520) (readIs s n .answer);
   }
     where
       bad : (t : Bool) (a : Answer) → (refusalOf (pick t a (answer.Refused nine)) .number ≡ 0 → ⊥)
@@ -139,14 +141,14 @@ module _ (w out : List ℕ) (old : ℕ) where
   unfolding writeNumber writeOut writeBits
   write-kept = record {
     table =
-        looked-at (eqb (length w) 517) (eqb-true (length w) 517) (eq-eqb (length w) 517) refl
+        looked-at (eqb (length w) 520) (eqb-true (length w) 520) (eq-eqb (length w) 520) refl
         (wider (0 ∷ 3 ∷ 4 ∷ 8 ∷ []) (9 ∷ []) (writtenNumber (writeIs (recordFrom w) out)))
         (writing.promise .table (recordFrom w) out);
     success = λ e.
-        let k = picked (eqb (length w) 517) e (λ x. omega arith) in
+        let k = picked (eqb (length w) 520) e (λ x. omega arith) in
         let p = writing.promise .success (recordFrom w) out (k .1) in
         (rw (k .0) (p .1), rw (k .0, p .0));
-    refusal = go (eqb (length w) 517);
+    refusal = go (eqb (length w) 520);
   }
     where
       go : (t : Bool) → (pick t (writtenNumber (writeIs (recordFrom w) out)) 9 ≡ 0 → ⊥)
@@ -198,18 +200,12 @@ module _ (b : List ℕ) (network ssi part : ℕ) (out : List ℕ) (old entry pla
         (restore.promise .refusal b (keyOf network ssi part) out (r .0) (r .1), r .2, r .3, r .4);
   }
 
-module _ (b : List ℕ) (network ssi part definition delivery acknowledgement : ℕ) (out : List ℕ) (old entry place : ℕ) where
-  abbrev key : Key
-  key = keyOf network ssi part
-
-  abbrev wanted : Definition
-  wanted = definitionOf definition delivery acknowledgement
-
-  pub reload-kept : Reload b network ssi part definition delivery acknowledgement out old entry place
+module _ (t : Target) (b : List ℕ) (key : Key) (d : Definition) (out : List ℕ) (old entry place : ℕ) where
+  pub reload-kept : Reloads t b key d out old entry place
   reload-kept = record {
-    table = reload.promise .table b key wanted out;
+    table = reload.promise .table t b key d out;
     success = λ e.
-        let p = reload.promise .success b key wanted out e in (
+        let p = reload.promise .success t b key d out e in (
           p .0,
           p .1,
           p .2,
@@ -219,8 +215,8 @@ module _ (b : List ℕ) (network ssi part definition delivery acknowledgement : 
           ap (λ (x : Restored). restoredPlace x place) (p .4),
         );
     refusal = λ h.
-        let r = restored-refusal old entry place (reloadAnswer b network ssi part definition delivery acknowledgement out) h in
-        (reload.promise .refusal b key wanted out (r .0) (r .1), r .2, r .3, r .4);
+        let r = restored-refusal old entry place (reloadIs t b key d out) h in
+        (reload.promise .refusal t b key d out (r .0) (r .1), r .2, r .3, r .4);
   }
 
 module _ (b out : List ℕ) (old entry place : ℕ) where

@@ -2,6 +2,7 @@ pub mod Tables
 pub mod Requests
 pub mod Archive
 pub mod Broken
+pub mod Standing
 pub mod Demand1
 pub mod Visitors
 pub mod Reload

@@ -29,6 +29,7 @@ use Rattle.archive.specs.declared.Restored.the-variants.{Bits, Refused}
 use Rattle.reload.specs.Define.{defineOf, stands}
 use Rattle.reload.specs.Reload.{recordOf, reloadIs, reloadOut}
 use Rattle.reload.specs.declared.Definition.{Definition}
+use Rattle.reload.specs.declared.Target.{Target}
 use Rattle.reload.proofs.Standing.{define-stands}
 use Rattle.reload.proofs.Held.{held-agrees}
 use Rattle.boc.specs.Calls.{restoredLength}
@@ -42,20 +43,21 @@ use Rattle.promises.specs.Demand1.Writing as writes
 use Rattle.promises.specs.Reload.{PutsBack, Puttable, readBack, Promise}
 use Rattle.promises.proofs.Archive as archive-kept
 use Rattle.promises.proofs.Demand1.Restore.{holds}
-use Rattle.promises.proofs.Demand1.Reload.{is-standing, found, is-held, legal, wrote-number, Success, succeeded}
+use Rattle.promises.proofs.Demand1.Reload.{found, is-held, legal, wrote-number, Success, succeeded}
+use Rattle.promises.proofs.Standing.{is-standing}
 use Rattle.promises.proofs.Demand1.Writing as writing
 
 abbrev archives : archive.Promise
 archives = archive-kept.promise
 
 -- the DEFINE of a part has all that the rules ask of it
-same-rules : (d : Definition) (part : Record) (home : ℕ) (q : Request) → ruling home (defineOf d part) q ≡ ruling home part q
+same-rules : (t : Target) (d : Definition) (part : Record) (home : ℕ) (q : Request) → ruling home (defineOf t d part) q ≡ ruling home part q
 unfolding defineOf ruling sixRules
-same-rules d part home q = refl
+same-rules t d part home q = refl
 
-puts-back : (d : Definition) (part x : Record) → x ≡ defineOf d part → PutsBack d part x
+puts-back : (t : Target) (d : Definition) (part x : Record) → x ≡ defineOf t d part → PutsBack t d part x
 unfolding defineOf
-puts-back d part x e = record {
+puts-back t d part x e = record {
   kind = ap (λ (r : Record). r .kind) e;
   user = ap (λ (r : Record). r .affected) e;
   services = ap (λ (r : Record). r .services) e;
@@ -64,44 +66,44 @@ puts-back d part x e = record {
   exceptions = ap (λ (r : Record). r .lists .exceptions) e;
   numbers = ap (λ (r : Record). r .lists .numbers) e;
   excepted = ap (λ (r : Record). r .lists .excepted) e;
-  delivery = ap (λ (r : Record). r .delivery) e;
-  acknowledgement = ap (λ (r : Record). r .acknowledgement) e;
-  definition = ap (λ (r : Record). r .definition) e;
+  delivery = ap (λ (r : Record). r .figures .delivery) e;
+  acknowledgement = ap (λ (r : Record). r .figures .acknowledgement) e;
+  definition = ap (λ (r : Record). r .figures .definition) e;
 }
 
-module _ (b : List ℕ) (key : Key) (d : Definition) (out : List ℕ) where
+module _ (t : Target) (b : List ℕ) (key : Key) (d : Definition) (out : List ℕ) where
   -- ---- what was written reads back
 
-  module _ (n : ℕ) (e : reloadIs b key d out ≡ Bits (record { 0 = n })) (k : IsArchive b) (h : Held) (x : Holds b key k h) where
-    done : Success b key d out
-    done = succeeded b key d out (ap (λ (x : Restored). restoredRefusal x .number) e)
+  module _ (n : ℕ) (e : reloadIs t b key d out ≡ Bits (record { 0 = n })) (k : IsArchive b) (h : Held) (x : Holds b key k h) where
+    done : Success t b key d out
+    done = succeeded t b key d out (ap (λ (x : Restored). restoredRefusal x .number) e)
 
     found-as : lookup key (reading b .held) ≡ some h
     found-as = holds b key (done .ranged) k h x
 
     abbrev define : Record
-    define = defined b key d h
+    define = defined t b key d h
 
     -- what was written is the DEFINE of the PDU that is held
-    same : defined b key d (done .held) ≡ define
+    same : defined t b key d (done .held) ≡ define
     same =
         let one : some (done .held) ≡ some h = sym (holds b key (done .ranged) (done .archive) (done .held) (done .holds)) ∙ found-as in
         let held : done .held ≡ h = cc one in
-        ap (defined b key d) held
+        ap (defined t b key d) held
 
-    back : readIs (take (bytesFor n) (reloadOut b key d out)) n ≡ acceptedAs define
+    back : readIs (take (bytesFor n) (reloadOut t b key d out)) n ≡ acceptedAs define
     back =
-        let y = defined b key d (done .held) in
+        let y = defined t b key d (done .held) in
         let size : lengthOf y ≡ n = ap (λ (a : Restored). restoredLength a 0) (sym (done .is) ∙ e) in
-        let left : outIs y out ≡ reloadOut b key d out =
+        let left : outIs y out ≡ reloadOut t b key d out =
         writing.promise .success y out (ap writtenNumber (done .wrote)) .1
         ∙ ap (λ (m : ℕ). pack (pdu .print y) ++ drop m out) (sym (length-pack (pdu .print y))) ∙ sym (done .left) in
-        subst (λ (m : ℕ). readIs (take (bytesFor m) (reloadOut b key d out)) m ≡ acceptedAs y) size
+        subst (λ (m : ℕ). readIs (take (bytesFor m) (reloadOut t b key d out)) m ≡ acceptedAs y) size
         (subst (λ (s : List ℕ). readIs (take (bytesFor (lengthOf y)) s) (lengthOf y) ≡ acceptedAs y) left
         (read-written y out (lengthOf y) (done .wrote)))
         ∙ ap acceptedAs same
 
-    record-back : readBack b key d out n ≡ define
+    record-back : readBack t b key d out n ≡ define
     record-back = ap (λ (x : Reading). x .found) back
 
     accepting : Holdable (recordOf h)
@@ -111,33 +113,33 @@ module _ (b : List ℕ) (key : Key) (d : Definition) (out : List ℕ) where
 
   module _ (r : Ranged key) (a : Asked d) (k : IsArchive b) (h : Held) (x : Holds b key k h) where
     -- with lists that stand the number is one of writing's
-    not-lost : stands (d .definition) (recordOf h .lists) ≡ true → reloadIs b key d out ≡ Refused (plain 12) → ⊥
+    not-lost : stands t (d .definition) (recordOf h .lists) ≡ true → reloadIs t b key d out ≡ Refused (plain 12) → ⊥
     not-lost s e =
-        let w = defined b key d h in
+        let w = defined t b key d h in
         let twelve : writes.number w out ≡ 12 =
-        ap (λ (f : Refusal). f .number) (sym (wrote-number b key d out r a k h x (is-standing _ _ s)) ∙ ap restoredRefusal e) in
+        ap (λ (f : Refusal). f .number) (sym (wrote-number t b key d out r a k h x (is-standing t _ _ s)) ∙ ap restoredRefusal e) in
         differ (sym (subst (OneOf (0 ∷ 3 ∷ 4 ∷ 8 ∷ [])) twelve (writing.promise .table w out .listed)))
 
-    lost-exactly : (reloadIs b key d out ≡ Refused (plain 12)) ↔ ((y : Record) → Puttable d (recordOf h) y → ⊥)
+    lost-exactly : (reloadIs t b key d out ≡ Refused (plain 12)) ↔ ((y : Record) → Puttable t d (recordOf h) y → ⊥)
     unfolding defineOf
     lost-exactly = (
-      λ e y p. not-lost (ap₂ stands (sym (p .2)) (sym (p .3)) ∙ define-stands y (p .0) (p .1)) e,
-      λ none. go (stands (d .definition) (recordOf h .lists)) refl none,
+      λ e y p. not-lost (ap₂ (stands t) (sym (p .2)) (sym (p .3)) ∙ define-stands t y (p .0) (p .1)) e,
+      λ none. go (stands t (d .definition) (recordOf h .lists)) refl none,
     )
       where
-        go : (t : Bool) → stands (d .definition) (recordOf h .lists) ≡ t → ((y : Record) → Puttable d (recordOf h) y → ⊥)
-            → reloadIs b key d out ≡ Refused (plain 12)
-        go true s none = absurd (none (defined b key d h) (legal b key d out r a k h x (is-standing _ _ s), refl, refl, refl))
-        go false s none = found b key d out r a k (some h) (is-held b key d out r a k h x) ∙ rw s
+        go : (f : Bool) → stands t (d .definition) (recordOf h .lists) ≡ f → ((y : Record) → Puttable t d (recordOf h) y → ⊥)
+            → reloadIs t b key d out ≡ Refused (plain 12)
+        go true s none = absurd (none (defined t b key d h) (legal t b key d out r a k h x (is-standing t _ _ s), refl, refl, refl))
+        go false s none = found t b key d out r a k (some h) (is-held t b key d out r a k h x) ∙ rw s
 
-pub promise : (b : List ℕ) (key : Key) (d : Definition) (out : List ℕ) → Promise b key d out
-promise b key d out = record {
+pub promise : (t : Target) (b : List ℕ) (key : Key) (d : Definition) (out : List ℕ) → Promise t b key d out
+promise t b key d out = record {
   reads-back = λ n e k h x. (
-    accepting b key d out n e k h x,
-    back b key d out n e k h x,
-    puts-back d (recordOf h) (readBack b key d out n) (record-back b key d out n e k h x),
+    accepting t b key d out n e k h x,
+    back t b key d out n e k h x,
+    puts-back t d (recordOf h) (readBack t b key d out n) (record-back t b key d out n e k h x),
   );
-  lost-exactly = lost-exactly b key d out;
+  lost-exactly = lost-exactly t b key d out;
   same-decisions = λ n e k h x home q.
-      ap (λ (r : Record). ruling home r q) (record-back b key d out n e k h x) ∙ same-rules d (recordOf h) home q;
+      ap (λ (r : Record). ruling home r q) (record-back t b key d out n e k h x) ∙ same-rules t d (recordOf h) home q;
 }

@@ -34,6 +34,7 @@ use Rattle.archive.proofs.Model.Keys.{in-range}
 use Rattle.reload.specs.Define.{defineOf}
 use Rattle.reload.specs.Reload.{redefined, reloadIs, reloadOut}
 use Rattle.reload.specs.declared.Definition.{Definition}
+use Rattle.reload.specs.declared.Target.{Target}
 use Rattle.words.specs.RequestWords.{requestFrom}
 use Rattle.barring.specs.Decide.{keyFor, partIn, judgedBy, decideIs}
 use Rattle.barring.specs.Decision.{decisionOf, verdictOf}
@@ -46,7 +47,7 @@ use Rattle.promises.specs.Archive.{Ranged}
 use Rattle.promises.specs.Demand1.Reload.{Asked}
 use Rattle.promises.specs.Demand3 as demand3
 use Rattle.promises.proofs.Archive as archive-kept
-use Rattle.promises.proofs.Demand1.Reload.{asked-is}
+use Rattle.promises.proofs.Standing.{asked-is}
 use Rattle.promises.proofs.Calls.{decide-kept}
 use Rattle.promises.proofs.Calls.OfWords.{asked}
 use Rattle.promises.proofs.Demand1.Empty as empty
@@ -169,21 +170,21 @@ module _ (home : ℕ) (lent : List ℕ) (old : ℕ) (calls : List Call) (e : emp
         let p = demand3.restores-nothing-else home lent m written (offers calls) (keyOf network ssi part) r out (last-is (keyOf network ssi part) ∙ l) in
         subst (Gives 11 bits out) archive-is (ap restoredNumber (p .0), ap (λ (x : Restored). restoredLength x bits) (p .0), p .1)
 
-  module _ (k : Key) (d : Definition) (r : Ranged k) (a : Asked d) (out : List ℕ) where
+  module _ (t : Target) (k : Key) (d : Definition) (r : Ranged k) (a : Asked d) (out : List ℕ) where
     abbrev Answers : Restored → List ℕ → List ℕ → Type 0
-    Answers x left b = (reloadIs b k d out ≡ x) × (reloadOut b k d out ≡ left)
+    Answers x left b = (reloadIs t b k d out ≡ x) × (reloadOut t b k d out ≡ left)
 
     reloaded : (o : Offer) → last k ≡ some o → let part = readIs (o .pdu) (o .bits) .found in
-        Answers (redefined d part out) (restores (redefined d part out) (pack (pdu .print (defineOf d part))) out) b
+        Answers (redefined t d part out) (restores (redefined t d part out) (pack (pdu .print (defineOf t d part))) out) b
     reloaded o l =
         subst (Answers _ _) archive-is
-        (demand3.reloads-the-last home lent m written (offers calls) k (archives.in-range k .1 r) d (asked-is d a) out o (last-is k ∙ l))
+        (demand3.reloads-the-last home lent m written (offers calls) t k (archives.in-range k .1 r) d (asked-is d a) out o (last-is k ∙ l))
 
     none-reloaded : (bits : ℕ) → last k ≡ none
-        → (restoredNumber (reloadIs b k d out) ≡ 11) × (restoredLength (reloadIs b k d out) bits ≡ bits) × (reloadOut b k d out ≡ out)
+        → (restoredNumber (reloadIs t b k d out) ≡ 11) × (restoredLength (reloadIs t b k d out) bits ≡ bits) × (reloadOut t b k d out ≡ out)
     none-reloaded bits l =
         let p = subst (Answers _ _) archive-is
-        (demand3.reloads-nothing-else home lent m written (offers calls) k (archives.in-range k .1 r) d (asked-is d a) out (last-is k ∙ l)) in
+        (demand3.reloads-nothing-else home lent m written (offers calls) t k (archives.in-range k .1 r) d (asked-is d a) out (last-is k ∙ l)) in
         (ap restoredNumber (p .0), ap (λ (x : Restored). restoredLength x bits) (p .0), p .1)
 
   module _ (w : List ℕ) (before : ℕ) (d : decidedNumber (decideAnswer b w) ≡ 0) where

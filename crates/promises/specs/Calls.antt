@@ -20,14 +20,17 @@ use Rattle.archive.specs.Restoring.{restoredRefusal, restoreOut}
 use Rattle.archive.specs.Listing.{listOut}
 use Rattle.archive.specs.Listing as lists
 use Rattle.reload.specs.Define.{defineOf}
-use Rattle.reload.specs.Reload.{recordOf}
+use Rattle.reload.specs.Reload.{recordOf, reloadIs, reloadOut}
+use Rattle.reload.specs.declared.Definition.{Definition}
+use Rattle.reload.specs.declared.Target.{Target}
+use Rattle.reload.specs.declared.Target.the-variants.{Define, DefineExternal}
 use Rattle.words.specs.RecordWords.{word, recordWords, recordFrom}
 use Rattle.words.specs.RequestWords.{requestFrom}
 use Rattle.barring.specs.Decide.{partIn, decideIs}
 use Rattle.barring.specs.Decision.{decidedRefusal}
 use Rattle.boc.specs.Calls.{placeWord, entryWord, readNumber, readPlace, writeNumber, writeOut, writeBits, emptyNumber, emptyLength}
 use Rattle.boc.specs.Calls.{storedNumber, storedLength, storedEntry, storedPlace, captureAnswer, contentsAnswer}
-use Rattle.boc.specs.Calls.{restoredNumber, restoredLength, restoredEntry, restoredPlace, keyOf, restoreAnswer, definitionOf, reloadAnswer, reloadLeaves}
+use Rattle.boc.specs.Calls.{restoredNumber, restoredLength, restoredEntry, restoredPlace, keyOf, restoreAnswer, definitionOf}
 use Rattle.boc.specs.Calls.{decidedNumber, decidedVerdict, decidedEntry, decidedPlace, decideAnswer}
 use Rattle.promises.specs.Answers.{Exactly}
 use Rattle.promises.specs.Archive.{IsArchive, HeldFor}
@@ -48,9 +51,9 @@ pub data Checked {ℓ} {A : Type 0} (nine : A) (Right : Type 0) (Given : A → T
   wrong : (Right → ⊥) → Checked nine Right Given nine
   right : (a : A) → Right → Given a → Checked nine Right Given a
 
--- 517 words are a record
+-- 520 words are a record
 abbrev pub OfRecord : List ℕ → Type 0
-OfRecord w = length w ≡ 517
+OfRecord w = length w ≡ 520
 
 -- 34 words are a request if the kind of destination (3) is 1, and the length (6) is 0, or it is 2, and network (4) and SSI (5) are 0;
 pub data OfDestination (w : List ℕ) : Type 0 where
@@ -69,7 +72,7 @@ pub record OfRequest (w : List ℕ) : Type 0 where
 
 -- ---- the calls; proved in proofs/Calls.antt
 
--- boc_read: 0, 9 for another count of words than 517, and the numbers of reading
+-- boc_read: 0, 9 for another count of words than 520, and the numbers of reading
 pub record Read (pdu′ : List ℕ) (bits : ℕ) (words : List ℕ) (place : ℕ) : Type 1 where
   pub table : Exactly reading.numberOf (refusalOf (readWordsIs pdu′ bits (length words))) (reading.numbers ++ (9 ∷ []))
       (Checked (reading.told 9 bit.Nowhere) (OfRecord words) (reading.Given pdu′ bits))
@@ -81,7 +84,7 @@ pub record Read (pdu′ : List ℕ) (bits : ℕ) (words : List ℕ) (place : ℕ
       → (readWords pdu′ bits words ≡ words)
       × (readPlace pdu′ bits (length words) place ≡ placeWord (refusalOf (readWordsIs pdu′ bits (length words)) .place))
 
--- boc_write: 0, 9 for another count of words than 517, and the numbers of writing
+-- boc_write: 0, 9 for another count of words than 520, and the numbers of writing
 pub record Write (words out : List ℕ) (bits : ℕ) : Type 1 where
   pub table : Exactly (λ k. k) (writeNumber words out) (0 ∷ 3 ∷ 4 ∷ 8 ∷ 9 ∷ []) (Checked 9 (OfRecord words) (writing.Given (recordFrom words) out))
   pub success : writeNumber words out ≡ 0 → let r = recordFrom words in
@@ -122,22 +125,29 @@ pub record Restore (archive : List ℕ) (network ssi part : ℕ) (out : List ℕ
       (restoreOut archive (keyOf network ssi part) out ≡ out) × (restoredLength answer old ≡ old)
       × (restoredEntry answer entry ≡ entryWord (f .entry)) × (restoredPlace answer place ≡ placeWord (f .place))
 
--- boc_reload
-pub record Reload (archive : List ℕ) (network ssi part definition delivery acknowledgement : ℕ) (out : List ℕ) (old entry place : ℕ) : Type 0 where
-  pub table : let answer = reloadAnswer archive network ssi part definition delivery acknowledgement out in
-      Exactly numberOf (restoredRefusal answer) (0 ∷ 9 ∷ 7 ∷ 11 ∷ 12 ∷ 8 ∷ [])
-      (reload.Given archive (keyOf network ssi part) (definitionOf definition delivery acknowledgement) (length out))
-  -- the DEFINE of the PDU that is held for that user and part, and its bits
-  pub success : let answer = reloadAnswer archive network ssi part definition delivery acknowledgement out in
-      restoredNumber answer ≡ 0 → let d = definitionOf definition delivery acknowledgement in
-      (k : IsArchive archive) × (h : Held) × HeldFor (k .archive .held) (keyOf network ssi part) h
-      × (reloadLeaves archive network ssi part definition delivery acknowledgement out ≡ over (pack (pdu .print (defineOf d (recordOf h)))) out)
-      × (restoredLength answer old ≡ lengthOf (defineOf d (recordOf h)))
+-- a part put back by a call: what it answers is reloadIs, what it leaves reloadOut
+pub record Reloads (t : Target) (archive : List ℕ) (key : Key) (d : Definition) (out : List ℕ) (old entry place : ℕ) : Type 0 where
+  pub table : Exactly numberOf (restoredRefusal (reloadIs t archive key d out)) (0 ∷ 9 ∷ 7 ∷ 11 ∷ 12 ∷ 8 ∷ []) (reload.Given t archive key d (length out))
+  -- the PDU that puts back the one held for that user and part, and its bits
+  pub success : let answer = reloadIs t archive key d out in
+      restoredNumber answer ≡ 0 → (k : IsArchive archive) × (h : Held) × HeldFor (k .archive .held) key h
+      × (reloadOut t archive key d out ≡ over (pack (pdu .print (defineOf t d (recordOf h)))) out)
+      × (restoredLength answer old ≡ lengthOf (defineOf t d (recordOf h)))
       × (restoredEntry answer entry ≡ entry) × (restoredPlace answer place ≡ place)
-  pub refusal : let answer = reloadAnswer archive network ssi part definition delivery acknowledgement out in
+  pub refusal : let answer = reloadIs t archive key d out in
       (restoredNumber answer ≡ 0 → ⊥) → let f = restoredRefusal answer in
-      (reloadLeaves archive network ssi part definition delivery acknowledgement out ≡ out) × (restoredLength answer old ≡ old)
+      (reloadOut t archive key d out ≡ out) × (restoredLength answer old ≡ old)
       × (restoredEntry answer entry ≡ entryWord (f .entry)) × (restoredPlace answer place ≡ placeWord (f .place))
+
+-- boc_reload: a DEFINE of either part
+abbrev pub Reload : List ℕ → ℕ → ℕ → ℕ → ℕ → ℕ → ℕ → List ℕ → ℕ → ℕ → ℕ → Type 0
+Reload archive network ssi part definition delivery acknowledgement =
+    Reloads Define archive (keyOf network ssi part) (definitionOf definition delivery acknowledgement)
+
+-- boc_reload_external: a DEFINE EXTERNAL of the number part
+abbrev pub ReloadExternal : List ℕ → ℕ → ℕ → ℕ → ℕ → ℕ → List ℕ → ℕ → ℕ → ℕ → Type 0
+ReloadExternal archive network ssi definition delivery acknowledgement =
+    Reloads DefineExternal archive (keyOf network ssi 2) (definitionOf definition delivery acknowledgement)
 
 -- boc_decide: 0, 9 for words that are no request's or a request out of its range, 7
 pub record Decide (archive words : List ℕ) (old entry place : ℕ) : Type 0 where

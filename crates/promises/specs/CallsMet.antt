@@ -40,14 +40,14 @@ reversed = 0x49 ∷ 0x72 ∷ 0x00 ∷ 0x01 ∷ 0x90 ∷ 0x00 ∷ 0x00 ∷ 0xc7 �
 abbrev lent : ℕ → List ℕ
 lent n = replicate n 0
 
-read-met : readNumber asked 42 517 ∷ readNumber [] 1 517 ∷ readNumber [] 0 517 ∷ readNumber (0x00 ∷ []) 6 517 ∷ readNumber reversed 65 517
-    ∷ readNumber asked 43 517 ∷ readNumber (0x48 ∷ 0x00 ∷ []) 11 517 ∷ readNumber asked 42 516 ∷ [] ≡ 0 ∷ 1 ∷ 2 ∷ 3 ∷ 4 ∷ 5 ∷ 10 ∷ 9 ∷ []
+read-met : readNumber asked 42 520 ∷ readNumber [] 1 520 ∷ readNumber [] 0 520 ∷ readNumber (0x00 ∷ []) 6 520 ∷ readNumber reversed 65 520
+    ∷ readNumber asked 43 520 ∷ readNumber (0x48 ∷ 0x00 ∷ []) 11 520 ∷ readNumber asked 42 519 ∷ [] ≡ 0 ∷ 1 ∷ 2 ∷ 3 ∷ 4 ∷ 5 ∷ 10 ∷ 9 ∷ []
 unfolding grammar readIs framed bits readWordsIs
 read-met = refl
 
 -- the place: as it was after a success; 1 and 9 have none
-read-places : readPlace asked 42 517 77 ∷ readPlace [] 1 517 77 ∷ readPlace [] 0 517 77 ∷ readPlace (0x00 ∷ []) 6 517 77 ∷ readPlace reversed 65 517 77
-    ∷ readPlace asked 43 517 77 ∷ readPlace (0x48 ∷ 0x00 ∷ []) 11 517 77 ∷ readPlace asked 42 516 77 ∷ []
+read-places : readPlace asked 42 520 77 ∷ readPlace [] 1 520 77 ∷ readPlace [] 0 520 77 ∷ readPlace (0x00 ∷ []) 6 520 77 ∷ readPlace reversed 65 520 77
+    ∷ readPlace asked 43 520 77 ∷ readPlace (0x48 ∷ 0x00 ∷ []) 11 520 77 ∷ readPlace asked 42 519 77 ∷ []
     ≡ 77 ∷ nowhere ∷ 0 ∷ 0 ∷ 40 ∷ 42 ∷ 6 ∷ nowhere ∷ []
 unfolding grammar readIs framed bits readWordsIs
 read-places = refl
@@ -56,13 +56,13 @@ read-places = refl
 abbrev backwards : List ℕ
 backwards = 11 ∷ 9 ∷ 200 ∷ 0 ∷ 0 ∷ 199 ∷ lent 20 ++ (1 ∷ lent 490)
 
-write-met : writeNumber (recordWords asking) (lent 6) ∷ writeNumber (lent 517) [] ∷ writeNumber backwards []
-    ∷ writeNumber (recordWords asking) (lent 5) ∷ writeNumber (lent 516) (lent 6) ∷ [] ≡ 0 ∷ 3 ∷ 4 ∷ 8 ∷ 9 ∷ []
+write-met : writeNumber (recordWords asking) (lent 6) ∷ writeNumber (lent 520) [] ∷ writeNumber backwards []
+    ∷ writeNumber (recordWords asking) (lent 5) ∷ writeNumber (lent 519) (lent 6) ∷ [] ≡ 0 ∷ 3 ∷ 4 ∷ 8 ∷ 9 ∷ []
 unfolding grammar records writeIs writeRefusal recordRefusal writeNumber
 write-met = refl
 
 -- the pointer's number after a success, and after a refusal
-write-bits : writeBits (recordWords asking) (lent 6) 77 ∷ writeBits (recordWords asking) (lent 5) 77 ∷ writeBits (lent 516) (lent 6) 77 ∷ []
+write-bits : writeBits (recordWords asking) (lent 6) 77 ∷ writeBits (recordWords asking) (lent 5) 77 ∷ writeBits (lent 519) (lent 6) 77 ∷ []
     ≡ 42 ∷ 77 ∷ 77 ∷ []
 unfolding grammar records writeIs writeRefusal recordRefusal writeBits
 write-bits = refl

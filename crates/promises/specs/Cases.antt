@@ -5,6 +5,7 @@ use mathlib.Core.List.{List, [], _∷_, _++_, map}
 use Prim.Native.Nat.{ℕ, _-_}
 use lib.ListN.{length, replicate}
 use Rattle.grammar.specs.Grammar.{zeroIdentity}
+use Rattle.grammar.specs.Figures.{ofInterrogation}
 use Rattle.grammar.specs.Zero.{zeroIdentities, zeroNumber, zeroNumbers}
 use Rattle.grammar.specs.ProfileRecords.{A, C}
 use Rattle.grammar.specs.declared.record.Identity.{Identity}

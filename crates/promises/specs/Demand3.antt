@@ -28,6 +28,7 @@ use Rattle.barring.proofs.History as deciding
 use Rattle.reload.specs.Define.{isDefinition, defineOf}
 use Rattle.reload.specs.Reload.{redefined, reloadIs, reloadOut}
 use Rattle.reload.specs.declared.Definition.{Definition}
+use Rattle.reload.specs.declared.Target.{Target}
 use Rattle.reload.proofs.History as reloading
 
 -- The empty archive of a home network, the m bytes that `empty` wrote; and PDUs offered one after another, each with the buffer lent for it.
@@ -51,19 +52,19 @@ module _ (home : ℕ) (lent : List ℕ) (m : ℕ) (e : emptyIs home (length lent
         → (restoreIs archive k (length out) ≡ Refused (plain 11)) × (restoreOut archive k out ≡ out)
     restores-nothing-else = history.never home lent m e offers k r out
 
-  module _ (k : Key) (r : inRange k ≡ true) (d : Definition) (f : isDefinition d ≡ true) (out : List ℕ) where
-    -- A reload answers by the record of that same PDU, and writes its DEFINE,
+  module _ (t : Target) (k : Key) (r : inRange k ≡ true) (d : Definition) (f : isDefinition d ≡ true) (out : List ℕ) where
+    -- A reload answers by the record of that same PDU, and writes the DEFINE or DEFINE EXTERNAL that puts it back,
     pub reloads-the-last : (o : Offer) → last k ≡ some o → let part = readIs (o .pdu) (o .bits) .found in
-        (reloadIs archive k d out ≡ redefined d part out)
-        × (reloadOut archive k d out ≡ restores (redefined d part out) (pack (pdu .print (defineOf d part))) out)
+        (reloadIs t archive k d out ≡ redefined t d part out)
+        × (reloadOut t archive k d out ≡ restores (redefined t d part out) (pack (pdu .print (defineOf t d part))) out)
     reloads-the-last o l =
-        let h = reloading.reload-history home lent m e offers k r d f out in
+        let h = reloading.reload-history t home lent m e offers k r d f out in
         rw l at h
 
     -- or says "not held", and no byte changed.
-    pub reloads-nothing-else : last k ≡ none → (reloadIs archive k d out ≡ Refused (plain 11)) × (reloadOut archive k d out ≡ out)
+    pub reloads-nothing-else : last k ≡ none → (reloadIs t archive k d out ≡ Refused (plain 11)) × (reloadOut t archive k d out ≡ out)
     reloads-nothing-else l =
-        let h = reloading.reload-history home lent m e offers k r d f out in
+        let h = reloading.reload-history t home lent m e offers k r d f out in
         rw l at h
 
   module _ (q : Request) (f : requestRefusal q ≡ 0) where

@@ -1,5 +1,5 @@
--- What a reload writes (document 02, request 2026-01): a DEFINE that reads as the part that is held, of which nothing is lost; the six rules
--- applied to its services and lists say of every call what they say by the part.
+-- What a reload writes (document 02, requests 2026-01 and 2026-06): a DEFINE or DEFINE EXTERNAL that reads as the part that is held, of which
+-- nothing is lost; the six rules applied to its services and lists say of every call what they say by the part.
 use mathlib.Core.Path.{_≡_}
 use mathlib.Core.Logic.{_↔_}
 use mathlib.Core.List.{List}
@@ -17,17 +17,18 @@ use Rattle.archive.specs.Model.{Held}
 use Rattle.archive.specs.Refusals.{plain}
 use Rattle.archive.specs.declared.contents.Key.{Key}
 use Rattle.archive.specs.declared.Restored.the-variants.{Bits, Refused}
-use Rattle.reload.specs.Define.{defineOf}
+use Rattle.reload.specs.Define.{kindOf, defineOf}
 use Rattle.reload.specs.Reload.{recordOf, reloadIs, reloadOut}
 use Rattle.reload.specs.declared.Definition.{Definition}
+use Rattle.reload.specs.declared.Target.{Target}
 use Rattle.promises.specs.Held.{Holdable}
 use Rattle.promises.specs.Archive.{IsArchive, Ranged}
 use Rattle.promises.specs.Demand1.Restore.{Holds}
 use Rattle.promises.specs.Demand1.Reload.{Asked}
 
--- the DEFINE x puts the part back: the user entry, the services and each list as held, and what was asked for
-pub record PutsBack (d : Definition) (part x : Record) : Type 0 where
-  pub kind : x .kind ≡ 5
+-- the PDU x puts the part back: the user entry, the services and each list as held, and what was asked for
+pub record PutsBack (t : Target) (d : Definition) (part x : Record) : Type 0 where
+  pub kind : x .kind ≡ kindOf t
   pub user : x .affected ≡ part .affected
   pub services : x .services ≡ part .services
   pub groups : x .lists .groups ≡ part .lists .groups
@@ -35,28 +36,28 @@ pub record PutsBack (d : Definition) (part x : Record) : Type 0 where
   pub exceptions : x .lists .exceptions ≡ part .lists .exceptions
   pub numbers : x .lists .numbers ≡ part .lists .numbers
   pub excepted : x .lists .excepted ≡ part .lists .excepted
-  pub delivery : x .delivery ≡ d .delivery
-  pub acknowledgement : x .acknowledgement ≡ d .acknowledgement
-  pub definition : x .definition ≡ d .definition
+  pub delivery : x .figures .delivery ≡ d .delivery
+  pub acknowledgement : x .figures .acknowledgement ≡ d .acknowledgement
+  pub definition : x .figures .definition ≡ d .definition
 
--- a legal DEFINE of that definition type with every list of the part
-abbrev pub Puttable : Definition → Record → Record → Type 0
-Puttable d part x = Legal pdu x × (x .kind ≡ 5) × (x .definition ≡ d .definition) × (x .lists ≡ part .lists)
+-- a legal PDU of that type and definition type with every list of the part
+abbrev pub Puttable : Target → Definition → Record → Record → Type 0
+Puttable t d part x = Legal pdu x × (x .kind ≡ kindOf t) × (x .figures .definition ≡ d .definition) × (x .lists ≡ part .lists)
 
-module _ (b : List ℕ) (key : Key) (d : Definition) (out : List ℕ) where
+module _ (t : Target) (b : List ℕ) (key : Key) (d : Definition) (out : List ℕ) where
   -- what stands in the buffer after a reload of n bits, read
   abbrev pub readBack : ℕ → Record
-  readBack n = readIs (take (bytesFor n) (reloadOut b key d out)) n .found
+  readBack n = readIs (take (bytesFor n) (reloadOut t b key d out)) n .found
 
   -- Proved in proofs/Reload.antt.
   pub record Promise : Type 0 where
-    -- What was written reads back as the DEFINE of the PDU held for that user and part, an accepting INTERROGATE ACK:
-    pub reads-back : (n : ℕ) → reloadIs b key d out ≡ Bits (record { 0 = n }) → (k : IsArchive b) (h : Held) → Holds b key k h
-        → Holdable (recordOf h) × (readIs (take (bytesFor n) (reloadOut b key d out)) n ≡ acceptedAs (defineOf d (recordOf h)))
-        × PutsBack d (recordOf h) (readBack n)
-    -- so no list of it is lost; 12 is given exactly where no legal DEFINE of the definition type has all its lists.
+    -- What was written reads back as the PDU that puts back the one held for that user and part, an accepting INTERROGATE ACK:
+    pub reads-back : (n : ℕ) → reloadIs t b key d out ≡ Bits (record { 0 = n }) → (k : IsArchive b) (h : Held) → Holds b key k h
+        → Holdable (recordOf h) × (readIs (take (bytesFor n) (reloadOut t b key d out)) n ≡ acceptedAs (defineOf t d (recordOf h)))
+        × PutsBack t d (recordOf h) (readBack n)
+    -- so no list of it is lost; 12 is given exactly where no legal PDU of the type and definition type has all its lists.
     pub lost-exactly : Ranged key → Asked d → (k : IsArchive b) (h : Held) → Holds b key k h
-        → (reloadIs b key d out ≡ Refused (plain 12)) ↔ ((x : Record) → Puttable d (recordOf h) x → ⊥)
+        → (reloadIs t b key d out ≡ Refused (plain 12)) ↔ ((x : Record) → Puttable t d (recordOf h) x → ⊥)
     -- The six rules applied to it say of every call what they say by the held part.
-    pub same-decisions : (n : ℕ) → reloadIs b key d out ≡ Bits (record { 0 = n }) → (k : IsArchive b) (h : Held) → Holds b key k h
+    pub same-decisions : (n : ℕ) → reloadIs t b key d out ≡ Bits (record { 0 = n }) → (k : IsArchive b) (h : Held) → Holds b key k h
         → (home : ℕ) (q : Request) → ruling home (readBack n) q ≡ ruling home (recordOf h) q

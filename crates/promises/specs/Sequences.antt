@@ -1,5 +1,5 @@
 -- Demand 3 as C meets it: boc_empty, then boc_capture any number of times; boc_restore gives the last PDU for which boc_capture gave 0, for
--- that user and part, boc_reload puts its part back, and boc_decide decides by it, or says 4, not held.
+-- that user and part, boc_reload and boc_reload_external put its part back, and boc_decide decides by it, or says 4, not held.
 use mathlib.Core.Path.{_≡_}
 use mathlib.Core.Bool.{_&&_}
 use mathlib.Core.List.{List, [], _∷_}
@@ -20,6 +20,7 @@ use Rattle.archive.specs.declared.contents.Key.{Key}
 use Rattle.reload.specs.Define.{defineOf}
 use Rattle.reload.specs.Reload.{redefined, reloadIs, reloadOut}
 use Rattle.reload.specs.declared.Definition.{Definition}
+use Rattle.reload.specs.declared.Target.{Target}
 use Rattle.words.specs.RequestWords.{requestFrom}
 use Rattle.barring.specs.Decide.{keyFor}
 use Rattle.barring.specs.Decision.{decisionOf, verdictOf}
@@ -71,17 +72,17 @@ pub record Promise (home : ℕ) (lent : List ℕ) (old : ℕ) (calls : List Call
       → lastZero (keyOf network ssi part) (begun home lent old) none calls ≡ none
       → let answer = restoreAnswer b network ssi part out in
       (restoredNumber answer ≡ 11) × (restoredLength answer bits ≡ bits) × (restoreOut b (keyOf network ssi part) out ≡ out)
-  -- boc_reload answers by the record of that same PDU, and leaves its DEFINE,
+  -- boc_reload and boc_reload_external answer by the record of that same PDU, and leave the DEFINE or DEFINE EXTERNAL that puts it back,
   pub reloads-the-last : emptyNumber home lent ≡ 0 → let b = goneOnAll (begun home lent old) calls in
-      (k : Key) (d : Definition) → Ranged k → Asked d → (out : List ℕ) (o : Offer) → lastZero k (begun home lent old) none calls ≡ some o
+      (t : Target) (k : Key) (d : Definition) → Ranged k → Asked d → (out : List ℕ) (o : Offer) → lastZero k (begun home lent old) none calls ≡ some o
       → let part = readIs (o .pdu) (o .bits) .found in
-      (reloadIs b k d out ≡ redefined d part out)
-      × (reloadOut b k d out ≡ restores (redefined d part out) (pack (pdu .print (defineOf d part))) out)
-  -- or gives 11, and changes nothing.
+      (reloadIs t b k d out ≡ redefined t d part out)
+      × (reloadOut t b k d out ≡ restores (redefined t d part out) (pack (pdu .print (defineOf t d part))) out)
+  -- or give 11, and change nothing.
   pub reloads-nothing-else : emptyNumber home lent ≡ 0 → let b = goneOnAll (begun home lent old) calls in
-      (k : Key) (d : Definition) → Ranged k → Asked d → (out : List ℕ) (bits : ℕ) → lastZero k (begun home lent old) none calls ≡ none
-      → let answer = reloadIs b k d out in
-      (restoredNumber answer ≡ 11) × (restoredLength answer bits ≡ bits) × (reloadOut b k d out ≡ out)
+      (t : Target) (k : Key) (d : Definition) → Ranged k → Asked d → (out : List ℕ) (bits : ℕ) → lastZero k (begun home lent old) none calls ≡ none
+      → let answer = reloadIs t b k d out in
+      (restoredNumber answer ≡ 11) × (restoredLength answer bits ≡ bits) × (reloadOut t b k d out ≡ out)
   -- Where boc_decide returns 0, the decision is the number of what the barring rule says by the record of that same PDU,
   pub decides-by-the-last : emptyNumber home lent ≡ 0 → let b = goneOnAll (begun home lent old) calls in
       (words : List ℕ) (before : ℕ) → decidedNumber (decideAnswer b words) ≡ 0 → let q = requestFrom words in

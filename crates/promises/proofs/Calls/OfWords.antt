@@ -94,12 +94,12 @@ module _ (w : List ℕ) where
 
 -- what is read goes to a record's words
 pub given-record : (s : List ℕ) (n words : ℕ) → refusalOf (readWordsIs s n words) .number ≡ 0
-    → (eqb words 517 ≡ true) × (refusalOf (readIs s n .answer) .number ≡ 0)
+    → (eqb words 520 ≡ true) × (refusalOf (readIs s n .answer) .number ≡ 0)
 unfolding readWordsIs
-given-record s n words = go (eqb words 517) refl
+given-record s n words = go (eqb words 520) refl
   where
-    go : (t : Bool) → eqb words 517 ≡ t → refusalOf (pick t (readIs s n .answer) (answer.Refused (told 9 Nowhere))) .number ≡ 0
-        → (eqb words 517 ≡ true) × (refusalOf (readIs s n .answer) .number ≡ 0)
+    go : (t : Bool) → eqb words 520 ≡ t → refusalOf (pick t (readIs s n .answer) (answer.Refused (told 9 Nowhere))) .number ≡ 0
+        → (eqb words 520 ≡ true) × (refusalOf (readIs s n .answer) .number ≡ 0)
     go true f e = (f, e)
     go false f e = absurd (omega (arith, e))
 

@@ -34,7 +34,6 @@ data Code : ℕ → Type 0 where
   passed : Code 0
   three : Code 3
   four : Code 4
-  ten : Code 10
 
 -- what is answered to what was read from the first bit on
 abbrev answerTo : Outcome Record → Reading
@@ -51,7 +50,6 @@ module _ (s : List ℕ) (n : ℕ) where
   at-fault k p f h two = (stopped 1 p f h, refl)
   at-fault k p f h (of-test three) = (stopped 2 p f h, refl)
   at-fault k p f h (of-test four) = (stopped 3 p f h, refl)
-  at-fault k p f h (of-test ten) = (stopped 9 p f h, refl)
 
   from-first : Framed s n → (o : Outcome Record) → Faithful (pdu .clean) (pdu .fault) (pdu .print) 0 (bitsIn n s) o
       → Stopped Code Record pdu 0 (bitsIn n s) o → Both (answerIn (answerTo o))
@@ -70,7 +68,7 @@ module _ (s : List ℕ) (n : ℕ) where
       go : (t : Bool) → framed s n ≡ t → Both (answerIn (pick t (answered (wholeParse pdu (bitsIn n s))) (refusing 1 Nowhere)))
       go true e =
           from-first (framed-says s n e) (pdu .parse 0 (bitsIn n s)) (pdu .sound 0 (bitsIn n s))
-          (of-pdu Code passed three four (Stopping Code) (stopping Code) ten 0 (bitsIn n s))
+          (of-pdu Code passed three four (Stopping Code) (stopping Code) 0 (bitsIn n s))
       go false e = (unframed (λ f. differ (sym (framed-is s n f) ∙ e)), refl)
 
   whole : Framed s n → readIs s n ≡ answerTo (pdu .parse 0 (bitsIn n s))

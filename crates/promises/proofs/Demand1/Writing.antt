@@ -41,7 +41,7 @@ module _ (r : Record) (out : List ℕ) where
   three-or-four four = refl
 
   at-fault : (k : ℕ) → pdu .clean r ≡ true → pdu .fault r ≡ suc k → Faults Record pdu r (suc k)
-  at-fault k clean e = subst (Faulted Record pdu r) e (of-pdu (λ n. Unit {0}) tt tt tt Faulting (faulting (λ n. Unit {0})) tt r clean)
+  at-fault k clean e = subst (Faulted Record pdu r) e (of-pdu (λ n. Unit {0}) tt tt tt Faulting (faulting (λ n. Unit {0})) r clean)
 
   row : Both (number r out)
   unfolding writeIs writeRefusal recordRefusal

@@ -1,4 +1,4 @@
--- Demand 1, capture: "7, the PDU's 1 to 5 and 10, 6, 8. Each is given exactly then." With 7 its entry and place, with the PDU's its place.
+-- Demand 1, capture: "7, the PDU's 1 to 5, 6, 8. Each is given exactly then." With 7 its entry and place, with the PDU's its place.
 use mathlib.Core.Path.{_≡_, refl}
 use mathlib.Core.List.{List, [], _∷_, _++_}
 use Prim.Native.Nat.{ℕ, suc, _≤_, _<_}
@@ -49,7 +49,7 @@ pub data Given (b s : List ℕ) (n room : ℕ) : Refusal → Type 0 where
       → Given b s n room (plain 0)
   -- 7: the archive breaks a rule
   damaged : (f : Refusal) → Broken b f → Given b s n room f
-  -- 1 to 5 and 10: those of reading
+  -- 1 to 5: those of reading
   unread : (k : ℕ) (p : BitPlace) → IsArchive b → readIs s n .answer ≡ reader.Refused (read.told (suc k) p)
       → Given b s n room (record { number = suc k; entry = entry.Nowhere; place = p })
   -- 6: a legal PDU that no archive entry may hold
@@ -59,7 +59,7 @@ pub data Given (b s : List ℕ) (n room : ℕ) : Refusal → Type 0 where
   too-long : Offered b s n → 65536 < length (result b s n) → Given b s n room (plain 8)
   no-room : Offered b s n → room < length (result b s n) → Given b s n room (plain 8)
 
--- an archive that holds nothing, and an INTERROGATE
+-- an archive that holds nothing, and an INTERROGATE; 49 b0 is a CALL BARRED
 abbrev nothing : List ℕ
 nothing = replicate 5 0
 
@@ -79,11 +79,12 @@ met : (answer nothing profileA 138 32 ≡ plain 0)
     × (answer nothing (0x00 ∷ []) 6 0 ≡ ofPdu (read.told 3 (At 0)))
     × (answer nothing (0x49 ∷ 0x72 ∷ 0x00 ∷ 0x01 ∷ 0x90 ∷ 0x00 ∷ 0x00 ∷ 0xc7 ∷ 0x00 ∷ []) 65 0 ≡ ofPdu (read.told 4 (At 40)))
     × (answer nothing asking 43 0 ≡ ofPdu (read.told 5 (At 42)))
-    × (answer nothing (0x48 ∷ 0x00 ∷ []) 11 0 ≡ ofPdu (read.told 10 (At 6)))
+    × (answer nothing (0x48 ∷ 0x80 ∷ []) 11 0 ≡ ofPdu (read.told 3 (At 6)))
     × (answer nothing asking 42 0 ≡ plain 6)
+    × (answer nothing (0x49 ∷ 0xb0 ∷ []) 13 0 ≡ plain 6)
     × (answer nothing profileA 138 31 ≡ plain 8)
 unfolding calls bodyAgrees filingOf
-met = (refl, refl, refl, refl, refl, refl, refl, refl, refl, refl, refl)
+met = (refl, refl, refl, refl, refl, refl, refl, refl, refl, refl, refl, refl)
 
 -- Proved in proofs/Demand1/Capture.antt.
 pub record Promise : Type 0 where

@@ -1,4 +1,4 @@
--- Demand 1, reading: "1; then element by element, left to right, 2 before 3 (or 10); 4 after the second end; 5 last. Each is given exactly then."
+-- Demand 1, reading: "1; then element by element, left to right, 2 before 3; 4 after the second end; 5 last. Each is given exactly then."
 -- With each but 1 the bit place of the first bit of the element that caused it (document 02, 2026-03).
 use mathlib.Core.Path.{_≡_, refl}
 use mathlib.Core.Bool.{Bool}
@@ -36,14 +36,14 @@ pub data Given (s : List ℕ) (n : ℕ) : Refusal → Type 1 where
   accepted : (r : Record) → Framed s n → Legal pdu r → bitsIn n s ≡ pdu .print r → Given s n (told 0 Nowhere)
   -- 1: over 4,096 bits, wrong byte count, or a nonzero unused bit
   unframed : (Framed s n → ⊥) → Given s n (told 1 Nowhere)
-  -- 2: the PDU ends inside an element, or just before one that is due; 3, 10: an element's value is refused; 4: range ends disagree or are reversed;
+  -- 2: the PDU ends inside an element, or just before one that is due; 3: an element's value is refused; 4: range ends disagree or are reversed;
   -- p bits stand before the element, for 4 before the second end's SSI
   stopped : (k p : ℕ) → Framed s n → Stops Record pdu (bitsIn n s) (suc k) p → Given s n (told (suc k) (At p))
   -- 5: bits left after the last element, from where its writing ends
   left-over : (r : Record) (b : Bool) (more : List Bool) → Framed s n → Legal pdu r → bitsIn n s ≡ pdu .print r ++ (b ∷ more)
       → Given s n (told 5 (At (length (pdu .print r))))
 
--- each is met, 2 also at the PDU's end
+-- each is met, 2 also at the PDU's end, and 3 also at a PDU type that table 23 names and that has no PDU
 met : (answer (0x49 ∷ 0x62 ∷ 0x00 ∷ 0x00 ∷ 0x0a ∷ 0x40 ∷ []) 42 ≡ told 0 Nowhere)
     × (answer [] 1 ≡ told 1 Nowhere)
     × (answer [] 0 ≡ told 2 (At 0))
@@ -53,7 +53,7 @@ met : (answer (0x49 ∷ 0x62 ∷ 0x00 ∷ 0x00 ∷ 0x0a ∷ 0x40 ∷ []) 42 ≡ 
     × (answer (0x49 ∷ 0x62 ∷ 0x00 ∷ 0x00 ∷ 0x0a ∷ 0x00 ∷ []) 42 ≡ told 3 (At 40))
     × (answer (0x49 ∷ 0x72 ∷ 0x00 ∷ 0x01 ∷ 0x90 ∷ 0x00 ∷ 0x00 ∷ 0xc7 ∷ 0x00 ∷ []) 65 ≡ told 4 (At 40))
     × (answer (0x49 ∷ 0x62 ∷ 0x00 ∷ 0x00 ∷ 0x0a ∷ 0x40 ∷ []) 43 ≡ told 5 (At 42))
-    × (answer (0x48 ∷ 0x00 ∷ []) 11 ≡ told 10 (At 6))
+    × (answer (0x48 ∷ 0x80 ∷ []) 11 ≡ told 3 (At 6))
 unfolding grammar readIs framed bits
 met = (refl, refl, refl, refl, refl, refl, refl, refl, refl, refl)
 
@@ -63,7 +63,7 @@ unfolding grammar readIs framed bits
 unframed-first = (refl, refl)
 
 abbrev pub numbers : List ℕ
-numbers = 0 ∷ 1 ∷ 2 ∷ 3 ∷ 4 ∷ 5 ∷ 10 ∷ []
+numbers = 0 ∷ 1 ∷ 2 ∷ 3 ∷ 4 ∷ 5 ∷ []
 
 -- Proved in proofs/Demand1/Reading.antt.
 pub record Promise : Type 1 where

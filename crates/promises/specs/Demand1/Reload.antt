@@ -1,10 +1,13 @@
--- Demand 1, reload (document 02, request 2026-01): 9, 7, 11, 12, 8, each exactly then. With 7 its entry and place.
+-- Demand 1, reload (document 02, requests 2026-01 and 2026-06): 9, 7, 11, 12, 8, each exactly then, whether a DEFINE or a DEFINE EXTERNAL is asked
+-- for. With 7 its entry and place.
 use mathlib.Core.Path.{_≡_}
 use mathlib.Core.List.{List, [], _∷_}
 use Prim.Native.Nat.{ℕ, _≤_, _<_}
 use lib.ListN.{length}
 use Rattle.bits.specs.Frame.{bytesFor, pack}
 use Rattle.grammar.specs.Grammar.{pdu}
+use Rattle.grammar.specs.declared.record.Identities.{Identities}
+use Rattle.grammar.specs.declared.record.Numbers.{Numbers}
 use Rattle.grammar.specs.declared.record.Lists.{Lists}
 use Rattle.grammar.specs.declared.record.Record.{Record}
 use Rattle.writer.specs.Write.{lengthOf}
@@ -18,33 +21,45 @@ use Rattle.archive.specs.declared.Restored.the-variants.{Bits, Refused}
 use Rattle.reload.specs.Define.{defineOf}
 use Rattle.reload.specs.Reload.{recordOf, reloadIs, reloadOut}
 use Rattle.reload.specs.declared.Definition.{Definition}
+use Rattle.reload.specs.declared.Target.{Target}
+use Rattle.reload.specs.declared.Target.the-variants.{Define, DefineExternal}
 use Rattle.promises.specs.Answers.{Exactly}
 use Rattle.promises.specs.Archive.{IsArchive, Ranged}
 use Rattle.promises.specs.Broken.{numberOf, Broken}
 use Rattle.promises.specs.Demand1.Restore.{Holds}
 
-abbrev pub answer : List ℕ → Key → Definition → List ℕ → Refusal
-answer b key d out = restoredRefusal (reloadIs b key d out)
+abbrev pub answer : Target → List ℕ → Key → Definition → List ℕ → Refusal
+answer t b key d out = restoredRefusal (reloadIs t b key d out)
 
--- a definition type that table 28 names, two bits, and an acknowledgement only where delivery is requested (table 10, note 3)
+-- a definition type that table 28 names, two bits, and an acknowledgement only where delivery is requested (note 3 of tables 10 and 12)
 pub record Asked (d : Definition) : Type 0 where
   pub definition : d .definition ≤ 2
   pub delivery : d .delivery ≤ 1
   pub acknowledgement : d .acknowledgement ≤ 1
   pub with-delivery : d .acknowledgement ≡ 1 → d .delivery ≡ 1
 
--- every list that is not empty has a place in the DEFINE: table 10 has none for numbers, and under removal (2) none for any list (note 4)
-pub record Stands (definition : ℕ) (l : Lists) : Type 0 where
-  pub numbers : (l .numbers .code ≡ 0) × (l .excepted .code ≡ 0)
-  pub removal : definition ≡ 2 → (l .groups .code ≡ 0) × (l .restricted .code ≡ 0) × (l .exceptions .code ≡ 0)
+-- a list of identities, or of numbers, is empty
+abbrev pub Empty : Identities → Type 0
+Empty l = l .code ≡ 0
 
-module _ (b : List ℕ) (key : Key) (d : Definition) where
-  -- the DEFINE of a held PDU
+abbrev pub NoNumbers : Numbers → Type 0
+NoNumbers l = l .code ≡ 0
+
+-- every list that is not empty has a place in the PDU: a DEFINE (table 10) has none for numbers, a DEFINE EXTERNAL (table 12) none for
+-- identities, and under removal (2) neither has one for any list (note 4)
+pub record Stands (t : Target) (definition : ℕ) (l : Lists) : Type 0 where
+  pub define : t ≡ Define → NoNumbers (l .numbers) × NoNumbers (l .excepted)
+  pub external : t ≡ DefineExternal → Empty (l .restricted) × Empty (l .exceptions)
+  pub removal : definition ≡ 2
+      → Empty (l .groups) × (Empty (l .restricted) × Empty (l .exceptions)) × (NoNumbers (l .numbers) × NoNumbers (l .excepted))
+
+module _ (t : Target) (b : List ℕ) (key : Key) (d : Definition) where
+  -- the PDU that puts a held one back
   abbrev pub defined : Held → Record
-  defined h = defineOf d (recordOf h)
+  defined h = defineOf t d (recordOf h)
 
   abbrev pub Standing : Held → Type 0
-  Standing h = Stands (d .definition) (recordOf h .lists)
+  Standing h = Stands t (d .definition) (recordOf h .lists)
 
   -- the table of refusals, as far as reload goes
   pub data Given (room : ℕ) : Refusal → Type 0 where
@@ -64,13 +79,13 @@ module _ (b : List ℕ) (key : Key) (d : Definition) where
 
 -- Proved in proofs/Demand1/Reload.antt; each number is met in CallsMet.
 pub record Promise : Type 0 where
-  pub table : (b : List ℕ) (key : Key) (d : Definition) (out : List ℕ)
-      → Exactly numberOf (answer b key d out) (0 ∷ 9 ∷ 7 ∷ 11 ∷ 12 ∷ 8 ∷ []) (Given b key d (length out))
-  -- success: the DEFINE of the part that is held; the bytes after it stay
-  pub success : (b : List ℕ) (key : Key) (d : Definition) (out : List ℕ) → answer b key d out .number ≡ 0
-      → (k : IsArchive b) × (h : Held) × Holds b key k h × Standing b key d h
-      × (reloadIs b key d out ≡ Bits (record { 0 = lengthOf (defined b key d h) }))
-      × (reloadOut b key d out ≡ over (pack (pdu .print (defined b key d h))) out)
+  pub table : (t : Target) (b : List ℕ) (key : Key) (d : Definition) (out : List ℕ)
+      → Exactly numberOf (answer t b key d out) (0 ∷ 9 ∷ 7 ∷ 11 ∷ 12 ∷ 8 ∷ []) (Given t b key d (length out))
+  -- success: the PDU that puts the held part back; the bytes after it stay
+  pub success : (t : Target) (b : List ℕ) (key : Key) (d : Definition) (out : List ℕ) → answer t b key d out .number ≡ 0
+      → (k : IsArchive b) × (h : Held) × Holds b key k h × Standing t b key d h
+      × (reloadIs t b key d out ≡ Bits (record { 0 = lengthOf (defined t b key d h) }))
+      × (reloadOut t b key d out ≡ over (pack (pdu .print (defined t b key d h))) out)
   -- a refusal changes no byte
-  pub refusal : (b : List ℕ) (key : Key) (d : Definition) (out : List ℕ) (f : Refusal) → reloadIs b key d out ≡ Refused f
-      → reloadOut b key d out ≡ out
+  pub refusal : (t : Target) (b : List ℕ) (key : Key) (d : Definition) (out : List ℕ) (f : Refusal) → reloadIs t b key d out ≡ Refused f
+      → reloadOut t b key d out ≡ out

@@ -10,6 +10,7 @@ use Rattle.codec.specs.Codec.{Legal}
 use Rattle.codec.specs.Faults.{Faults}
 use Rattle.grammar.specs.SiteSheet.{kindRefusal}
 use Rattle.grammar.specs.Grammar.{pdu, grammar, zeroIdentity}
+use Rattle.grammar.specs.Figures.{ofInterrogation}
 use Rattle.grammar.specs.Zero.{zeroServices, zeroLists, zeroRecord}
 use Rattle.grammar.specs.ProfileRecords.{user, asking}
 use Rattle.grammar.specs.declared.record.Record.{Record}
