@@ -267,6 +267,9 @@ const CODES: [usize; 9] = [
     at::REJECTION_CAUSE,
 ];
 
+/// A PDU, what it does not carry, and which codes it does.
+type Form<'a> = (Example, &'a [Range<usize>], &'a [usize]);
+
 #[test]
 fn what_is_not_carried_is_zero() {
     const USERS: Range<usize> = at::AFFECTED..at::INTERROGATION_TYPE;
@@ -276,8 +279,7 @@ fn what_is_not_carried_is_zero() {
     const NUMBERS: Range<usize> = at::RESTRICTED_NUMBERS..at::DELIVERY;
     const DEFINITION: &[usize] = &[at::DELIVERY, at::ACKNOWLEDGEMENT, at::DEFINITION_TYPE];
     const TO_A_USER: &[usize] = &[at::ACKNOWLEDGEMENT, at::DEFINITION_TYPE];
-    // What each does not carry, and which codes it does.
-    let forms: [(Example, &[Range<usize>], &[usize]); 8] = [
+    let forms: [Form; 8] = [
         (DEFINE_ACK, &[SERVICES, LISTS], &[at::DEFINITION_RESULT]),
         (DEFINE_EXTERNAL, &[IDENTITIES], DEFINITION),
         (REMOVE_EXTERNAL, &[LISTS], DEFINITION),
