@@ -74,7 +74,7 @@ const REJECTION_CAUSE: Code = Code::new("rejection cause", at::REJECTION_CAUSE, 
 /// Which lists a PDU may have.
 #[derive(Clone, Copy, PartialEq, Eq)]
 enum Lists {
-    /// Neither lists nor services.
+    /// None; a PDU type that may have none has no services either.
     None,
     /// Of identities.
     Identities,
