@@ -164,7 +164,7 @@ pub fn record(rng: &mut Rng) -> Record {
     record_of(rng, pdu_type, Size::Any)
 }
 
-/// A legal record of a PDU type.
+/// A legal record of a PDU type; at full size the longest, which of an INTERROGATE ACK is a number part.
 pub fn record_of(rng: &mut Rng, pdu_type: u32, size: Size) -> Record {
     let mut words = [0; RECORD_WORDS];
     words[at::PDU_TYPE] = pdu_type;
