@@ -247,7 +247,10 @@ fn refusals_of_a_pdu_have_their_place() {
     assert_eq!(read(&[0, 0], 11), refused(Refusal::Value, None, Some(0)));
     assert_eq!(read(&reversed, 138), refused(Refusal::Ends, None, Some(84)));
     assert_eq!(read(&PROFILE_A, 144), refused(Refusal::Left, None, Some(138)));
-    assert_eq!(read(&[0x48, 0x40], 11), refused(Refusal::Value, None, Some(6)));
+    // PDU types 2, 4, 14 and 31.
+    for pdu in [[0x48, 0x40], [0x48, 0x80], [0x49, 0xc0], [0x4b, 0xe0]] {
+        assert_eq!(read(&pdu, 11), refused(Refusal::Value, None, Some(6)));
+    }
     let mut out = [0; 64];
     assert_eq!(capture(&example(), &PROFILE_A, 144, &mut out), refused(Refusal::Left, None, Some(138)));
 }
