@@ -1,7 +1,7 @@
 /*
  * A gateway in small: captures what the switch answered for user 1/5, an identity part and a number part, restores
- * both, compares them bit for bit, reloads the identity part as a DEFINE, decides calls, and tells where a damaged PDU
- * and a damaged archive are at fault. Ends with status 0 exactly if all is as it must be.
+ * both, compares them bit for bit, reloads them as a DEFINE and a DEFINE EXTERNAL, decides calls, and tells where a
+ * damaged PDU and a damaged archive are at fault. Ends with status 0 exactly if all is as it must be.
  */
 #include <stdio.h>
 #include <string.h>
@@ -115,11 +115,25 @@ static int restore_and_compare(uint32_t part, const struct pdu *captured)
     return 0;
 }
 
-/* A part as a DEFINE that replaces what the switch has; the user is told and acknowledges it. */
-static uint32_t reload(uint32_t part, struct pdu *define, struct spot *spot)
+/* A part as a PDU of this type that replaces what the switch has; the user is told and acknowledges it. */
+static uint32_t reload(uint32_t part, uint32_t type, struct pdu *define, struct spot *spot)
 {
-    return boc_reload(store.buffers[store.current], store.length, HOME, USER, part, BOC_REPLACEMENT, 1, 1,
-                      define->bytes, sizeof define->bytes, &define->bits, &spot->entry, &spot->place);
+    const uint8_t *archive = store.buffers[store.current];
+
+    if (type == BOC_DEFINE_EXTERNAL)
+        return boc_reload_external(archive, store.length, HOME, USER, BOC_REPLACEMENT, 1, 1, define->bytes,
+                                   sizeof define->bytes, &define->bits, &spot->entry, &spot->place);
+    return boc_reload(archive, store.length, HOME, USER, part, BOC_REPLACEMENT, 1, 1, define->bytes,
+                      sizeof define->bytes, &define->bits, &spot->entry, &spot->place);
+}
+
+/* The record of a PDU. */
+static int read_record(const struct pdu *pdu, uint32_t record[BOC_RECORD_WORDS])
+{
+    struct spot spot = {BOC_NOWHERE, BOC_NOWHERE};
+
+    return refused("read", boc_read(pdu->bytes, bytes_for(pdu->bits), pdu->bits, record, BOC_RECORD_WORDS, &spot.place),
+                   &spot);
 }
 
 /* Whether two records have the same words from a place up to another. */
@@ -128,25 +142,23 @@ static int same_words(const uint32_t *a, const uint32_t *b, size_t from, size_t 
     return memcmp(a + from, b + from, (to - from) * sizeof *a) == 0;
 }
 
-/* Reloads the identity part, and reads the DEFINE: its user, services and lists are those of the part. */
-static int reload_and_compare(void)
+/* Reloads a part as a PDU of this type, and reads that: its user, services and lists are those of the part. */
+static int reload_and_compare(uint32_t part, const struct pdu *captured, uint32_t type)
 {
     uint32_t held[BOC_RECORD_WORDS], defined[BOC_RECORD_WORDS];
     struct pdu define = {0};
     struct spot spot;
     size_t i;
 
-    if (refused("reload", reload(BOC_IDENTITY_PART, &define, &spot), &spot))
+    if (refused("reload", reload(part, type, &define, &spot), &spot))
         return 1;
-    printf("reloaded part %u: %zu bits,", (unsigned)BOC_IDENTITY_PART, define.bits);
+    printf("reloaded part %u: %zu bits,", (unsigned)part, define.bits);
     for (i = 0; i < bytes_for(define.bits); i++)
         printf(" %02x", define.bytes[i]);
     printf("\n");
-    if (boc_read(identity_part.bytes, bytes_for(identity_part.bits), identity_part.bits, held, BOC_RECORD_WORDS,
-                 &spot.place) != BOC_OK ||
-        boc_read(define.bytes, bytes_for(define.bits), define.bits, defined, BOC_RECORD_WORDS, &spot.place) != BOC_OK)
+    if (read_record(captured, held) || read_record(&define, defined))
         return 1;
-    return defined[BOC_PDU_TYPE] != BOC_DEFINE || defined[BOC_DEFINITION_TYPE] != BOC_REPLACEMENT ||
+    return defined[BOC_PDU_TYPE] != type || defined[BOC_DEFINITION_TYPE] != BOC_REPLACEMENT ||
            !same_words(held, defined, BOC_AFFECTED, BOC_INTERROGATION_TYPE) ||
            !same_words(held, defined, BOC_SERVICE_COUNT, BOC_DELIVERY);
 }
@@ -156,7 +168,7 @@ static int reload_numbers(void)
 {
     struct pdu define = {0};
     struct spot spot;
-    uint32_t number = reload(BOC_NUMBER_PART, &define, &spot);
+    uint32_t number = reload(BOC_NUMBER_PART, BOC_DEFINE, &define, &spot);
 
     refused("reload, number part", number, &spot);
     return number != BOC_LOSS;
@@ -235,7 +247,7 @@ static int offer_damaged(void)
     return number != BOC_VALUE || spot.entry != BOC_NOWHERE || spot.place != 45;
 }
 
-/* Lists the archive while the body of its last entry, the number part, is damaged in its PDU type, at place 6. */
+/* Lists the archive while the body of its last entry, the number part, has at place 6 a PDU type that is none. */
 static int list_damaged(const struct pdu *number_part)
 {
     uint8_t *body = store.buffers[store.current] + store.length - bytes_for(number_part->bits);
@@ -243,9 +255,9 @@ static int list_damaged(const struct pdu *number_part)
     uint32_t number;
     size_t length;
 
-    body[1] ^= 0x80;
+    body[0] ^= 0x01;
     number = list_to_text(&length, &spot);
-    body[1] ^= 0x80;
+    body[0] ^= 0x01;
     refused("contents, damaged", number, &spot);
     return number != BOC_ARCHIVE || spot.entry != 1 || spot.place != 6;
 }
@@ -262,7 +274,8 @@ int main(void)
         return 1;
     if (restore_and_compare(BOC_IDENTITY_PART, &identity_part) || restore_and_compare(BOC_NUMBER_PART, &number_part))
         return 1;
-    if (reload_and_compare() || reload_numbers())
+    if (reload_and_compare(BOC_IDENTITY_PART, &identity_part, BOC_DEFINE) || reload_numbers() ||
+        reload_and_compare(BOC_NUMBER_PART, &number_part, BOC_DEFINE_EXTERNAL))
         return 1;
     if (decide_identity("1/100", 100, BOC_BARRED_DESTINATION) || decide_identity("1/150", 150, BOC_ALLOWED))
         return 1;

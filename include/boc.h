@@ -1,6 +1,6 @@
 /*
- * boc.h: barring of outgoing calls (BOC), EN 300 392-12-18. Reads and writes INTERROGATE, INTERROGATE ACK and DEFINE
- * PDUs, keeps INTERROGATE ACKs in an archive, restores them, reloads them as DEFINEs, and decides calls from them.
+ * boc.h: barring of outgoing calls (BOC), EN 300 392-12-18. Reads and writes the nine BOC PDUs, keeps INTERROGATE ACKs
+ * in an archive, restores them, reloads them as DEFINEs or DEFINE EXTERNALs, and decides calls from them.
  * Link libboc.a.
  *
  * Every function returns 0, or the number of a refusal (enum boc_refusal). What it answers besides, a length or a
@@ -11,7 +11,7 @@
  * 0. A refused call writes those of the two that it has, BOC_NOWHERE where the refusal brings none; an accepted one
  * leaves them as they were.
  * - BOC_SHORT: the place of the element that is not there whole, which may be the PDU's length.
- * - BOC_VALUE, BOC_OTHER_TYPE: the place of the element that is refused.
+ * - BOC_VALUE: the place of the element that is refused.
  * - BOC_ENDS: the place of the second end's SSI.
  * - BOC_LEFT: the place of the first bit left.
  * - BOC_ARCHIVE, where header, contents and the archive's length are right: the first entry whose body is at fault, and
@@ -30,8 +30,8 @@
  * call writes is its own until it returns.
  *
  * Stack. No function calls itself or has a frame of varying size. boc_decide, which unpacks a record, needs at most
- * 5 KiB of stack, boc_reload, which makes a second one of it, 6 KiB, every other call at most 1 KiB: the tests refuse
- * more (docs/BENCHMARKS.md has what was measured).
+ * 5 KiB of stack, boc_reload and boc_reload_external, which make a second one of it, 6 KiB, every other call at most
+ * 1 KiB: the tests refuse more (docs/BENCHMARKS.md has what was measured).
  *
  * PDU. A PDU is a number of bits, most significant bit first, in exactly that number divided by 8, rounded up, of
  * bytes; unused bits at the end are zero.
@@ -49,21 +49,20 @@
 extern "C" {
 #endif
 
-/* Why a call was refused. */
+/* Why a call was refused. There is no 10. */
 enum boc_refusal {
-    BOC_OK = 0,          /* not refused */
-    BOC_FRAME = 1,       /* over 4,096 bits, wrong byte count, or a nonzero unused bit */
-    BOC_SHORT = 2,       /* the PDU ends inside an element, or just before one that is due */
-    BOC_VALUE = 3,       /* an element's value is reserved or refused; in writing also what must be zero and is not */
-    BOC_ENDS = 4,        /* range ends disagree or are reversed */
-    BOC_LEFT = 5,        /* bits left after the last element */
-    BOC_UNFIT = 6,       /* a legal PDU that no archive entry may hold */
-    BOC_ARCHIVE = 7,     /* the archive breaks a rule */
-    BOC_ROOM = 8,        /* a new key with 512 held, or the result exceeds 65,536 bytes or the lent buffer */
-    BOC_RANGE = 9,       /* a request, user, part, definition, home network or count of words out of its range */
-    BOC_OTHER_TYPE = 10, /* a BOC PDU type that the standard names and that is not read */
-    BOC_NOT_HELD = 11,   /* restore, reload: not held */
-    BOC_LOSS = 12        /* reload: a held list that is not empty has no place in the DEFINE */
+    BOC_OK = 0,        /* not refused */
+    BOC_FRAME = 1,     /* over 4,096 bits, wrong byte count, or a nonzero unused bit */
+    BOC_SHORT = 2,     /* the PDU ends inside an element, or just before one that is due */
+    BOC_VALUE = 3,     /* an element's value is reserved or refused; in writing also what must be zero and is not */
+    BOC_ENDS = 4,      /* range ends disagree or are reversed */
+    BOC_LEFT = 5,      /* bits left after the last element */
+    BOC_UNFIT = 6,     /* a legal PDU that no archive entry may hold */
+    BOC_ARCHIVE = 7,   /* the archive breaks a rule */
+    BOC_ROOM = 8,      /* a new key with 512 held, or the result exceeds 65,536 bytes or the lent buffer */
+    BOC_RANGE = 9,     /* a request, user, part, definition, home network or count of words out of its range */
+    BOC_NOT_HELD = 11, /* restore, reload: not held */
+    BOC_LOSS = 12      /* reload: a held list that is not empty has no place in the PDU */
 };
 
 /* The entry or the place of a refusal that has none. */
@@ -81,12 +80,13 @@ enum boc_limits {
     BOC_SERVICE_PLACES = 7        /* services of a record */
 };
 
-/* ---- Records: a PDU as 517 words ---------------------------------------------------------------------------------
+/* ---- Records: a PDU as 520 words ---------------------------------------------------------------------------------
  *
  * A list of identities is a range type and 8 entries of SSI, extension present (0 or 1), extension: entry i begins at
  * the list's place + 1 + 3 * i. A list of external numbers is a range type and 8 entries of length and 24 digits:
  * entry i begins at the list's place + 1 + 25 * i. Range type 0 is an empty list, 1 to 8 that many entries, and 9 the
- * first and the last of a range, both included. Affected users are never empty; external numbers have no range.
+ * first and the last of a range, both included. Affected users are empty exactly in the PDUs without them; external
+ * numbers have no range.
  *
  * An extension is the identity's network. Without one, an affected user is of the archive's home network, and a closed
  * user group, a restricted or an excepted identity is of the network of the PDU's affected user.
@@ -94,24 +94,30 @@ enum boc_limits {
  * A list that the PDU does not carry has range type 0; any other element that it does not carry, unused places of
  * entries, services and digits, and an absent extension are zero. A word that is wider than its element is a refused
  * value of it.
+ *
+ * A definition is a DEFINE, DEFINE EXTERNAL, DEFINE USER or DEFINE EXTERNAL USER. A DEFINE EXTERNAL has the lists of a
+ * number part, the others have those of an identity part; a removal has none.
  */
 enum boc_record_word {
-    BOC_PDU_TYPE = 0,             /* enum boc_pdu_type */
-    BOC_AFFECTED = 1,             /* affected users, a list of identities */
-    BOC_INTERROGATION_TYPE = 26,  /* of an INTERROGATE: 1 identities, 2 external numbers, 3 both */
-    BOC_RESULT = 27,              /* of an INTERROGATE ACK: enum boc_result */
-    BOC_DELIVERY_STATUS = 28,     /* of an INTERROGATE ACK: 0 not requested, 1 pending, 2 acknowledged, 3 unknown */
-    BOC_SERVICE_COUNT = 29,       /* of an INTERROGATE ACK or a DEFINE: number of services, 1 to 7 */
-    BOC_SERVICES = 30,            /* 7 services, enum boc_service */
-    BOC_GROUPS = 37,              /* of either part or a DEFINE: closed user groups, a list of identities */
-    BOC_RESTRICTED = 62,          /* of an identity part or a DEFINE: restricted identities, a list of identities */
-    BOC_EXCEPTIONS = 87,          /* of an identity part or a DEFINE: exceptions to them, a list of identities */
-    BOC_RESTRICTED_NUMBERS = 112, /* of a number part: restricted numbers, a list of external numbers */
-    BOC_EXCEPTED_NUMBERS = 313,   /* of a number part: exceptions to them, a list of external numbers */
-    BOC_DELIVERY = 514,           /* of a DEFINE: delivery to the affected users, 0 not requested, 1 requested */
-    BOC_ACKNOWLEDGEMENT = 515,    /* of a DEFINE: acknowledgement from them, likewise; 1 only with delivery */
-    BOC_DEFINITION_TYPE = 516,    /* of a DEFINE: enum boc_definition_type */
-    BOC_RECORD_WORDS = 517        /* words of a record */
+    BOC_PDU_TYPE = 0,              /* enum boc_pdu_type */
+    BOC_AFFECTED = 1,              /* affected users, a list of identities; empty in PDUs without them */
+    BOC_INTERROGATION_TYPE = 26,   /* of an INTERROGATE: 1 identities, 2 external numbers, 3 both */
+    BOC_RESULT = 27,               /* of an INTERROGATE ACK: enum boc_result */
+    BOC_DELIVERY_STATUS = 28,      /* of an INTERROGATE ACK: 0 not requested, 1 pending, 2 acknowledged, 3 unknown */
+    BOC_SERVICE_COUNT = 29,        /* of an INTERROGATE ACK or a definition: number of services, 1 to 7 */
+    BOC_SERVICES = 30,             /* 7 services, enum boc_service */
+    BOC_GROUPS = 37,               /* of either part: closed user groups, a list of identities */
+    BOC_RESTRICTED = 62,           /* of an identity part: restricted identities, a list of identities */
+    BOC_EXCEPTIONS = 87,           /* of an identity part: exceptions to them, a list of identities */
+    BOC_RESTRICTED_NUMBERS = 112,  /* of a number part: restricted numbers, a list of external numbers */
+    BOC_EXCEPTED_NUMBERS = 313,    /* of a number part: exceptions to them, a list of external numbers */
+    BOC_DELIVERY = 514,            /* of a DEFINE or DEFINE EXTERNAL: delivery, 0 not requested, 1 requested */
+    BOC_ACKNOWLEDGEMENT = 515,     /* of a definition: acknowledgement, likewise; in those two 1 only with delivery */
+    BOC_DEFINITION_TYPE = 516,     /* of a definition: enum boc_definition_type */
+    BOC_DEFINITION_RESULT = 517,   /* of a DEFINE ACK: enum boc_definition_result */
+    BOC_DISTRIBUTION_RESULT = 518, /* of a DEFINE USER ACK: enum boc_distribution_result */
+    BOC_REJECTION_CAUSE = 519,     /* of a CALL BARRED: enum boc_rejection_cause */
+    BOC_RECORD_WORDS = 520         /* words of a record */
 };
 
 /* The words of an entry, from where it begins, and how many they are. */
@@ -127,8 +133,14 @@ enum boc_entry_word {
 
 enum boc_pdu_type {
     BOC_DEFINE = 5,
+    BOC_DEFINE_ACK = 6,
+    BOC_DEFINE_EXTERNAL = 7,
+    BOC_DEFINE_USER = 8,           /* no affected users */
+    BOC_DEFINE_USER_ACK = 9,       /* no affected users */
+    BOC_DEFINE_EXTERNAL_USER = 10, /* no affected users */
     BOC_INTERROGATE = 11,
-    BOC_INTERROGATE_ACK = 12
+    BOC_INTERROGATE_ACK = 12,
+    BOC_CALL_BARRED = 13           /* no affected users */
 };
 
 /* Definition types. A removal has no lists; 3 is reserved. */
@@ -136,6 +148,32 @@ enum boc_definition_type {
     BOC_ADDITION = 0,
     BOC_REPLACEMENT = 1,
     BOC_REMOVAL = 2
+};
+
+/* What became of a DEFINE or DEFINE EXTERNAL; 5 is reserved. */
+enum boc_definition_result {
+    BOC_DEFINITION_FAILED = 0,
+    BOC_DEFINITION_ACCEPTED = 1,
+    BOC_DEFINITION_CHANGED = 2, /* accepted, but the values were changed */
+    BOC_DEFINITION_NOT_AUTHORIZED = 3,
+    BOC_DEFINITION_UNKNOWN_IDENTITY = 4,
+    BOC_DEFINITION_NOT_VALID = 6,
+    BOC_DEFINITION_INSUFFICIENT = 7
+};
+
+/* What became of a DEFINE USER or DEFINE EXTERNAL USER; 2 to 5 are reserved. */
+enum boc_distribution_result {
+    BOC_DISTRIBUTION_FAILED = 0,
+    BOC_DISTRIBUTION_RECEIVED = 1,
+    BOC_DISTRIBUTION_NOT_VALID = 6,
+    BOC_DISTRIBUTION_INSUFFICIENT = 7
+};
+
+/* Why a call was barred, by the numbers of the decisions that bar one (enum boc_decision); 3 is reserved. */
+enum boc_rejection_cause {
+    BOC_CAUSE_GROUP = 0,
+    BOC_CAUSE_SERVICE = 1,
+    BOC_CAUSE_DESTINATION = 2
 };
 
 /* Interrogation results. Only the two that provide something are filed; 5 is reserved. */
@@ -200,7 +238,7 @@ enum boc_part {
     BOC_NUMBER_PART = 2
 };
 
-/* Decisions. The first three bar the call, and their numbers are the standard's causes. */
+/* Decisions. The first three bar the call, and their numbers are the causes (enum boc_rejection_cause). */
 enum boc_decision {
     BOC_BARRED_GROUP = 0,       /* called party outside allowed user group */
     BOC_BARRED_SERVICE = 1,     /* restricted service type */
@@ -213,16 +251,15 @@ enum boc_decision {
 
 /*
  * Reads the PDU of `bits` bits in `pdu` and writes its record to `record`; a refusal writes `place`.
- * Refuses, in this order: BOC_RANGE if record_words is not 517; BOC_FRAME; element by element from the first,
- * BOC_SHORT before BOC_VALUE (at the PDU type also BOC_OTHER_TYPE), and BOC_ENDS after the second end of a range;
- * BOC_LEFT.
+ * Refuses, in this order: BOC_RANGE if record_words is not 520; BOC_FRAME; element by element from the first,
+ * BOC_SHORT before BOC_VALUE, and BOC_ENDS after the second end of a range; BOC_LEFT.
  */
 uint32_t boc_read(const uint8_t *pdu, size_t pdu_len, size_t bits, uint32_t *record, size_t record_words,
                   size_t *place);
 
 /*
  * Writes the PDU of a record to the front of `out`, and its length in bits to `bits`.
- * Refuses, in this order: BOC_RANGE if record_words is not 517; BOC_VALUE for a PDU type other than the three, or for
+ * Refuses, in this order: BOC_RANGE if record_words is not 520; BOC_VALUE for a PDU type other than the nine, or for
  * anything that must be zero and is not; element by element BOC_VALUE and BOC_ENDS as reading does; BOC_ROOM.
  */
 uint32_t boc_write(const uint32_t *record, size_t record_words, uint8_t *out, size_t out_len, size_t *bits);
@@ -236,9 +273,9 @@ uint32_t boc_empty(uint32_t home, uint8_t *out, size_t out_len, size_t *length);
 /*
  * Writes to the front of `out` the archive that holds the PDU of `bits` bits in `pdu` too, and its length in bytes to
  * `length`. A PDU that was held for the same user and part is replaced, and its room is used again.
- * Refuses, in this order: BOC_ARCHIVE; what boc_read refuses of the PDU, BOC_FRAME to BOC_LEFT and BOC_OTHER_TYPE;
- * BOC_UNFIT unless it is an INTERROGATE ACK with range type 1 for affected users and with identities or numbers as
- * its result; BOC_ROOM. Where the PDU is refused, `place` is one in it, and there is no entry.
+ * Refuses, in this order: BOC_ARCHIVE; what boc_read refuses of the PDU, BOC_FRAME to BOC_LEFT; BOC_UNFIT unless it is
+ * an INTERROGATE ACK with range type 1 for affected users and with identities or numbers as its result; BOC_ROOM. Where
+ * the PDU is refused, `place` is one in it, and there is no entry.
  */
 uint32_t boc_capture(const uint8_t *archive, size_t archive_len, const uint8_t *pdu, size_t pdu_len, size_t bits,
                      uint8_t *out, size_t out_len, size_t *length, size_t *entry, size_t *place);
@@ -262,6 +299,18 @@ uint32_t boc_restore(const uint8_t *archive, size_t archive_len, uint32_t networ
 uint32_t boc_reload(const uint8_t *archive, size_t archive_len, uint32_t network, uint32_t ssi, uint32_t part,
                     uint32_t definition, uint32_t delivery, uint32_t acknowledgement, uint8_t *out, size_t out_len,
                     size_t *bits, size_t *entry, size_t *place);
+
+/*
+ * Writes the number part held for a user to the front of `out` as a DEFINE EXTERNAL, and its length in bits to `bits`:
+ * the affected user, the services and the lists as they are held, under a definition type, delivery and acknowledgement
+ * as boc_reload has them.
+ * Refuses, in this order: BOC_RANGE for a network or SSI of 16,777,216 or more, and for a definition type, delivery or
+ * acknowledgement as boc_reload does; BOC_ARCHIVE; BOC_NOT_HELD; BOC_LOSS for any list that is not empty under a
+ * removal; BOC_ROOM.
+ */
+uint32_t boc_reload_external(const uint8_t *archive, size_t archive_len, uint32_t network, uint32_t ssi,
+                             uint32_t definition, uint32_t delivery, uint32_t acknowledgement, uint8_t *out,
+                             size_t out_len, size_t *bits, size_t *entry, size_t *place);
 
 /*
  * Decides a request by the part that the archive holds for its user, and writes the decision (enum boc_decision) to

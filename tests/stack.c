@@ -4,8 +4,8 @@
  * for one user and for eight; archives of 512 entries and of 65,536 bytes, asked about their last entry. It is tried
  * accepted, and refused as late as it can be: at the last element, for the last byte of room, for the last entry.
  * Prints a Markdown table; ends with status 1 if an answer is not the one that is expected, or a call uses more than
- * its limit: 5 KiB for a decision, which unpacks a record, 6 KiB for a reload, which makes a second one of it, and 1 KiB
- * for every other call.
+ * its limit: 5 KiB for a decision, which unpacks a record, 6 KiB for either reload, which makes a second one of it, and
+ * 1 KiB for every other call.
  */
 #define _XOPEN_SOURCE 700
 #include <stdio.h>
@@ -48,13 +48,18 @@ static uint32_t reloads(void)
     return boc_reload(archive, archive_len, TOP, user, part, definition, 1, 1, out, room, &number, &at_entry,
                       &at_place);
 }
+static uint32_t reloads_external(void)
+{
+    return boc_reload_external(archive, archive_len, TOP, user, definition, 1, 1, out, room, &number, &at_entry,
+                               &at_place);
+}
 static uint32_t decides(void)
 {
     return boc_decide(archive, archive_len, request, BOC_REQUEST_WORDS, &decision, &at_entry, &at_place);
 }
 static uint32_t lists(void) { return boc_contents(archive, archive_len, out, room, &number, &at_entry, &at_place); }
 
-enum call { READ, WRITE, EMPTY, CAPTURE, RESTORE, RELOAD, DECIDE, CONTENTS, CALLS };
+enum call { READ, WRITE, EMPTY, CAPTURE, RESTORE, RELOAD, RELOAD_EXTERNAL, DECIDE, CONTENTS, CALLS };
 static struct {
     const char *name;
     uint32_t (*call)(void);
@@ -62,6 +67,7 @@ static struct {
 } calls[CALLS] = {
     {"boc_read", reads, SMALL, 0},       {"boc_write", writes, SMALL, 0},     {"boc_empty", empties, SMALL, 0},
     {"boc_capture", captures, SMALL, 0}, {"boc_restore", restores, SMALL, 0}, {"boc_reload", reloads, TWO_RECORDS, 0},
+    {"boc_reload_external", reloads_external, TWO_RECORDS, 0},
     {"boc_decide", decides, ONE_RECORD, 0}, {"boc_contents", lists, SMALL, 0},
 };
 
@@ -131,10 +137,39 @@ static const struct kind {
     {BOC_DEFINE, 0, BOC_REPLACEMENT, {8, 8, 8}, BOC_EXCEPTIONS + 24, BOC_OK, BOC_OK},
     {BOC_DEFINE, 0, BOC_REPLACEMENT, {9, 9, 9}, BOC_EXCEPTIONS + 6, BOC_ENDS, BOC_ENDS},
     {BOC_DEFINE, 0, BOC_REMOVAL, {0}, BOC_SERVICES + 6, BOC_VALUE, BOC_VALUE},
+    {BOC_DEFINE_ACK, 0, 0, {0}, BOC_DEFINITION_RESULT, BOC_VALUE, BOC_VALUE},
+    {BOC_DEFINE_EXTERNAL, 0, BOC_REPLACEMENT, {8, 8, 8}, BOC_EXCEPTED_NUMBERS + 200, BOC_VALUE, BOC_VALUE},
+    {BOC_DEFINE_EXTERNAL, 0, BOC_REPLACEMENT, {8, 0, 0}, BOC_EXCEPTED_NUMBERS, BOC_VALUE, BOC_VALUE},
+    {BOC_DEFINE_EXTERNAL, 0, BOC_REMOVAL, {0}, BOC_SERVICES + 6, BOC_VALUE, BOC_VALUE},
+    {BOC_DEFINE_USER, 0, BOC_REPLACEMENT, {8, 8, 8}, BOC_EXCEPTIONS + 24, BOC_OK, BOC_OK},
+    {BOC_DEFINE_USER, 0, BOC_REPLACEMENT, {9, 9, 9}, BOC_EXCEPTIONS + 6, BOC_ENDS, BOC_ENDS},
+    {BOC_DEFINE_USER, 0, BOC_REMOVAL, {0}, BOC_SERVICES + 6, BOC_VALUE, BOC_VALUE},
+    {BOC_DEFINE_USER_ACK, 0, 0, {0}, BOC_DISTRIBUTION_RESULT, BOC_VALUE, BOC_VALUE},
+    {BOC_DEFINE_EXTERNAL_USER, 0, BOC_REPLACEMENT, {8, 8, 8}, BOC_EXCEPTIONS + 24, BOC_OK, BOC_OK},
+    {BOC_DEFINE_EXTERNAL_USER, 0, BOC_REPLACEMENT, {9, 9, 9}, BOC_EXCEPTIONS + 6, BOC_ENDS, BOC_ENDS},
+    {BOC_DEFINE_EXTERNAL_USER, 0, BOC_REMOVAL, {0}, BOC_SERVICES + 6, BOC_VALUE, BOC_VALUE},
+    {BOC_CALL_BARRED, 0, 0, {0}, BOC_REJECTION_CAUSE, BOC_VALUE, BOC_VALUE},
 };
 enum { KINDS = sizeof kinds / sizeof kinds[0] };
 
 static int is_part(const struct kind *kind) { return kind->result != 0; }
+
+/* Is it a definition that is sent to a switch, for its affected users? */
+static int is_for_switch(const struct kind *kind)
+{
+    return kind->type == BOC_DEFINE || kind->type == BOC_DEFINE_EXTERNAL;
+}
+
+/* Is it a definition that is sent to a user? */
+static int is_for_user(const struct kind *kind)
+{
+    return kind->type == BOC_DEFINE_USER || kind->type == BOC_DEFINE_EXTERNAL_USER;
+}
+
+static int has_users(const struct kind *kind)
+{
+    return !is_for_user(kind) && kind->type != BOC_DEFINE_USER_ACK && kind->type != BOC_CALL_BARRED;
+}
 
 static void fill_identities(size_t list, uint32_t code, uint32_t ssi)
 {
@@ -162,22 +197,34 @@ static void fill_numbers(size_t list, uint32_t code)
     }
 }
 
-/* The record of a kind for so many users of an SSI. */
+/* The record of a kind, where it has users for so many of an SSI. */
 static void prepare(const struct kind *kind, uint32_t users, uint32_t ssi)
 {
     memset(record, 0, sizeof record);
     record[BOC_PDU_TYPE] = kind->type;
-    fill_identities(BOC_AFFECTED, users, ssi);
-    if (kind->type == BOC_INTERROGATE) {
+    if (has_users(kind))
+        fill_identities(BOC_AFFECTED, users, ssi);
+    switch (kind->type) {
+    case BOC_INTERROGATE:
         record[BOC_INTERROGATION_TYPE] = 3;
+        return;
+    case BOC_DEFINE_ACK:
+        record[BOC_DEFINITION_RESULT] = BOC_DEFINITION_CHANGED;
+        return;
+    case BOC_DEFINE_USER_ACK:
+        record[BOC_DISTRIBUTION_RESULT] = BOC_DISTRIBUTION_FAILED;
+        return;
+    case BOC_CALL_BARRED:
+        record[BOC_REJECTION_CAUSE] = BOC_CAUSE_DESTINATION;
         return;
     }
     record[BOC_RESULT] = kind->result;
-    record[BOC_DELIVERY] = record[BOC_ACKNOWLEDGEMENT] = kind->type == BOC_DEFINE;
+    record[BOC_DELIVERY] = is_for_switch(kind);
+    record[BOC_ACKNOWLEDGEMENT] = is_for_switch(kind) || is_for_user(kind);
     record[BOC_DEFINITION_TYPE] = kind->definition;
     record[BOC_SERVICE_COUNT] = BOC_SERVICE_PLACES;
     fill_identities(BOC_GROUPS, kind->codes[0], TOP);
-    if (kind->result == BOC_RESULT_NUMBERS) {
+    if (kind->result == BOC_RESULT_NUMBERS || kind->type == BOC_DEFINE_EXTERNAL) {
         fill_numbers(BOC_RESTRICTED_NUMBERS, kind->codes[1]);
         fill_numbers(BOC_EXCEPTED_NUMBERS, kind->codes[2]);
     } else {
@@ -213,7 +260,7 @@ static void write_each_way(const struct kind *kind)
     record[kind->last] = 15;
     expect(WRITE, kind->of_record);
     record[kind->last] = last;
-    /* The last word of all is a definition type or unused. */
+    /* The last word of all is a rejection cause or unused. */
     last = record[every];
     record[every] = 15;
     expect(WRITE, BOC_VALUE);
@@ -383,18 +430,16 @@ static void decide(uint32_t destination, uint32_t decided)
     expect(DECIDE, BOC_RANGE);
 }
 
-/* Reloads the last entry: numbers would be lost, and so would any list under a removal. */
-static void reload_each_way(const struct kind *kind)
+/* Reloads the last entry: any list would be lost under a removal; what a replacement answers. */
+static void reload_each_way(enum call call, uint32_t replaced)
 {
-    uint32_t numbers = kind->result == BOC_RESULT_NUMBERS && kind->codes[1] != 0;
-
     definition = BOC_REMOVAL;
-    expect(RELOAD, BOC_LOSS);
+    expect(call, BOC_LOSS);
     definition = BOC_REPLACEMENT;
-    expect(RELOAD, numbers ? BOC_LOSS : BOC_OK);
-    if (!numbers) {
+    expect(call, replaced);
+    if (replaced == BOC_OK) {
         room = bytes_for(number) - 1;
-        expect(RELOAD, BOC_ROOM);
+        expect(call, BOC_ROOM);
         room = sizeof out;
     }
 }
@@ -410,13 +455,18 @@ static void ask_each_way(const struct kind *kind)
     room = bytes_for(number) - 1;
     expect(RESTORE, BOC_ROOM);
     room = sizeof out;
-    reload_each_way(kind);
+    reload_each_way(RELOAD, held == BOC_NUMBER_PART && kind->codes[1] != 0 ? BOC_LOSS : BOC_OK);
+    if (held == BOC_NUMBER_PART)
+        reload_each_way(RELOAD_EXTERNAL, BOC_OK);
+    else
+        expect(RELOAD_EXTERNAL, BOC_NOT_HELD);
     part = other;
     expect(RESTORE, BOC_NOT_HELD);
     expect(RELOAD, BOC_NOT_HELD);
     user = BOC_NETWORK_LIMIT;
     expect(RESTORE, BOC_RANGE);
     expect(RELOAD, BOC_RANGE);
+    expect(RELOAD_EXTERNAL, BOC_RANGE);
     decide(held, BOC_BARRED_GROUP);
     decide(other, BOC_PART_NOT_HELD);
     expect(CONTENTS, BOC_OK);
@@ -434,6 +484,7 @@ static void refuse_each(uint32_t held)
     expect(CAPTURE, BOC_ARCHIVE);
     expect(RESTORE, BOC_ARCHIVE);
     expect(RELOAD, BOC_ARCHIVE);
+    expect(RELOAD_EXTERNAL, BOC_ARCHIVE);
     expect(DECIDE, BOC_ARCHIVE);
     expect(CONTENTS, BOC_ARCHIVE);
 }

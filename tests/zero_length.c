@@ -14,6 +14,12 @@ enum { HOME = 1, USER = 5, ROOM = 64 };
 static const uint8_t pdu[] = {0x49, 0x82, 0x00, 0x00, 0x0a, 0x21, 0x21, 0x20, 0x00,
                               0x0c, 0x80, 0x00, 0x0c, 0x70, 0x80, 0x00, 0x4b, 0x00};
 static const size_t bits = 138;
+/* A number part of the user: all services, and no list has entries. */
+static const uint8_t number_part[] = {0x49, 0x82, 0x00, 0x00, 0x0a, 0x41, 0x00, 0x00};
+static const size_t number_bits = 63;
+/* A CALL BARRED, which has neither users nor services nor lists. */
+static const uint8_t call_barred[] = {0x49, 0xb0};
+static const size_t call_barred_bits = 13;
 
 static int failed;
 
@@ -28,15 +34,22 @@ static void expect(const char *what, uint32_t answer, uint32_t expected)
 /* Every call with each of its slices as nothing at a pointer. */
 static void lend(void *none)
 {
-    uint32_t record[BOC_RECORD_WORDS], request[BOC_REQUEST_WORDS] = {HOME, USER, BOC_SERVICE_SPEECH, BOC_TO_IDENTITY};
-    uint8_t empty[ROOM], archive[ROOM], out[ROOM];
+    uint32_t record[BOC_RECORD_WORDS], barred[BOC_RECORD_WORDS];
+    uint32_t request[BOC_REQUEST_WORDS] = {HOME, USER, BOC_SERVICE_SPEECH, BOC_TO_IDENTITY};
+    uint8_t empty[ROOM], archive[ROOM], both[ROOM], out[ROOM];
     uint32_t decision;
-    size_t empty_len, archive_len, n, entry, place;
+    size_t empty_len, archive_len, both_len, n, entry, place;
 
     expect("boc_read", boc_read(pdu, sizeof pdu, bits, record, BOC_RECORD_WORDS, &place), BOC_OK);
     expect("boc_read, no bytes", boc_read(none, 0, 0, record, BOC_RECORD_WORDS, &place), BOC_SHORT);
     expect("boc_read, no bytes for 8 bits", boc_read(none, 0, 8, record, BOC_RECORD_WORDS, &place), BOC_FRAME);
     expect("boc_read, no words", boc_read(pdu, sizeof pdu, bits, none, 0, &place), BOC_RANGE);
+
+    expect("boc_read, CALL BARRED",
+           boc_read(call_barred, sizeof call_barred, call_barred_bits, barred, BOC_RECORD_WORDS, &place), BOC_OK);
+    expect("boc_read, CALL BARRED, no words",
+           boc_read(call_barred, sizeof call_barred, call_barred_bits, none, 0, &place), BOC_RANGE);
+    expect("boc_write, CALL BARRED, no buffer", boc_write(barred, BOC_RECORD_WORDS, none, 0, &n), BOC_ROOM);
 
     expect("boc_write, no words", boc_write(none, 0, out, sizeof out, &n), BOC_RANGE);
     expect("boc_write, no buffer", boc_write(record, BOC_RECORD_WORDS, none, 0, &n), BOC_ROOM);
@@ -71,6 +84,19 @@ static void lend(void *none)
            boc_reload(archive, archive_len, HOME, USER, BOC_IDENTITY_PART, BOC_REPLACEMENT, 1, 1, none, 0, &n, &entry,
                       &place),
            BOC_ROOM);
+
+    expect("boc_capture, number part",
+           boc_capture(archive, archive_len, number_part, sizeof number_part, number_bits, both, sizeof both, &both_len,
+                       &entry, &place),
+           BOC_OK);
+    expect("boc_reload_external",
+           boc_reload_external(both, both_len, HOME, USER, BOC_REMOVAL, 1, 1, out, sizeof out, &n, &entry, &place),
+           BOC_OK);
+    expect("boc_reload_external, no archive",
+           boc_reload_external(none, 0, HOME, USER, BOC_REMOVAL, 1, 1, out, sizeof out, &n, &entry, &place),
+           BOC_ARCHIVE);
+    expect("boc_reload_external, no buffer",
+           boc_reload_external(both, both_len, HOME, USER, BOC_REMOVAL, 1, 1, none, 0, &n, &entry, &place), BOC_ROOM);
 
     expect("boc_decide, no archive",
            boc_decide(none, 0, request, BOC_REQUEST_WORDS, &decision, &entry, &place), BOC_ARCHIVE);

@@ -7,7 +7,7 @@ use std::hint::black_box;
 use std::time::{Duration, Instant};
 
 use boc::ffi::Spot;
-use differential::{longest, longest_define, Archive, Entry, Pdu, Record, Rng, Size};
+use differential::{longest_part, record_of, Archive, Entry, Pdu, Record, Reload, Rng, Size};
 use reference::layout::{record as at, request, RECORD_WORDS, REQUEST_WORDS};
 
 const ROUNDS: usize = 200;
@@ -108,9 +108,10 @@ fn profile_a() -> Record {
 fn read_and_write(rng: &mut Rng) {
     let records = [
         ("profile A", profile_a()),
-        ("longest identity part", longest(rng, 1)),
-        ("longest number part", longest(rng, 2)),
-        ("longest DEFINE", longest_define(rng)),
+        ("longest identity part", longest_part(rng, 1)),
+        ("longest number part", longest_part(rng, 2)),
+        ("longest DEFINE", record_of(rng, 5, Size::Full)),
+        ("longest DEFINE EXTERNAL", record_of(rng, 7, Size::Full)),
     ];
     for (name, record) in records {
         let Pdu { bytes, bits } = Pdu::of(&record);
@@ -129,7 +130,8 @@ fn read_and_write(rng: &mut Rng) {
     }
 }
 
-/// Capture in place of the last entry, restore and reload of it, the listing, and a decision by it.
+/// Capture in place of the last entry, restore of it, each reload that it has, the listing, and a decision by
+/// it.
 fn on_archive(archive: &Archive) -> Vec<(&'static str, Times)> {
     let held = archive.bytes();
     let held = held.as_slice();
@@ -174,24 +176,23 @@ fn on_archive(archive: &Archive) -> Vec<(&'static str, Times)> {
         },
     );
     let mut times = vec![("capture", capture), ("restore", restore)];
-    // A part with numbers is not reloaded.
-    if reference::reload(held, *network, *ssi, *part, 1, 1, 1, &mut [0; 512]).is_ok() {
-        times.push(("reload", reload(held, [*network, *ssi], *part)));
+    // As a replacement that is delivered and acknowledged. No part with numbers is a DEFINE, and no identity
+    // part a DEFINE EXTERNAL.
+    for external in [false, true] {
+        let reload = Reload { external, user: [*network, *ssi], part: *part, definition: [1, 1, 1] };
+        if reload.reference(held, &mut [0; 512]).is_ok() {
+            times.push((reload.call(), reloads(held, &reload)));
+        }
     }
     times.extend([("contents", contents), ("decide", decide)]);
     times
 }
 
-/// Reload of a part as a replacement that is delivered and acknowledged.
-fn reload(held: &[u8], [network, ssi]: [u32; 2], part: u32) -> Times {
+fn reloads(held: &[u8], reload: &Reload) -> Times {
     Times::of(
         ROOM,
-        |out| {
-            through(|bits, spot| {
-                boc::ffi::reload(black_box(held), network, ssi, part, 1, 1, 1, out, bits, spot)
-            })
-        },
-        |out| answer(reference::reload(black_box(held), network, ssi, part, 1, 1, 1, out)),
+        |out| through(|bits, spot| reload.library(black_box(held), out, bits, spot)),
+        |out| answer(reload.reference(black_box(held), out)),
     )
 }
 
@@ -206,7 +207,7 @@ fn head(cells: &[&str]) {
 fn main() {
     let rng = &mut Rng::new(2026, 0);
     println!("Nanoseconds per call on {}, and the ratio of library to reference.", std::env::consts::ARCH);
-    println!("\nProfile A, and the longest parts and DEFINE with eight affected users:");
+    println!("\nProfile A, and the longest parts, DEFINE and DEFINE EXTERNAL with eight affected users:");
     head(&["call", "PDU", "bits"]);
     read_and_write(rng);
 

@@ -31,13 +31,25 @@ codes! {
     /// The PDUs that are read and written.
     #[derive(Default)]
     PduType {
-        /// What is to be barred for users.
+        /// What is to be barred for users, by identities.
         Define = 5,
+        /// The switch's answer to a DEFINE or DEFINE EXTERNAL.
+        DefineAck = 6,
+        /// What is to be barred for users, by external numbers.
+        DefineExternal = 7,
+        /// What a DEFINE bars, told to its user.
+        DefineUser = 8,
+        /// The user's answer to a DEFINE USER or DEFINE EXTERNAL USER.
+        DefineUserAck = 9,
+        /// What a DEFINE EXTERNAL bars, told to its user; its lists are of identities all the same.
+        DefineExternalUser = 10,
         /// A request for what is held for users.
         Interrogate = 11,
         /// The switch's answer to it.
         #[default]
         InterrogateAck = 12,
+        /// Tells the calling user that the call is barred.
+        CallBarred = 13,
     }
 }
 
@@ -80,7 +92,7 @@ codes! {
 }
 
 codes! {
-    /// What a DEFINE does to an earlier definition for its users and services.
+    /// What a definition does to an earlier one for its users and services.
     #[derive(Default)]
     DefinitionType {
         /// Completes it.
@@ -88,8 +100,60 @@ codes! {
         Addition = 0,
         /// Replaces it.
         Replacement = 1,
-        /// Removes it. The DEFINE has no lists.
+        /// Removes it. The PDU has no lists.
         Removal = 2,
+    }
+}
+
+codes! {
+    /// The result that a DEFINE ACK tells.
+    #[derive(Default)]
+    DefinitionResult {
+        /// The request failed.
+        #[default]
+        Failed = 0,
+        /// Accepted.
+        Accepted = 1,
+        /// Accepted, but its values were changed.
+        Changed = 2,
+        /// The user is not authorized.
+        NotAuthorized = 3,
+        /// A restricted identity is not known.
+        UnknownIdentity = 4,
+        /// The parameters are not valid.
+        NotValid = 6,
+        /// The information is insufficient.
+        Insufficient = 7,
+    }
+}
+
+codes! {
+    /// The result that a DEFINE USER ACK tells.
+    #[derive(Default)]
+    DistributionResult {
+        /// The request failed.
+        #[default]
+        Failed = 0,
+        /// Successfully received.
+        Received = 1,
+        /// The parameters are not valid.
+        NotValid = 6,
+        /// The information is insufficient.
+        Insufficient = 7,
+    }
+}
+
+codes! {
+    /// Why a call is barred, as a CALL BARRED tells it.
+    #[derive(Default)]
+    RejectionCause {
+        /// Called party outside allowed user group.
+        #[default]
+        OutsideGroup = 0,
+        /// Restricted service type.
+        RestrictedService = 1,
+        /// Restricted destination address.
+        RestrictedDestination = 2,
     }
 }
 
@@ -136,7 +200,7 @@ codes! {
 }
 
 codes! {
-    /// What is decided of a call. The numbers of the first three are the standard's causes.
+    /// What is decided of a call. The numbers of the first three are those of the causes.
     Decision {
         /// Barred: called party outside allowed user group.
         OutsideGroup = 0,
@@ -153,12 +217,7 @@ codes! {
 
 impl Decision {
     /// The cause with which the call is barred, if it is.
-    pub const fn cause(self) -> Option<u32> {
-        match self {
-            Decision::OutsideGroup | Decision::RestrictedService | Decision::RestrictedDestination => {
-                Some(self.number())
-            }
-            Decision::Allowed | Decision::NotHeld => None,
-        }
+    pub const fn cause(self) -> Option<RejectionCause> {
+        RejectionCause::from_number(self.number())
     }
 }

@@ -63,6 +63,20 @@ mod c {
             entry: *mut usize,
             place: *mut usize,
         ) -> u32;
+        pub fn boc_reload_external(
+            archive: *const u8,
+            archive_len: usize,
+            network: u32,
+            ssi: u32,
+            definition: u32,
+            delivery: u32,
+            acknowledgement: u32,
+            out: *mut u8,
+            out_len: usize,
+            bits: *mut usize,
+            entry: *mut usize,
+            place: *mut usize,
+        ) -> u32;
         pub fn boc_decide(
             archive: *const u8,
             archive_len: usize,
@@ -177,6 +191,40 @@ pub fn reload(
             network,
             ssi,
             part,
+            definition,
+            delivery,
+            acknowledgement,
+            out,
+            out_len,
+            bits,
+            entry,
+            place,
+        )
+    }
+}
+
+/// `boc_reload_external`.
+#[allow(clippy::too_many_arguments)]
+pub fn reload_external(
+    archive: &[u8],
+    network: u32,
+    ssi: u32,
+    definition: u32,
+    delivery: u32,
+    acknowledgement: u32,
+    out: &mut [u8],
+    bits: &mut usize,
+    Spot { entry, place }: &mut Spot,
+) -> u32 {
+    let (held, held_len) = (archive.as_ptr(), archive.len());
+    let (out, out_len) = (out.as_mut_ptr(), out.len());
+    // SAFETY: slices and references, as above.
+    unsafe {
+        c::boc_reload_external(
+            held,
+            held_len,
+            network,
+            ssi,
             definition,
             delivery,
             acknowledgement,

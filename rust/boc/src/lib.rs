@@ -1,11 +1,10 @@
 //! Barring of outgoing calls (BOC, EN 300 392-12-18) from Rust: the proved library `libboc.a` behind slices,
 //! plain structs and enums.
 //!
-//! It reads and writes INTERROGATE, INTERROGATE ACK and DEFINE PDUs, keeps INTERROGATE ACKs in an archive,
-//! restores them bit for bit, reloads them as DEFINEs, and decides calls from them. Every call answers with a
-//! value or a [`Refusal`]; one that reads tells in [`Refused`] where it stopped, too. A refused call changes
-//! no byte of what it was lent, and an accepted one leaves the bytes after what it wrote. Nothing is
-//! allocated.
+//! It reads and writes the nine BOC PDUs, keeps INTERROGATE ACKs in an archive, restores them bit for bit,
+//! reloads them as DEFINEs or DEFINE EXTERNALs, and decides calls from them. Every call answers with a value
+//! or a [`Refusal`]; one that reads tells in [`Refused`] where it stopped, too. A refused call changes no byte
+//! of what it was lent, and an accepted one leaves the bytes after what it wrote. Nothing is allocated.
 //!
 //! A PDU is a number of bits, most significant first, in exactly the bytes that hold them, with zero bits
 //! after them. An archive is exactly the slice that was written: the first N bytes of the buffer, where N is
@@ -73,7 +72,8 @@ mod request;
 mod words;
 
 pub use codes::{
-    Decision, DefinitionType, DeliveryStatus, InterrogationType, Outcome, Part, PduType, Service,
+    Decision, DefinitionResult, DefinitionType, DeliveryStatus, DistributionResult, InterrogationType,
+    Outcome, Part, PduType, RejectionCause, Service,
 };
 pub use record::{Definition, Identities, Identity, List, Number, Numbers, Record, Services, RECORD_WORDS};
 pub use refusal::{Refusal, Refused};
@@ -91,8 +91,8 @@ pub const CONTENTS_BYTES: usize = 26 + 35 * 512;
 /// The record of the PDU of `bits` bits.
 ///
 /// Refuses with [`Frame`](Refusal::Frame); then, element by element, with [`Short`](Refusal::Short),
-/// [`Value`](Refusal::Value), [`OtherType`](Refusal::OtherType) and [`Ends`](Refusal::Ends); then with
-/// [`Left`](Refusal::Left). All but the first bring the place.
+/// [`Value`](Refusal::Value) and [`Ends`](Refusal::Ends); then with [`Left`](Refusal::Left). All but the first
+/// bring the place.
 pub fn read(pdu: &[u8], bits: usize) -> Result<Record, Refused> {
     let mut words = [0; RECORD_WORDS];
     let mut spot = Spot::NONE;
@@ -149,11 +149,38 @@ pub fn reload(
     out: &mut [u8],
 ) -> Result<usize, Refused> {
     let Party { network, ssi } = user;
-    let Definition { definition_type, delivery, acknowledgement } = definition;
-    let (part, definition_type) = (part.number(), definition_type.number());
-    let [delivery, acknowledgement] = [delivery, acknowledgement].map(u32::from);
+    let (part, [definition_type, delivery, acknowledgement]) = (part.number(), definition.numbers());
     answer(|bits, spot| {
         ffi::reload(archive, network, ssi, part, definition_type, delivery, acknowledgement, out, bits, spot)
+    })
+}
+
+/// Writes the number part held for a user to the front of `out` as a DEFINE EXTERNAL, with the affected user,
+/// the services and the lists as they are held; answers its length in bits.
+///
+/// Refuses with [`Range`](Refusal::Range), [`Archive`](Refusal::Archive), [`NotHeld`](Refusal::NotHeld),
+/// [`Loss`](Refusal::Loss) and [`Room`](Refusal::Room), in this order. [`Loss`](Refusal::Loss) is for any list
+/// that is not empty under a removal.
+pub fn reload_external(
+    archive: &[u8],
+    user: Party,
+    definition: Definition,
+    out: &mut [u8],
+) -> Result<usize, Refused> {
+    let Party { network, ssi } = user;
+    let [definition_type, delivery, acknowledgement] = definition.numbers();
+    answer(|bits, spot| {
+        ffi::reload_external(
+            archive,
+            network,
+            ssi,
+            definition_type,
+            delivery,
+            acknowledgement,
+            out,
+            bits,
+            spot,
+        )
     })
 }
 

@@ -3,12 +3,15 @@
 use core::fmt;
 use core::str::FromStr;
 
-use crate::codes::{DefinitionType, DeliveryStatus, InterrogationType, Outcome, PduType, Service};
+use crate::codes::{
+    DefinitionResult, DefinitionType, DeliveryStatus, DistributionResult, InterrogationType, Outcome,
+    PduType, RejectionCause, Service,
+};
 use crate::words::{Crossing, Sink, Source};
 use crate::Refusal;
 
 /// Words of a record.
-pub const RECORD_WORDS: usize = 517;
+pub const RECORD_WORDS: usize = 520;
 /// Places of a list.
 const PLACES: usize = 8;
 /// Service places of a record.
@@ -132,7 +135,7 @@ impl<T: Copy + Default + fmt::Debug> fmt::Debug for List<T> {
     }
 }
 
-/// One to seven services; none in an INTERROGATE.
+/// One to seven services; none in a PDU without them.
 #[derive(Clone, Copy, Default, PartialEq, Eq, Hash)]
 pub struct Services {
     count: u32,
@@ -160,23 +163,36 @@ impl fmt::Debug for Services {
     }
 }
 
-/// What a DEFINE asks for, besides its users, services and lists.
+/// What a DEFINE, DEFINE EXTERNAL, DEFINE USER or DEFINE EXTERNAL USER asks for, besides its users, services
+/// and lists.
 #[derive(Clone, Copy, Debug, Default, PartialEq, Eq, Hash)]
 pub struct Definition {
     /// What becomes of an earlier definition.
     pub definition_type: DefinitionType,
-    /// Is delivery to the affected users requested?
+    /// Is delivery to the affected users requested? Not of the PDUs that are themselves sent to a user.
     pub delivery: bool,
-    /// Is acknowledgement from them requested? Only with delivery; without it this is refused.
+    /// Is acknowledgement from them requested? Of the PDUs that have delivery only with it; without it this is
+    /// refused.
     pub acknowledgement: bool,
 }
 
+impl Definition {
+    /// Its numbers in the order in which a reload takes them.
+    pub(crate) fn numbers(self) -> [u32; 3] {
+        [self.definition_type.number(), self.delivery.into(), self.acknowledgement.into()]
+    }
+}
+
 /// The record of a PDU. What its PDU does not carry has its default.
+///
+/// A definition has lists unless it is a removal: a DEFINE EXTERNAL those of a number part, a DEFINE, DEFINE
+/// USER or DEFINE EXTERNAL USER those of an identity part.
 #[derive(Clone, Copy, Debug, Default, PartialEq, Eq, Hash)]
 pub struct Record {
     /// Which of the PDUs it is.
     pub pdu_type: PduType,
-    /// The users that are asked or told about; never empty.
+    /// The users that are asked or told about. Empty exactly in a DEFINE USER, DEFINE USER ACK, DEFINE
+    /// EXTERNAL USER or CALL BARRED, which have none.
     pub affected: Identities,
     /// Of an INTERROGATE.
     pub interrogation_type: InterrogationType,
@@ -184,11 +200,11 @@ pub struct Record {
     pub result: Outcome,
     /// Of an INTERROGATE ACK: whether the users have been told.
     pub delivery_status: DeliveryStatus,
-    /// The barred services, of an INTERROGATE ACK or a DEFINE.
+    /// The barred services, of an INTERROGATE ACK or a definition.
     pub services: Services,
-    /// Closed user groups, of either part or a DEFINE that is no removal.
+    /// Closed user groups, of either part.
     pub groups: Identities,
-    /// Restricted identities, of an identity part or such a DEFINE.
+    /// Restricted identities, of an identity part.
     pub restricted: Identities,
     /// Exceptions to them.
     pub exceptions: Identities,
@@ -196,8 +212,14 @@ pub struct Record {
     pub restricted_numbers: Numbers,
     /// Exceptions to them.
     pub excepted_numbers: Numbers,
-    /// Of a DEFINE.
+    /// Of a definition.
     pub definition: Definition,
+    /// Of a DEFINE ACK.
+    pub definition_result: DefinitionResult,
+    /// Of a DEFINE USER ACK.
+    pub distribution_result: DistributionResult,
+    /// Of a CALL BARRED.
+    pub rejection_cause: RejectionCause,
 }
 
 impl Record {
@@ -303,6 +325,9 @@ impl Crossing for Record {
         self.restricted_numbers.put(sink);
         self.excepted_numbers.put(sink);
         self.definition.put(sink);
+        sink.put(self.definition_result.number());
+        sink.put(self.distribution_result.number());
+        sink.put(self.rejection_cause.number());
     }
 
     fn take(source: &mut Source<'_>) -> Self {
@@ -319,6 +344,9 @@ impl Crossing for Record {
             restricted_numbers: List::take(source),
             excepted_numbers: List::take(source),
             definition: Definition::take(source),
+            definition_result: code(source, DefinitionResult::from_number),
+            distribution_result: code(source, DistributionResult::from_number),
+            rejection_cause: code(source, RejectionCause::from_number),
         }
     }
 }

@@ -26,16 +26,14 @@ pub enum Refusal {
     Room = 8,
     /// A request, user, part, definition, home network or count of words out of its range.
     Range = 9,
-    /// A BOC PDU type that the standard names and that is not read.
-    OtherType = 10,
     /// Restore and reload: not held.
     NotHeld = 11,
-    /// Reload: a held list that is not empty has no place in the DEFINE.
+    /// Reload: a held list that is not empty has no place in the PDU.
     Loss = 12,
 }
 
 impl Refusal {
-    /// The library's number, 1 to 12.
+    /// The library's number: 1 to 9, 11 or 12.
     pub const fn number(self) -> u32 {
         self as u32
     }
@@ -54,7 +52,6 @@ impl Refusal {
             7 => Archive,
             8 => Room,
             9 => Range,
-            10 => OtherType,
             11 => NotHeld,
             12 => Loss,
             _ => unreachable!("the library has no refusal {number}"),
@@ -74,9 +71,8 @@ impl Refusal {
             Refusal::Range => {
                 "a request, user, part, definition, home network or count of words out of its range"
             }
-            Refusal::OtherType => "a BOC PDU type that is not read",
             Refusal::NotHeld => "not held",
-            Refusal::Loss => "a held list that is not empty has no place in the DEFINE",
+            Refusal::Loss => "a held list that is not empty has no place in the PDU",
         }
     }
 }
@@ -100,8 +96,8 @@ pub struct Refused {
     /// The first bit, from 0, of the element at which reading stopped, in the PDU or in that entry's body.
     ///
     /// [`Short`](Refusal::Short): the element that is not there whole, which may be at the PDU's length.
-    /// [`Value`](Refusal::Value), [`OtherType`](Refusal::OtherType): the element that is refused.
-    /// [`Ends`](Refusal::Ends): the second end's SSI. [`Left`](Refusal::Left): the first bit left.
+    /// [`Value`](Refusal::Value): the element that is refused. [`Ends`](Refusal::Ends): the second end's SSI.
+    /// [`Left`](Refusal::Left): the first bit left.
     pub place: Option<usize>,
 }
 

@@ -82,6 +82,99 @@ fn a_define_is_written_and_read() {
     assert_eq!(write(&Record { definition: removal, ..define_a() }, &mut out), Err(Refusal::Value));
 }
 
+/// A number part of user 5: all services barred to 112, in a group of network 2.
+fn number_part() -> Record {
+    Record {
+        affected: List::of([Identity::without_extension(5)]),
+        result: Outcome::Numbers,
+        services: Services::of([Service::All]),
+        groups: List::of([Identity { ssi: 500, extension: Some(2) }]),
+        restricted_numbers: List::of(["112".parse().unwrap()]),
+        ..Record::default()
+    }
+}
+
+/// The number part as a replacement that is delivered and acknowledged.
+fn define_external() -> Record {
+    Record {
+        pdu_type: PduType::DefineExternal,
+        result: Outcome::default(),
+        definition: ACKNOWLEDGED_REPLACEMENT,
+        ..number_part()
+    }
+}
+
+#[test]
+fn each_pdu_is_written_and_read() {
+    let one_user = List::of([Identity::without_extension(5)]);
+    // Sent to a user: no affected users, and an acknowledgement without delivery.
+    let to_user = Record {
+        affected: List::default(),
+        definition: Definition { delivery: false, ..ACKNOWLEDGED_REPLACEMENT },
+        ..define_a()
+    };
+    let records = [
+        (138, profile_a()),
+        (137, define_a()),
+        (128, define_external()),
+        (
+            42,
+            Record {
+                pdu_type: PduType::Interrogate,
+                affected: one_user,
+                interrogation_type: InterrogationType::Both,
+                ..Record::default()
+            },
+        ),
+        (
+            43,
+            Record {
+                pdu_type: PduType::DefineAck,
+                affected: one_user,
+                definition_result: DefinitionResult::UnknownIdentity,
+                ..Record::default()
+            },
+        ),
+        (107, Record { pdu_type: PduType::DefineUser, ..to_user }),
+        (107, Record { pdu_type: PduType::DefineExternalUser, ..to_user }),
+        (
+            14,
+            Record {
+                pdu_type: PduType::DefineUserAck,
+                distribution_result: DistributionResult::Received,
+                ..Record::default()
+            },
+        ),
+        (
+            13,
+            Record {
+                pdu_type: PduType::CallBarred,
+                rejection_cause: RejectionCause::RestrictedService,
+                ..Record::default()
+            },
+        ),
+    ];
+    for (bits, record) in records {
+        let mut pdu = [0; PDU_BYTES];
+        assert_eq!(write(&record, &mut pdu), Ok(bits), "{record:?}");
+        let pdu = &pdu[..bits.div_ceil(8)];
+        assert_eq!(read(pdu, bits), Ok(record));
+        if record.pdu_type != PduType::InterrogateAck {
+            assert_eq!(capture(&example(), pdu, bits, &mut [0; 400]), refused(Refusal::Unfit, None, None));
+        }
+    }
+    let with_user = Record { pdu_type: PduType::DefineUser, affected: one_user, ..to_user };
+    assert_eq!(write(&with_user, &mut [0; PDU_BYTES]), Err(Refusal::Value));
+    // Reserved codes of definition result, distribution result and rejection cause.
+    for (bits, place, pdu) in [
+        (43, 40, &[0x48, 0xc2, 0x00, 0x00, 0x0a, 0xa0][..]),
+        (14, 11, &[0x49, 0x28]),
+        (13, 11, &[0x49, 0xb8]),
+    ] {
+        assert_eq!(read(pdu, bits), refused(Refusal::Value, None, Some(place)));
+    }
+}
+
 /// Profile A as words, each by its place in the header's table.
 fn words_of_profile_a() -> [u32; RECORD_WORDS] {
     let mut words = [0; RECORD_WORDS];
@@ -129,11 +222,11 @@ fn words_that_no_record_has_are_none() {
         assert_eq!(Record::from_words(&words), None, "{word} in place {place}");
     };
     // PDU type, extension present, interrogation type, result, delivery status, service, length, digit.
-    for (place, word) in [(0, 10), (3, 2), (26, 4), (27, 5), (28, 4), (36, 4), (113, 25), (114, 13)] {
+    for (place, word) in [(0, 4), (0, 14), (3, 2), (26, 4), (27, 5), (28, 4), (36, 4), (113, 25), (114, 13)] {
         none_with(place, word);
     }
-    // Delivery, acknowledgement, definition type.
-    for (place, word) in [(514, 2), (515, 2), (516, 3)] {
+    // Delivery, acknowledgement, definition type, definition result, distribution result, rejection cause.
+    for (place, word) in [(514, 2), (515, 2), (516, 3), (517, 5), (518, 2), (518, 5), (519, 3)] {
         none_with(place, word);
     }
     // An extension that is not present.
@@ -154,7 +247,10 @@ fn refusals_of_a_pdu_have_their_place() {
     assert_eq!(read(&[0, 0], 11), refused(Refusal::Value, None, Some(0)));
     assert_eq!(read(&reversed, 138), refused(Refusal::Ends, None, Some(84)));
     assert_eq!(read(&PROFILE_A, 144), refused(Refusal::Left, None, Some(138)));
-    assert_eq!(read(&[0x48, 0x40], 11), refused(Refusal::OtherType, None, Some(6)));
+    // PDU types 2, 4, 14 and 31.
+    for pdu in [[0x48, 0x40], [0x48, 0x80], [0x49, 0xc0], [0x4b, 0xe0]] {
+        assert_eq!(read(&pdu, 11), refused(Refusal::Value, None, Some(6)));
+    }
     let mut out = [0; 64];
     assert_eq!(capture(&example(), &PROFILE_A, 144, &mut out), refused(Refusal::Left, None, Some(138)));
 }
@@ -172,6 +268,7 @@ fn refusals_of_an_archive_have_their_entry() {
         assert_eq!(capture(&archive, &PROFILE_A, 137, &mut [0; 100]), expected);
         assert_eq!(restore(&archive, USER, Part::Identity, &mut [0; 100]), expected);
         assert_eq!(reload(&archive, USER, Part::Identity, Definition::default(), &mut [0; 100]), expected);
+        assert_eq!(reload_external(&archive, USER, Definition::default(), &mut [0; 100]), expected);
     };
     // The count; the first part, which is then number 0; the last unused bit; the second body's PDU type.
     broken(4, None, None);
@@ -195,7 +292,7 @@ fn refusals_have_their_numbers_and_words() {
     assert_eq!(Refusal::NotHeld.to_string(), "refused 11: not held");
     assert_eq!(
         Refusal::Loss.to_string(),
-        "refused 12: a held list that is not empty has no place in the DEFINE"
+        "refused 12: a held list that is not empty has no place in the PDU"
     );
 
     let words = |why, entry, place| Refused { why, entry, place }.to_string();
@@ -228,20 +325,13 @@ fn an_archive_lists_restores_and_decides() {
         group: None,
     };
     assert_eq!(decide(&archive, &to_number), Ok(Decision::NotHeld));
-    let numbers = Record {
-        affected: List::of([Identity::without_extension(5)]),
-        result: Outcome::Numbers,
-        services: Services::of([Service::All]),
-        groups: List::of([Identity { ssi: 500, extension: Some(2) }]),
-        restricted_numbers: List::of(["112".parse().unwrap()]),
-        ..Record::default()
-    };
-    let archive = captured(&numbers, &archive).unwrap();
+    let archive = captured(&number_part(), &archive).unwrap();
     assert_eq!(decide(&archive, &to_number), Ok(Decision::RestrictedDestination));
     let elsewhere = Request { destination: Destination::Number("113".parse().unwrap()), ..to_number };
-    assert_eq!(decide(&archive, &elsewhere).map(Decision::cause), Ok(Some(0)));
+    assert_eq!(decide(&archive, &elsewhere).map(Decision::cause), Ok(Some(RejectionCause::OutsideGroup)));
     let in_group = Request { group: Some(Party { network: 2, ssi: 500 }), ..elsewhere };
     assert_eq!(decide(&archive, &in_group), Ok(Decision::Allowed));
+    assert_eq!(Decision::Allowed.cause(), None);
     let all = Request { service: Service::All, ..in_group };
     assert_eq!(decide(&archive, &all), refused(Refusal::Range, None, None));
 }
@@ -255,14 +345,7 @@ fn a_part_is_reloaded() {
     assert!(out[18..].iter().all(|byte| *byte == 0xff));
 
     // A number part without numbers has its groups; one with numbers would lose them, and so would a removal.
-    let groups = List::of([Identity { ssi: 500, extension: Some(2) }]);
-    let numbers = Record {
-        affected: List::of([Identity::without_extension(5)]),
-        result: Outcome::Numbers,
-        services: Services::of([Service::All]),
-        groups,
-        ..Record::default()
-    };
+    let numbers = Record { restricted_numbers: List::default(), ..number_part() };
     let archive = captured(&numbers, &archive).unwrap();
     let plain = Definition::default();
     let bits = reload(&archive, USER, Part::Number, plain, &mut out).unwrap();
@@ -271,8 +354,7 @@ fn a_part_is_reloaded() {
     let removal = Definition { definition_type: DefinitionType::Removal, ..plain };
     let lost = refused(Refusal::Loss, None, None);
     assert_eq!(reload(&archive, USER, Part::Number, removal, &mut out), lost);
-    let numbers = Record { restricted_numbers: List::of(["112".parse().unwrap()]), ..numbers };
-    let archive = captured(&numbers, &archive).unwrap();
+    let archive = captured(&number_part(), &archive).unwrap();
     assert_eq!(reload(&archive, USER, Part::Number, plain, &mut out), lost);
 
     let undelivered = Definition { acknowledgement: true, ..plain };
@@ -284,6 +366,29 @@ fn a_part_is_reloaded() {
         refused(Refusal::NotHeld, None, None)
     );
     assert_eq!(reload(&archive, USER, Part::Identity, plain, &mut []), refused(Refusal::Room, None, None));
+}
+
+#[test]
+fn a_number_part_is_reloaded_with_its_numbers() {
+    let archive = captured(&number_part(), &example()).unwrap();
+    let mut out = [0xff; PDU_BYTES];
+    let bits = reload_external(&archive, USER, ACKNOWLEDGED_REPLACEMENT, &mut out).unwrap();
+    let (pdu, after) = out.split_at(bits.div_ceil(8));
+    assert!(after.iter().all(|byte| *byte == 0xff));
+    assert_eq!(read(pdu, bits), Ok(define_external()));
+
+    // A removal would lose its lists; without them it stands.
+    let removal = Definition { definition_type: DefinitionType::Removal, ..Definition::default() };
+    assert_eq!(reload_external(&archive, USER, removal, &mut out), refused(Refusal::Loss, None, None));
+    let bare = Record { groups: List::default(), restricted_numbers: List::default(), ..number_part() };
+    let archive = captured(&bare, &archive).unwrap();
+    assert_eq!(reload_external(&archive, USER, removal, &mut out), Ok(50));
+
+    let undelivered = Definition { acknowledgement: true, ..removal };
+    assert_eq!(reload_external(&archive, USER, undelivered, &mut out), refused(Refusal::Range, None, None));
+    // An identity part is not it.
+    assert_eq!(reload_external(&example(), USER, removal, &mut []), refused(Refusal::NotHeld, None, None));
+    assert_eq!(reload_external(&archive, USER, removal, &mut []), refused(Refusal::Room, None, None));
 }
 
 #[test]

@@ -5,6 +5,7 @@ use std::collections::BTreeSet;
 use reference::layout::{record as at, RECORD_WORDS};
 use reference::Refused;
 
+use crate::elements::{Form, FORMS};
 use crate::{network, part, record, ssi, Pdu, Rng, Size};
 
 /// Most bytes of an archive.
@@ -237,7 +238,7 @@ impl Archive {
 
 /// What may be at fault in an archive: its shape, or a body in one of these ways. Numbers are the refusals of
 /// a body that bring a place.
-pub const FAULTS: [&str; 11] = [
+pub const FAULTS: [&str; 10] = [
     "shape",
     "over 4,096 bits",
     "unused bits",
@@ -246,7 +247,6 @@ pub const FAULTS: [&str; 11] = [
     "3",
     "4",
     "5",
-    "10",
     "may not be held",
     "disagrees with its entry",
 ];
@@ -277,7 +277,7 @@ pub fn fault(archive: &[u8], refused: Refused) -> &'static str {
         Err(3) => "3",
         Err(4) => "4",
         Err(5) => "5",
-        Err(_) => "10",
+        Err(other) => panic!("a body is refused with {other}"),
         Ok(()) if matches!(words[at::RESULT], 1 | 2) && words[at::AFFECTED] == 1 => {
             "disagrees with its entry"
         }
@@ -285,18 +285,21 @@ pub fn fault(archive: &[u8], refused: Refused) -> &'static str {
     }
 }
 
-/// Why a legal PDU may be unfit for an archive.
-pub const UNFIT: [&str; 4] = ["INTERROGATE", "DEFINE", "result", "range type"];
+/// Why a legal PDU may be unfit for an archive: its type, or the result or the range type of its INTERROGATE
+/// ACK.
+pub fn all_unfit() -> Vec<&'static str> {
+    let types = FORMS.iter().filter(|form| form.number != 12).map(|form| form.name);
+    types.chain(["result", "range type"]).collect()
+}
 
 /// Why no archive holds this legal PDU.
 pub fn unfit(pdu: &Pdu) -> &'static str {
     let mut words = [0; RECORD_WORDS];
     reference::read(&pdu.bytes, pdu.bits, &mut words).expect("the PDU is legal");
     match (words[at::PDU_TYPE], words[at::RESULT]) {
-        (11, _) => UNFIT[0],
-        (5, _) => UNFIT[1],
-        (_, 0 | 3..) => UNFIT[2],
-        _ => UNFIT[3],
+        (12, 1 | 2) => "range type",
+        (12, _) => "result",
+        (other, _) => Form::of(other).expect("it is a PDU type").name,
     }
 }
 

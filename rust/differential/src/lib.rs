@@ -6,6 +6,7 @@
 
 mod archives;
 mod definitions;
+mod elements;
 mod met;
 mod pdus;
 mod reloads;
@@ -14,12 +15,13 @@ mod rng;
 pub mod typed;
 
 pub use archives::{
-    fault, lacking, unfit, Archive, Entry, DAMAGES, FAULTS, LACKS, MAX_BYTES, MAX_ENTRIES, UNFIT,
+    all_unfit, fault, lacking, unfit, Archive, Entry, DAMAGES, FAULTS, LACKS, MAX_BYTES, MAX_ENTRIES,
 };
-pub use definitions::{define_read, define_written, definition, Definition, DEFINITIONS, ELEMENTS};
+pub use definitions::{definition, Definition, DEFINITIONS};
+pub use elements::{elements, joined, reserved_types, Code, Element, Form, FORMS};
 pub use met::Met;
-pub use pdus::{damage_record, longest, longest_define, offered, part, record, Pdu, Record, Size};
-pub use reloads::{losses, Reload, OUT_OF_RANGE};
+pub use pdus::{damage_record, longest_part, offered, part, record, record_of, Pdu, Record, Size};
+pub use reloads::{all_out_of_range, losses, Reload};
 pub use requests::{damage_request, request, Request};
 pub use rng::Rng;
 

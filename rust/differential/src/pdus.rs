@@ -2,7 +2,8 @@
 
 use reference::layout::{record as at, DIGITS, IDENTITY_WORDS, NUMBER_WORDS, PLACES, RECORD_WORDS, SERVICES};
 
-use crate::definitions::{damage_definition, definition, Definition};
+use crate::definitions::{damage_definition, definition};
+use crate::elements::{Element, Form};
 use crate::{network, ssi, Rng};
 
 /// The words of a record.
@@ -20,7 +21,7 @@ pub enum Size {
 }
 
 /// A PDU: its bytes and its bits.
-#[derive(Clone)]
+#[derive(Clone, PartialEq, Eq)]
 pub struct Pdu {
     /// The bytes.
     pub bytes: Vec<u8>,
@@ -59,16 +60,37 @@ impl Pdu {
         pdu
     }
 
+    /// The PDU with another value of an element.
+    pub fn with(&self, element: &Element, value: u32) -> Self {
+        let mut pdu = self.clone();
+        pdu.put(element.place, element.width(), value);
+        pdu
+    }
+
+    /// Puts the last `width` bits of a value at a place.
+    pub(crate) fn put(&mut self, place: usize, width: usize, value: u32) {
+        for i in 0..width {
+            let (byte, bit) = ((place + i) / 8, 0x80 >> ((place + i) % 8));
+            self.bytes[byte] &= !bit;
+            if value >> (width - 1 - i) & 1 == 1 {
+                self.bytes[byte] |= bit;
+            }
+        }
+    }
+
     /// The value of an element, if it is there.
-    pub(crate) fn value(&self, place: usize, width: usize) -> Option<u32> {
+    fn value(&self, place: usize, width: usize) -> Option<u32> {
         (place..place + width).try_fold(0, |value, place| {
             let byte = self.bytes.get(place / 8)?;
             Some(value << 1 | u32::from(byte >> (7 - place % 8) & 1))
         })
     }
 
-    /// Where the affected users end, if they are there.
-    pub(crate) fn users_end(&self) -> Option<usize> {
+    /// Where the codes begin: behind the PDU type, or behind the affected users, if they are there.
+    fn codes_begin(&self) -> Option<usize> {
+        if !Form::of(self.value(6, 5)?)?.users {
+            return Some(11);
+        }
         let code = self.value(11, 4)?;
         let count = if code == 9 { 2 } else { code };
         (0..count).try_fold(15, |place, _| Some(place + 25 + 24 * self.value(place + 24, 1)? as usize))
@@ -122,10 +144,10 @@ impl Pdu {
                 }
                 // A count that rounding up would overflow.
                 1 => self.bits = usize::MAX - rng.below(9),
-                // Any bits for what follows the affected users.
+                // Any bits for the codes.
                 2 => {
-                    if let Some(end) = self.users_end() {
-                        (end..self.bits.min(end + 4)).filter(|_| rng.one_in(2)).for_each(|place| {
+                    if let Some(begin) = self.codes_begin() {
+                        (begin..self.bits.min(begin + 4)).filter(|_| rng.one_in(2)).for_each(|place| {
                             *self = self.flipped(place);
                         });
                     }
@@ -136,25 +158,46 @@ impl Pdu {
     }
 }
 
-/// A legal record.
+/// A legal record: of any PDU, often of one with lists, most often of an INTERROGATE ACK.
 pub fn record(rng: &mut Rng) -> Record {
+    let pdu_type = rng.pick(&[5, 5, 6, 7, 7, 8, 9, 10, 11, 12, 12, 12, 12, 12, 12, 13]);
+    record_of(rng, pdu_type, Size::Any)
+}
+
+/// A legal record of a PDU type; at full size the longest, which of an INTERROGATE ACK is a number part.
+pub fn record_of(rng: &mut Rng, pdu_type: u32, size: Size) -> Record {
     let mut words = [0; RECORD_WORDS];
-    match rng.below(7) {
-        0 => {
-            words[at::PDU_TYPE] = 11;
-            words[at::INTERROGATION_TYPE] = rng.between(1, 3) as u32;
+    words[at::PDU_TYPE] = pdu_type;
+    match pdu_type {
+        5 | 7 => {
+            let definition = if size == Size::Full { [1, 1, 1] } else { definition(rng) };
+            words[at::DELIVERY..][..3].copy_from_slice(&definition);
         }
-        1 | 2 => {
-            let definition = definition(rng);
-            define(rng, &mut words, definition, Size::Any);
+        6 => words[at::DEFINITION_RESULT] = rng.pick(&[0, 1, 2, 3, 4, 6, 7]),
+        8 | 10 => {
+            words[at::ACKNOWLEDGEMENT] = rng.bits(1);
+            words[at::DEFINITION_TYPE] = if size == Size::Full { 1 } else { rng.below(3) as u32 };
         }
-        _ => {
-            let result = rng.pick(&[0, 1, 1, 1, 2, 2, 2, 3, 4, 6, 7]);
-            acknowledge(rng, &mut words, result, Size::Any);
+        9 => words[at::DISTRIBUTION_RESULT] = rng.pick(&[0, 1, 6, 7]),
+        11 => words[at::INTERROGATION_TYPE] = rng.between(1, 3) as u32,
+        12 => {
+            let result = if size == Size::Full { 2 } else { rng.pick(&[0, 1, 1, 1, 2, 2, 2, 3, 4, 6, 7]) };
+            acknowledge(rng, &mut words, result, size);
+        }
+        _ => words[at::REJECTION_CAUSE] = rng.below(3) as u32,
+    }
+    if matches!(pdu_type, 5 | 7 | 8 | 10) {
+        services(rng, &mut words, size);
+        match words[at::DEFINITION_TYPE] {
+            2 => {}
+            _ if pdu_type == 7 => number_lists(rng, &mut words, size),
+            _ => identity_lists(rng, &mut words, size),
         }
     }
-    let code = rng.pick(&[1, 1, 1, 2, 3, 5, 8, 9]);
-    identities(rng, &mut words, at::AFFECTED, code, Size::Any);
+    if Form::of(pdu_type).is_some_and(|form| form.users) {
+        let code = if size == Size::Full { 8 } else { rng.pick(&[1, 1, 1, 2, 3, 5, 8, 9]) };
+        identities(rng, &mut words, at::AFFECTED, code, size);
+    }
     words
 }
 
@@ -186,28 +229,10 @@ pub fn part(rng: &mut Rng, home: u32, user: [u32; 2], part: u32, size: Size) -> 
 }
 
 /// The record of the longest part of a kind that a PDU can be: eight affected users, every list full.
-pub fn longest(rng: &mut Rng, kind: u32) -> Record {
+pub fn longest_part(rng: &mut Rng, kind: u32) -> Record {
     let mut words = part(rng, 1, [2, 5], kind, Size::Full);
     identities(rng, &mut words, at::AFFECTED, 8, Size::Full);
     words
-}
-
-/// The record of the longest DEFINE: eight affected users, every list full.
-pub fn longest_define(rng: &mut Rng) -> Record {
-    let mut words = [0; RECORD_WORDS];
-    define(rng, &mut words, [1, 1, 1], Size::Full);
-    identities(rng, &mut words, at::AFFECTED, 8, Size::Full);
-    words
-}
-
-/// A DEFINE but for its affected users.
-fn define(rng: &mut Rng, words: &mut Record, definition: Definition, size: Size) {
-    words[at::PDU_TYPE] = 5;
-    words[at::DELIVERY..].copy_from_slice(&definition);
-    services(rng, words, size);
-    if words[at::DEFINITION_TYPE] != 2 {
-        identity_lists(rng, words, size);
-    }
 }
 
 /// An INTERROGATE ACK but for its affected users.
@@ -220,12 +245,7 @@ fn acknowledge(rng: &mut Rng, words: &mut Record, result: u32, size: Size) {
         identity_lists(rng, words, size);
     }
     if result == 2 {
-        let groups = code(rng, size, 9);
-        identities(rng, words, at::GROUPS, groups, size);
-        for list in [at::RESTRICTED_NUMBERS, at::EXCEPTED_NUMBERS] {
-            let code = code(rng, size, 8);
-            numbers(rng, words, list, code, size);
-        }
+        number_lists(rng, words, size);
     }
 }
 
@@ -244,6 +264,16 @@ fn identity_lists(rng: &mut Rng, words: &mut Record, size: Size) {
     for list in [at::GROUPS, at::RESTRICTED, at::EXCEPTIONS] {
         let code = code(rng, size, 9);
         identities(rng, words, list, code, size);
+    }
+}
+
+/// Closed user groups, restricted external numbers and exceptions to them.
+fn number_lists(rng: &mut Rng, words: &mut Record, size: Size) {
+    let groups = code(rng, size, 9);
+    identities(rng, words, at::GROUPS, groups, size);
+    for list in [at::RESTRICTED_NUMBERS, at::EXCEPTED_NUMBERS] {
+        let code = code(rng, size, 8);
+        numbers(rng, words, list, code, size);
     }
 }
 
@@ -310,7 +340,7 @@ pub fn odd_word(rng: &mut Rng) -> u32 {
 pub fn damage_record(rng: &mut Rng, words: &mut Record) {
     let lists = [at::AFFECTED, at::GROUPS, at::RESTRICTED, at::EXCEPTIONS];
     for _ in 0..rng.between(1, 3) {
-        match rng.below(8) {
+        match rng.below(9) {
             0 => words[rng.below(RECORD_WORDS)] = odd_word(rng),
             1 => words[rng.below(at::RESTRICTED_NUMBERS)] = odd_word(rng),
             2 => {
@@ -330,8 +360,9 @@ pub fn damage_record(rng: &mut Rng, words: &mut Record) {
                 words[list + 1 + NUMBER_WORDS * rng.below(PLACES)] = odd_word(rng);
             }
             5 => words[rng.between(at::INTERROGATION_TYPE, at::GROUPS)] = odd_word(rng),
-            6 => words[at::PDU_TYPE] = rng.pick(&[5, 6, 11, 12]),
-            _ => damage_definition(rng, &mut words[at::DELIVERY..]),
+            6 => words[at::PDU_TYPE] = rng.between(4, 14) as u32,
+            7 => words[rng.between(at::DELIVERY, RECORD_WORDS - 1)] = odd_word(rng),
+            _ => damage_definition(rng, &mut words[at::DELIVERY..][..3]),
         }
     }
 }

@@ -1,5 +1,6 @@
 //! Reloads.
 
+use boc::ffi::{self, Spot};
 use reference::layout::{record as at, RECORD_WORDS};
 use reference::Refused;
 
@@ -10,16 +11,18 @@ use crate::{Archive, Pdu, Record, Rng};
 /// What a reload asks for.
 #[derive(Clone, Copy)]
 pub struct Reload {
+    /// As a DEFINE EXTERNAL? Otherwise as a DEFINE.
+    pub external: bool,
     /// The user's network and SSI.
     pub user: [u32; 2],
-    /// The part.
+    /// The part; 2 for a DEFINE EXTERNAL.
     pub part: u32,
     /// Delivery, acknowledgement and definition type.
     pub definition: Definition,
 }
 
-/// What of a reload may be out of its range.
-pub const OUT_OF_RANGE: [&str; 7] = [
+/// What of a reload may be out of its range; the part only of one as a DEFINE, which asks for it.
+const OUT_OF_RANGE: [&str; 7] = [
     "network",
     "SSI",
     "part",
@@ -38,10 +41,18 @@ const LISTS: [(&str, usize); 5] = [
     ("excepted numbers", at::EXCEPTED_NUMBERS),
 ];
 
-/// Each list that a DEFINE of some definition type has no place for.
-pub fn losses() -> Vec<String> {
+/// All that may be out of range.
+pub fn all_out_of_range(external: bool) -> Vec<&'static str> {
+    OUT_OF_RANGE.into_iter().filter(|what| !external || *what != "part").collect()
+}
+
+/// Each list of a part that the PDU has no place for under some definition type.
+pub fn losses(external: bool) -> Vec<String> {
     let losses_under = |definition_type| {
-        let lost = LISTS.into_iter().filter(move |(_, place)| has_no_place(*place, definition_type));
+        let lost = LISTS.into_iter().filter(move |(_, place)| {
+            has_no_place(external, *place, definition_type)
+                && !(external && [at::RESTRICTED, at::EXCEPTIONS].contains(place))
+        });
         lost.map(move |(list, _)| loss(list, definition_type))
     };
     (0..3).flat_map(losses_under).collect()
@@ -51,19 +62,19 @@ fn loss(list: &str, definition_type: u32) -> String {
     format!("{list} under {}", DEFINITIONS[definition_type as usize])
 }
 
-/// Only addition and replacement have lists, and those of identities alone.
-fn has_no_place(list: usize, definition_type: u32) -> bool {
-    definition_type == 2 || list >= at::RESTRICTED_NUMBERS
+/// Only addition and replacement have lists, and a DEFINE has those of identities alone.
+fn has_no_place(external: bool, list: usize, definition_type: u32) -> bool {
+    definition_type == 2 || !external && list >= at::RESTRICTED_NUMBERS
 }
 
 impl Reload {
     /// A reload from an archive, most often in range and often of what is held.
-    pub fn random(rng: &mut Rng, archive: &Archive) -> Self {
-        let part = rng.between(1, 2) as u32;
-        let mut reload = Reload { user: archive.user(rng), part, definition: definition(rng) };
+    pub fn random(rng: &mut Rng, archive: &Archive, external: bool) -> Self {
+        let part = if external { 2 } else { rng.between(1, 2) as u32 };
+        let mut reload = Reload { external, user: archive.user(rng), part, definition: definition(rng) };
         match rng.below(20) {
             0 => reload.user[rng.below(2)] = rng.pick(&[1 << 24, u32::MAX, 0x100_0001]),
-            1 => reload.part = odd_word(rng),
+            1 if !external => reload.part = odd_word(rng),
             2 | 3 => damage_definition(rng, &mut reload.definition),
             _ => {}
         }
@@ -73,16 +84,40 @@ impl Reload {
         reload
     }
 
+    /// The call that it is.
+    pub fn call(&self) -> &'static str {
+        if self.external {
+            "reload_external"
+        } else {
+            "reload"
+        }
+    }
+
     /// What the reference answers.
     pub fn reference(&self, archive: &[u8], out: &mut [u8]) -> Result<usize, Refused> {
-        let Reload { user: [network, ssi], part, definition } = *self;
-        let [delivery, acknowledgement, definition_type] = definition;
-        reference::reload(archive, network, ssi, part, definition_type, delivery, acknowledgement, out)
+        let Reload { external, user: [network, ssi], part, definition } = *self;
+        let [delivery, acknowledgement, kind] = definition;
+        if external {
+            reference::reload_external(archive, network, ssi, kind, delivery, acknowledgement, out)
+        } else {
+            reference::reload(archive, network, ssi, part, kind, delivery, acknowledgement, out)
+        }
+    }
+
+    /// What the library answers.
+    pub fn library(&self, archive: &[u8], out: &mut [u8], bits: &mut usize, spot: &mut Spot) -> u32 {
+        let Reload { external, user: [network, ssi], part, definition } = *self;
+        let [delivery, acknowledgement, kind] = definition;
+        if external {
+            ffi::reload_external(archive, network, ssi, kind, delivery, acknowledgement, out, bits, spot)
+        } else {
+            ffi::reload(archive, network, ssi, part, kind, delivery, acknowledgement, out, bits, spot)
+        }
     }
 
     /// All that is out of its range.
     pub fn out_of_range(&self) -> Vec<&'static str> {
-        let Reload { user, part, definition } = self;
+        let Reload { user, part, definition, .. } = self;
         let [delivery, acknowledgement, definition_type] = *definition;
         let out = [
             user[0] >= 1 << 24,
@@ -105,13 +140,13 @@ impl Reload {
         words
     }
 
-    /// The DEFINE of that part, by way of its record, if nothing is lost.
+    /// The PDU of that part, by way of its record, if nothing is lost.
     pub fn define(&self, archive: &[u8]) -> Pdu {
         let mut words = self.held(archive);
-        words[at::PDU_TYPE] = 5;
+        words[at::PDU_TYPE] = if self.external { 7 } else { 5 };
         words[at::RESULT] = 0;
         words[at::DELIVERY_STATUS] = 0;
-        words[at::DELIVERY..].copy_from_slice(&self.definition);
+        words[at::DELIVERY..][..3].copy_from_slice(&self.definition);
         Pdu::of(&words)
     }
 
@@ -119,7 +154,7 @@ impl Reload {
     pub fn lost(&self, archive: &[u8]) -> Vec<String> {
         let [_, _, definition_type] = self.definition;
         let words = self.held(archive);
-        let lost = |place: usize| words[place] != 0 && has_no_place(place, definition_type);
+        let lost = |place: usize| words[place] != 0 && has_no_place(self.external, place, definition_type);
         let lists = LISTS.into_iter().filter(|(_, place)| lost(*place));
         lists.map(|(list, _)| loss(list, definition_type)).collect()
     }

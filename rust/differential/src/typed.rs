@@ -2,8 +2,9 @@
 //! tables below and not by that crate's own.
 
 use boc::{
-    Decision, Definition, DefinitionType, DeliveryStatus, Destination, Identity, InterrogationType, List,
-    Number, Outcome, Part, Party, PduType, Refusal, Service, Services,
+    Decision, Definition, DefinitionResult, DefinitionType, DeliveryStatus, Destination, DistributionResult,
+    Identity, InterrogationType, List, Number, Outcome, Part, Party, PduType, Refusal, RejectionCause,
+    Service, Services,
 };
 use reference::layout::{record as at, request, DIGITS, IDENTITY_WORDS, NUMBER_WORDS, PLACES, SERVICES};
 
@@ -13,8 +14,17 @@ use crate::{Record, Request};
 pub type Table<T> = [(u32, T)];
 
 /// PDU types.
-pub const PDU_TYPES: &Table<PduType> =
-    &[(5, PduType::Define), (11, PduType::Interrogate), (12, PduType::InterrogateAck)];
+pub const PDU_TYPES: &Table<PduType> = &[
+    (5, PduType::Define),
+    (6, PduType::DefineAck),
+    (7, PduType::DefineExternal),
+    (8, PduType::DefineUser),
+    (9, PduType::DefineUserAck),
+    (10, PduType::DefineExternalUser),
+    (11, PduType::Interrogate),
+    (12, PduType::InterrogateAck),
+    (13, PduType::CallBarred),
+];
 /// Interrogation types; 0 where there is none.
 pub const INTERROGATION_TYPES: &Table<InterrogationType> = &[
     (0, InterrogationType::None),
@@ -42,6 +52,29 @@ pub const DELIVERY_STATUSES: &Table<DeliveryStatus> = &[
 /// Definition types.
 pub const DEFINITION_TYPES: &Table<DefinitionType> =
     &[(0, DefinitionType::Addition), (1, DefinitionType::Replacement), (2, DefinitionType::Removal)];
+/// Definition results.
+pub const DEFINITION_RESULTS: &Table<DefinitionResult> = &[
+    (0, DefinitionResult::Failed),
+    (1, DefinitionResult::Accepted),
+    (2, DefinitionResult::Changed),
+    (3, DefinitionResult::NotAuthorized),
+    (4, DefinitionResult::UnknownIdentity),
+    (6, DefinitionResult::NotValid),
+    (7, DefinitionResult::Insufficient),
+];
+/// Distribution results.
+pub const DISTRIBUTION_RESULTS: &Table<DistributionResult> = &[
+    (0, DistributionResult::Failed),
+    (1, DistributionResult::Received),
+    (6, DistributionResult::NotValid),
+    (7, DistributionResult::Insufficient),
+];
+/// Rejection causes.
+pub const REJECTION_CAUSES: &Table<RejectionCause> = &[
+    (0, RejectionCause::OutsideGroup),
+    (1, RejectionCause::RestrictedService),
+    (2, RejectionCause::RestrictedDestination),
+];
 /// Elements of one bit.
 pub const BITS: &Table<bool> = &[(0, false), (1, true)];
 /// Services.
@@ -84,7 +117,6 @@ pub const REFUSALS: &Table<Refusal> = &[
     (7, Refusal::Archive),
     (8, Refusal::Room),
     (9, Refusal::Range),
-    (10, Refusal::OtherType),
     (11, Refusal::NotHeld),
     (12, Refusal::Loss),
 ];
@@ -119,6 +151,9 @@ pub fn typed_record(words: &Record) -> Option<boc::Record> {
         restricted_numbers: numbers(words, at::RESTRICTED_NUMBERS)?,
         excepted_numbers: numbers(words, at::EXCEPTED_NUMBERS)?,
         definition: typed_definition(&words[at::DELIVERY..])?,
+        definition_result: value(DEFINITION_RESULTS, words[at::DEFINITION_RESULT])?,
+        distribution_result: value(DISTRIBUTION_RESULTS, words[at::DISTRIBUTION_RESULT])?,
+        rejection_cause: value(REJECTION_CAUSES, words[at::REJECTION_CAUSE])?,
     })
 }
 

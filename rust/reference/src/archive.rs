@@ -1,10 +1,8 @@
 //! The archive: check, empty, capture, restore.
 
 use crate::bits::Cursor;
-use crate::pdu::{
-    frame, unused_bits_are_zero, walk, Head, Judge, IDENTITIES_PROVIDED, INTERROGATE_ACK, MAX_BITS,
-    NUMBERS_PROVIDED,
-};
+use crate::codes::{Rest, INTERROGATE_ACK};
+use crate::pdu::{frame, unused_bits_are_zero, walk, Head, Judge, MAX_BITS};
 use crate::refusal::{Refusal, Refused};
 
 /// Most bytes of an archive.
@@ -17,6 +15,9 @@ const HEADER: usize = 5;
 const LINE: usize = 9;
 /// Networks and SSIs are below this.
 pub const LIMIT: u32 = 1 << 24;
+/// The parts that are held for a user.
+pub const IDENTITY_PART: u32 = 1;
+pub const NUMBER_PART: u32 = 2;
 
 /// Network, SSI and part, as one number that orders as they do.
 #[derive(Clone, Copy, PartialEq, Eq, PartialOrd, Ord)]
@@ -25,7 +26,7 @@ pub struct Key(u64);
 impl Key {
     /// The key of a user and a part, or 9.
     pub fn asked(network: u32, ssi: u32, part: u32) -> Result<Self, Refusal> {
-        if network >= LIMIT || ssi >= LIMIT || !matches!(part, 1 | 2) {
+        if network >= LIMIT || ssi >= LIMIT || !matches!(part, IDENTITY_PART | NUMBER_PART) {
             return Err(Refusal::Range);
         }
         Ok(Key::new(network, ssi, part))
@@ -37,13 +38,16 @@ impl Key {
         Key(u64::from(network) << 32 | u64::from(ssi) << 8 | u64::from(part))
     }
 
-    /// The key under which a PDU is held, if an archive may hold it. The part's code is the result's.
+    /// The key under which a PDU is held, if an archive may hold it.
     #[inline(always)]
     fn of(head: &Head, home: u32) -> Option<Self> {
-        let fit = head.pdu_type == INTERROGATE_ACK
-            && matches!(head.result, IDENTITIES_PROVIDED | NUMBERS_PROVIDED)
-            && head.affected_code == 1;
-        fit.then(|| Key::new(head.user.network(home), head.user.ssi, head.result))
+        let part = match head.rest {
+            Rest::Identities => IDENTITY_PART,
+            Rest::Numbers => NUMBER_PART,
+            Rest::End | Rest::Services => return None,
+        };
+        let fit = head.pdu_type == INTERROGATE_ACK && head.affected_code == 1;
+        fit.then(|| Key::new(head.user.network(home), head.user.ssi, part))
     }
 
     pub fn network(self) -> u32 {
@@ -135,7 +139,7 @@ impl<'a> Archive<'a> {
         let mut last = Key(0);
         let mut rising = true;
         for line in archive.lines() {
-            rising &= last < line.key && matches!(line.key.part(), 1 | 2);
+            rising &= last < line.key && matches!(line.key.part(), IDENTITY_PART | NUMBER_PART);
             last = line.key;
             length += line.room();
         }
@@ -201,7 +205,7 @@ pub fn empty(home: u32, out: &mut [u8]) -> Result<usize, Refusal> {
 }
 
 /// Writes to `out` the archive that holds a PDU too, in place of one with the same key, and returns its
-/// length in bytes. Refuses with 7, the PDU's 1 to 5 and 10, 6, 8.
+/// length in bytes. Refuses with 7, the PDU's 1 to 5, 6, 8.
 pub fn capture(archive: &[u8], pdu: &[u8], bits: usize, out: &mut [u8]) -> Result<usize, Refused> {
     let held = Archive::check(archive)?;
     let head = walk(frame(pdu, bits)?, &mut Judge)?;

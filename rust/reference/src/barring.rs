@@ -1,6 +1,6 @@
 //! The barring rule.
 
-use crate::archive::{Archive, Key, LIMIT};
+use crate::archive::{Archive, Key, IDENTITY_PART, LIMIT, NUMBER_PART};
 use crate::layout::{request, DIGITS, REQUEST_WORDS};
 use crate::pdu::{walk, Identity, List, Number, Visitor};
 use crate::refusal::{Refusal, Refused};
@@ -176,8 +176,8 @@ pub fn decide(archive: &[u8], request: &[u32]) -> Result<Decision, Refused> {
     let request = Request::new(request)?;
     let held = Archive::check(archive)?;
     let part = match request.destination {
-        Destination::Identity(_) => 1,
-        Destination::Number(_) => 2,
+        Destination::Identity(_) => IDENTITY_PART,
+        Destination::Number(_) => NUMBER_PART,
     };
     let key = Key::new(request.user.network, request.user.ssi, part);
     let Some(cursor) = held.cursor(key) else {

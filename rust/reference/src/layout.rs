@@ -1,7 +1,7 @@
 //! The words of 32 bits in which records and requests cross the boundary.
 
 /// Words of a record.
-pub const RECORD_WORDS: usize = 517;
+pub const RECORD_WORDS: usize = 520;
 /// Words of a request.
 pub const REQUEST_WORDS: usize = 34;
 
@@ -57,7 +57,14 @@ pub mod record {
     /// Definition type.
     pub const DEFINITION_TYPE: usize = ACKNOWLEDGEMENT + 1;
 
-    const _: () = assert!(DEFINITION_TYPE + 1 == RECORD_WORDS);
+    /// Definition result.
+    pub const DEFINITION_RESULT: usize = DEFINITION_TYPE + 1;
+    /// Distribution result.
+    pub const DISTRIBUTION_RESULT: usize = DEFINITION_RESULT + 1;
+    /// Rejection cause.
+    pub const REJECTION_CAUSE: usize = DISTRIBUTION_RESULT + 1;
+
+    const _: () = assert!(REJECTION_CAUSE + 1 == RECORD_WORDS);
 }
 
 /// Where each part of a request stands.

@@ -10,11 +10,12 @@
 //! |---|---|---|
 //! | `layout` | the words of records and requests | |
 //! | `words`, `bits` | runs of words; bit cursors, several bits at a time | |
+//! | `codes` | which elements a PDU has, and their codes | "The two PDUs"; document 02, 2026-01 and 2026-06 |
 //! | `refusal` | the refusals, and where a call stopped | "Refusal numbers" |
-//! | `pdu` | the grammar of the PDUs, and reading | "The two PDUs", "Site sheet"; document 02, 2026-01 |
-//! | `write` | which records are legal, and writing | "The two PDUs", "Site sheet"; document 02, 2026-01 |
+//! | `pdu` | the grammar of the PDUs, and reading | "The two PDUs", "Site sheet" |
+//! | `write` | which records are legal, and writing | "The two PDUs", "Site sheet" |
 //! | `archive` | check, empty, capture, restore | "The archive" |
-//! | `reload` | a held part as a DEFINE | document 02, 2026-01 |
+//! | `reload` | a held part as a DEFINE or a DEFINE EXTERNAL | document 02, 2026-01 and 2026-06 |
 //! | `barring` | requests and decisions | "The barring rule" |
 //! | `contents` | the listing | "Profiles to try" |
 
@@ -25,6 +26,7 @@
 mod archive;
 mod barring;
 mod bits;
+mod codes;
 mod contents;
 pub mod layout;
 mod pdu;
@@ -38,5 +40,5 @@ pub use barring::{decide, Decision};
 pub use contents::contents;
 pub use pdu::read;
 pub use refusal::{Refusal, Refused};
-pub use reload::reload;
+pub use reload::{reload, reload_external};
 pub use write::write;

@@ -1,31 +1,16 @@
-//! The three PDUs: their grammar in one walk, and reading.
+//! The PDUs: their grammar in one walk, and reading.
 //!
 //! The walk judges every element and tells a visitor what it met. The reader's visitor fills a record, the
 //! archive check's does nothing, the decision's compares, the reload's looks which lists have entries.
 
 use crate::bits::Cursor;
+use crate::codes::{codes, has_users, is_pdu_type, Element, Rest, RANGE, SERVICE_COUNT, SS_TYPE};
 use crate::layout::{record, DIGITS, IDENTITY_WORDS, NUMBER_WORDS, RECORD_WORDS};
 use crate::refusal::{Refusal, Refused, Stop};
 use crate::words::spread;
 
 /// Most bits of a PDU.
 pub const MAX_BITS: usize = 4096;
-/// SS type of BOC: the site sheet's stand-in.
-pub const SS_TYPE: u32 = 18;
-/// PDU types that are read and written (the standard's table 23).
-pub const DEFINE: u32 = 5;
-pub const INTERROGATE: u32 = 11;
-pub const INTERROGATE_ACK: u32 = 12;
-/// Definition types (the standard's table 28).
-const ADDITION: u32 = 0;
-const REPLACEMENT: u32 = 1;
-pub const REMOVAL: u32 = 2;
-/// Interrogation results that accept, and one that does not (the standard's table 35).
-const FAILED: u32 = 0;
-pub const IDENTITIES_PROVIDED: u32 = 1;
-pub const NUMBERS_PROVIDED: u32 = 2;
-/// Range type of a first and a last entry.
-pub const RANGE: u32 = 9;
 
 /// The lists; the discriminant is the place of the list's range type in a record.
 #[derive(Clone, Copy, PartialEq, Eq)]
@@ -48,6 +33,9 @@ pub struct Identity {
 }
 
 impl Identity {
+    /// The entry of zeros.
+    const ZERO: Identity = Identity { ssi: 0, present: false, extension: 0 };
+
     /// The network that the entry means, where a missing extension means `missing`.
     #[inline(always)]
     pub fn network(self, missing: u32) -> u32 {
@@ -106,7 +94,9 @@ impl Visitor for Judge {}
 /// What decides whether and under which key an archive holds a PDU.
 pub struct Head {
     pub pdu_type: u32,
-    pub result: u32,
+    /// What follows the elements that are codes.
+    pub rest: Rest,
+    /// The range type of the affected users, zero where there are none.
     pub affected_code: u32,
     /// The first affected user.
     pub user: Identity,
@@ -135,7 +125,7 @@ fn unless(legal: bool) -> Option<Refusal> {
     (!legal).then_some(Refusal::Value)
 }
 
-/// Walks a PDU from its first element to its last: where it stops with 2, 3, 4, 5 or 10, or its head.
+/// Walks a PDU from its first element to its last: where it stops with 2, 3, 4 or 5, or its head.
 #[inline(always)]
 pub fn walk<V: Visitor>(cursor: Cursor<'_>, visitor: &mut V) -> Result<Head, Stop> {
     // A refused PDU is walked again to say where, so that no place is kept on the way through a legal one.
@@ -153,75 +143,49 @@ fn first_stop(cursor: Cursor<'_>) -> Stop {
 fn elements<V: Visitor>(mut cursor: Cursor<'_>, visitor: &mut V) -> Result<Head, Stop> {
     let cursor = &mut cursor;
     cursor.take(6, |ss_type| unless(ss_type == SS_TYPE))?;
-    let pdu_type = cursor.take(5, |pdu_type| match pdu_type {
-        DEFINE | INTERROGATE | INTERROGATE_ACK => None,
-        0..=10 | 13 => Some(Refusal::OtherType),
-        _ => Some(Refusal::Value),
-    })?;
+    let pdu_type = cursor.take(5, |pdu_type| unless(is_pdu_type(pdu_type)))?;
     visitor.element(record::PDU_TYPE, pdu_type);
-    let (affected_code, user) = identities(cursor, visitor, List::Affected)?;
-    let mut result = 0;
-    if pdu_type == INTERROGATE {
-        let interrogation_type = cursor.take(2, |code| unless(code != 0))?;
-        visitor.element(record::INTERROGATION_TYPE, interrogation_type);
-    } else {
-        let lists = if pdu_type == INTERROGATE_ACK {
-            result = cursor.take(3, |code| unless(code != 5))?;
-            visitor.element(record::RESULT, result);
-            visitor.element(record::DELIVERY_STATUS, cursor.take(2, |_| None)?);
-            result
-        } else {
-            lists_of(definition(cursor, visitor)?)
-        };
+    let (affected_code, user) =
+        if has_users(pdu_type) { identities(cursor, visitor, List::Affected)? } else { (0, Identity::ZERO) };
+    let rest = codes(
+        pdu_type,
+        #[inline(always)]
+        |element| code(cursor, visitor, element),
+    )?;
+    if rest != Rest::End {
         services(cursor, visitor)?;
-        match lists {
-            IDENTITIES_PROVIDED => {
-                identities(cursor, visitor, List::Groups)?;
-                identities(cursor, visitor, List::Restricted)?;
-                identities(cursor, visitor, List::Exceptions)?;
-            }
-            NUMBERS_PROVIDED => {
-                identities(cursor, visitor, List::Groups)?;
-                numbers(cursor, visitor, List::RestrictedNumbers)?;
-                numbers(cursor, visitor, List::ExceptedNumbers)?;
-            }
-            _ => {}
+    }
+    match rest {
+        Rest::End | Rest::Services => {}
+        Rest::Identities => {
+            identities(cursor, visitor, List::Groups)?;
+            identities(cursor, visitor, List::Restricted)?;
+            identities(cursor, visitor, List::Exceptions)?;
+        }
+        Rest::Numbers => {
+            identities(cursor, visitor, List::Groups)?;
+            numbers(cursor, visitor, List::RestrictedNumbers)?;
+            numbers(cursor, visitor, List::ExceptedNumbers)?;
         }
     }
     if cursor.left() != 0 {
         return Err(cursor.stop(0, Refusal::Left));
     }
-    Ok(Head { pdu_type, result, affected_code, user })
+    Ok(Head { pdu_type, rest, affected_code, user })
 }
 
-/// The lists of a DEFINE by its definition type, named by a result whose lists they are.
+/// An element that is a code.
 #[inline(always)]
-pub fn lists_of(definition_type: u32) -> u32 {
-    match definition_type {
-        ADDITION | REPLACEMENT => IDENTITIES_PROVIDED,
-        _ => FAILED,
-    }
-}
-
-/// What a DEFINE asks for: delivery, acknowledgement, which only a delivery lets be 1, and the definition
-/// type, which is the answer.
-#[inline(always)]
-fn definition<V: Visitor>(cursor: &mut Cursor<'_>, visitor: &mut V) -> Result<u32, Stop> {
-    let delivery = cursor.take(1, |_| None)?;
-    let acknowledgement = cursor.take(1, |asked| unless(asked <= delivery))?;
-    let definition_type = cursor.take(2, |code| unless(code <= REMOVAL))?;
-    visitor.element(record::DELIVERY, delivery);
-    visitor.element(record::ACKNOWLEDGEMENT, acknowledgement);
-    visitor.element(record::DEFINITION_TYPE, definition_type);
-    Ok(definition_type)
+fn code<V: Visitor>(cursor: &mut Cursor<'_>, visitor: &mut V, element: Element) -> Result<u32, Stop> {
+    let value = cursor.take(element.width, |value| unless(element.has(value)))?;
+    visitor.element(element.place, value);
+    Ok(value)
 }
 
 /// The number of services and the services.
 #[inline(always)]
 fn services<V: Visitor>(cursor: &mut Cursor<'_>, visitor: &mut V) -> Result<(), Stop> {
-    let count = cursor.take(3, |count| unless(count != 0))?;
-    visitor.element(record::SERVICE_COUNT, count);
-    let count = count as usize;
+    let count = code(cursor, visitor, SERVICE_COUNT)? as usize;
     let window = cursor.window();
     // Services of 4 to 7 have their first bit set.
     let refused = window & (0o4444444 << 43) & !(u64::MAX >> (3 * count));
@@ -256,7 +220,7 @@ fn identities<V: Visitor>(
 ) -> Result<(u32, Identity), Stop> {
     let range_type = *cursor;
     let code = cursor.take(4, |_| None)?;
-    let mut first = Identity { ssi: 0, present: false, extension: 0 };
+    let mut first = Identity::ZERO;
     match code {
         0 if list != List::Affected => {}
         1..=8 => {
@@ -396,8 +360,8 @@ impl Visitor for Fill {
 
 /// Reads a PDU of `bits` bits into a record of [`RECORD_WORDS`] words.
 ///
-/// Refuses with 9 (word count), 1, then element by element 2, 3, 4 and 10, and 5 last. All but 9 and 1 bring
-/// the place.
+/// Refuses with 9 (word count), 1, then element by element 2, 3 and 4, and 5 last. All but 9 and 1 bring the
+/// place.
 pub fn read(pdu: &[u8], bits: usize, record: &mut [u32]) -> Result<(), Refused> {
     let record: &mut [u32; RECORD_WORDS] = record.try_into().map_err(|_| Refusal::Range)?;
     let cursor = frame(pdu, bits)?;

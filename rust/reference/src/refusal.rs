@@ -22,16 +22,14 @@ pub enum Refusal {
     Room = 8,
     /// A request, user, part, definition, home network or word count out of its range.
     Range = 9,
-    /// A BOC PDU type that the standard defines and that is not read here.
-    OtherType = 10,
     /// Restore and reload: not held.
     NotHeld = 11,
-    /// Reload: a held list that is not empty has no place in the DEFINE.
+    /// Reload: a held list that is not empty has no place in the PDU.
     Loss = 12,
 }
 
 impl Refusal {
-    /// The scope's number, 1 to 12.
+    /// The scope's number: 1 to 9, 11 or 12.
     pub const fn number(self) -> u32 {
         self as u32
     }
@@ -49,7 +47,7 @@ pub struct Refused {
 }
 
 impl Refused {
-    /// The scope's number, 1 to 12.
+    /// The scope's number: 1 to 9, 11 or 12.
     pub const fn number(self) -> u32 {
         self.why.number()
     }

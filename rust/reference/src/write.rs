@@ -1,14 +1,14 @@
 //! Records and writing.
 
+use core::convert::Infallible;
+
 use crate::bits::Sheet;
+use crate::codes::{codes, has_users, is_pdu_type, Element, Rest, RANGE, SERVICE_COUNT, SS_TYPE};
 use crate::layout::{
     record, DIGITS, IDENTITIES_WORDS, IDENTITY_WORDS, NUMBERS_WORDS, NUMBER_WORDS, PLACES, RECORD_WORDS,
     SERVICES,
 };
-use crate::pdu::{
-    lists_of, List, DEFINE, IDENTITIES_PROVIDED, INTERROGATE, INTERROGATE_ACK, NUMBERS_PROVIDED, RANGE,
-    REMOVAL, SS_TYPE,
-};
+use crate::pdu::List;
 use crate::refusal::Refusal;
 use crate::words::{any, are_digits, pack};
 
@@ -23,8 +23,7 @@ type Record = [u32; RECORD_WORDS];
 /// and 4, and 8 last.
 pub fn write(record: &[u32], out: &mut [u8]) -> Result<usize, Refusal> {
     let record: &Record = record.try_into().map_err(|_| Refusal::Range)?;
-    let pdu_type = record[record::PDU_TYPE];
-    if !matches!(pdu_type, DEFINE | INTERROGATE | INTERROGATE_ACK) || !unused_is_zero(record) {
+    if !is_pdu_type(record[record::PDU_TYPE]) || !unused_is_zero(record) {
         return Err(Refusal::Value);
     }
     let mut sheet = Sheet::new();
@@ -36,45 +35,51 @@ pub fn write(record: &[u32], out: &mut [u8]) -> Result<usize, Refusal> {
 
 /// Does the record hold as zero all that its PDU does not carry or use?
 fn unused_is_zero(record: &Record) -> bool {
-    let own = unused_of_identities(record, List::Affected);
-    let rest = if record[record::PDU_TYPE] == INTERROGATE {
-        any(&record[record::RESULT..])
+    let pdu_type = record[record::PDU_TYPE];
+    let users = if has_users(pdu_type) {
+        unused_of_identities(record, List::Affected)
     } else {
-        let (others, lists) = lists(record);
-        let services = &record[record::FIRST_SERVICE..][..SERVICES];
-        let count = record[record::SERVICE_COUNT] as usize;
-        record[record::INTERROGATION_TYPE]
-            | others
-            | any(&services[count.min(SERVICES)..])
-            | match lists {
-                IDENTITIES_PROVIDED => {
-                    unused_of_identities(record, List::Groups)
-                        | unused_of_identities(record, List::Restricted)
-                        | unused_of_identities(record, List::Exceptions)
-                        | any(&record[record::RESTRICTED_NUMBERS..record::DELIVERY])
-                }
-                NUMBERS_PROVIDED => {
-                    unused_of_identities(record, List::Groups)
-                        | any(&record[record::RESTRICTED..record::RESTRICTED_NUMBERS])
-                        | unused_of_numbers(record, List::RestrictedNumbers)
-                        | unused_of_numbers(record, List::ExceptedNumbers)
-                }
-                _ => any(&record[record::GROUPS..record::DELIVERY]),
-            }
+        any(&record[record::AFFECTED..record::INTERROGATION_TYPE])
     };
-    own | rest == 0
+    // The sum of all codes, less those that the PDU carries.
+    let sum = |words: &[u32]| words.iter().map(|word| u64::from(*word)).sum::<u64>();
+    let mut others =
+        sum(&record[record::INTERROGATION_TYPE..record::SERVICE_COUNT]) + sum(&record[record::DELIVERY..]);
+    let Ok(rest) = codes(
+        pdu_type,
+        #[inline(always)]
+        |element| {
+            let word = record[element.place];
+            others -= u64::from(word);
+            Ok::<_, Infallible>(word)
+        },
+    );
+    let rest = match rest {
+        Rest::End => any(&record[record::SERVICE_COUNT..record::DELIVERY]),
+        Rest::Services => unused_of_services(record) | any(&record[record::GROUPS..record::DELIVERY]),
+        Rest::Identities => {
+            unused_of_services(record)
+                | unused_of_identities(record, List::Groups)
+                | unused_of_identities(record, List::Restricted)
+                | unused_of_identities(record, List::Exceptions)
+                | any(&record[record::RESTRICTED_NUMBERS..record::DELIVERY])
+        }
+        Rest::Numbers => {
+            unused_of_services(record)
+                | unused_of_identities(record, List::Groups)
+                | any(&record[record::RESTRICTED..record::RESTRICTED_NUMBERS])
+                | unused_of_numbers(record, List::RestrictedNumbers)
+                | unused_of_numbers(record, List::ExceptedNumbers)
+        }
+    };
+    others == 0 && users | rest == 0
 }
 
-/// Of a DEFINE or an INTERROGATE ACK: the elements that only the other has, joined by or, and its lists, named
-/// by a result.
+/// The unused places of carried services, joined by or.
 #[inline(always)]
-fn lists(record: &Record) -> (u32, u32) {
-    if record[record::PDU_TYPE] == DEFINE {
-        let others = any(&record[record::RESULT..record::SERVICE_COUNT]);
-        (others, lists_of(record[record::DEFINITION_TYPE]))
-    } else {
-        (any(&record[record::DELIVERY..]), record[record::RESULT])
-    }
+fn unused_of_services(record: &Record) -> u32 {
+    let services = &record[record::FIRST_SERVICE..][..SERVICES];
+    any(&services[(record[record::SERVICE_COUNT] as usize).min(SERVICES)..])
 }
 
 /// Entries that follow a range type, of whatever list; a code without a meaning has none.
@@ -110,40 +115,51 @@ fn unused_of_numbers(record: &Record, list: List) -> u32 {
 /// Puts a record whose unused places are zero, element by element: 3 or 4.
 #[inline(always)]
 fn put_pdu(sheet: &mut Sheet<SHEET_BYTES>, record: &Record) -> Result<(), Refusal> {
+    let pdu_type = record[record::PDU_TYPE];
     sheet.put(SS_TYPE.into(), 6);
-    sheet.put(record[record::PDU_TYPE].into(), 5);
-    put_identities(sheet, record, List::Affected)?;
-    if record[record::PDU_TYPE] == INTERROGATE {
-        return put(sheet, record[record::INTERROGATION_TYPE], 2, |code| matches!(code, 1..=3));
+    sheet.put(pdu_type.into(), 5);
+    if has_users(pdu_type) {
+        put_identities(sheet, record, List::Affected)?;
     }
-    let (_, lists) = lists(record);
-    if record[record::PDU_TYPE] == DEFINE {
-        let delivery = record[record::DELIVERY];
-        put(sheet, delivery, 1, |asked| asked <= 1)?;
-        put(sheet, record[record::ACKNOWLEDGEMENT], 1, |asked| asked <= delivery)?;
-        put(sheet, record[record::DEFINITION_TYPE], 2, |code| code <= REMOVAL)?;
-    } else {
-        put(sheet, record[record::RESULT], 3, |code| matches!(code, 0..=4 | 6 | 7))?;
-        put(sheet, record[record::DELIVERY_STATUS], 2, |code| code <= 3)?;
+    let rest = codes(
+        pdu_type,
+        #[inline(always)]
+        |element| put_code(sheet, record, element),
+    )?;
+    if rest != Rest::End {
+        put_services(sheet, record)?;
     }
-    let count = record[record::SERVICE_COUNT];
-    put(sheet, count, 3, |code| matches!(code, 1..=7))?;
-    for service in &record[record::FIRST_SERVICE..][..count as usize] {
-        put(sheet, *service, 3, |code| code <= 3)?;
-    }
-    match lists {
-        IDENTITIES_PROVIDED => {
+    match rest {
+        Rest::End | Rest::Services => Ok(()),
+        Rest::Identities => {
             put_identities(sheet, record, List::Groups)?;
             put_identities(sheet, record, List::Restricted)?;
             put_identities(sheet, record, List::Exceptions)
         }
-        NUMBERS_PROVIDED => {
+        Rest::Numbers => {
             put_identities(sheet, record, List::Groups)?;
             put_numbers(sheet, record, List::RestrictedNumbers)?;
             put_numbers(sheet, record, List::ExceptedNumbers)
         }
-        _ => Ok(()),
     }
+}
+
+/// Puts an element that is a code, or 3.
+#[inline(always)]
+fn put_code(sheet: &mut Sheet<SHEET_BYTES>, record: &Record, element: Element) -> Result<u32, Refusal> {
+    let value = record[element.place];
+    put(sheet, value, element.width, |value| element.has(value))?;
+    Ok(value)
+}
+
+/// Puts the number of services and the services: 3.
+#[inline(always)]
+fn put_services(sheet: &mut Sheet<SHEET_BYTES>, record: &Record) -> Result<(), Refusal> {
+    let count = put_code(sheet, record, SERVICE_COUNT)? as usize;
+    for service in &record[record::FIRST_SERVICE..][..count] {
+        put(sheet, *service, 3, |code| code <= 3)?;
+    }
+    Ok(())
 }
 
 /// Puts one element, or 3.

@@ -213,6 +213,9 @@ fn what_is_not_carried_is_zero() {
         record::RESTRICTED_NUMBERS,
         record::EXCEPTED_NUMBERS,
         record::DELIVERY - 1,
+        record::DEFINITION_RESULT,
+        record::DISTRIBUTION_RESULT,
+        record::REJECTION_CAUSE,
     ];
     for definition_type in [ADDITION, REPLACEMENT] {
         stray(define_a(definition_type), &of_others);
@@ -233,12 +236,15 @@ fn what_is_not_carried_is_zero() {
     interrogate[record::INTERROGATION_TYPE] = 1;
     for words in [interrogate, part(0, 1), part(1, 1), part(2, 1)] {
         stray(words, &[record::DELIVERY, record::ACKNOWLEDGEMENT, record::DEFINITION_TYPE]);
+        stray(words, &[record::DEFINITION_RESULT, record::DISTRIBUTION_RESULT, record::REJECTION_CAUSE]);
     }
     // PDU types that are not written.
-    for pdu_type in (0..5).chain(6..11).chain(13..40) {
+    for pdu_type in (0..5).chain(14..40) {
         assert_eq!(refused(&with(define_a(ADDITION), &[(record::PDU_TYPE, pdu_type)])), Refusal::Value);
     }
-    assert_eq!(write(&define_a(ADDITION)[..514], &mut [0; 20]), Err(Refusal::Range));
+    for count in [514, 517, 519] {
+        assert_eq!(write(&define_a(ADDITION)[..count], &mut [0; 20]), Err(Refusal::Range));
+    }
 }
 
 #[test]

@@ -1,7 +1,7 @@
 //! Where a call stops (document 02, request 2026-03): the bit place in a PDU, the entry of an archive.
 
 use reference::layout::{RECORD_WORDS, REQUEST_WORDS};
-use reference::{capture, contents, decide, read, reload, restore, Refusal, Refused};
+use reference::{capture, contents, decide, read, reload, reload_external, restore, Refusal, Refused};
 
 /// A PDU by its elements, each with its width and value.
 type Elements = Vec<(usize, u32)>;
@@ -50,9 +50,55 @@ fn replacement() -> Elements {
     elements
 }
 
+/// A DEFINE EXTERNAL for user 5 that replaces all services, with number 12 restricted and + excepted.
+fn external() -> Elements {
+    let mut elements = vec![(6, 18), (5, 7), (4, 1), (24, 5), (1, 0), (1, 1), (1, 0), (2, 1), (3, 1), (3, 0)];
+    elements.extend([(4, 1), (24, 500), (1, 0)]);
+    elements.extend([(4, 1), (5, 2), (4, 1), (4, 2)]);
+    elements.extend([(4, 1), (5, 1), (4, 12)]);
+    elements
+}
+
+/// A DEFINE USER or DEFINE EXTERNAL USER that adds service 3, with 100 to 199 restricted and 150 of network 2
+/// excepted.
+fn user_definition(pdu_type: u32) -> Elements {
+    let mut elements = vec![(6, 18), (5, pdu_type), (1, 1), (2, 0), (3, 1), (3, 3)];
+    elements.extend([(4, 0)]);
+    elements.extend([(4, 9), (24, 100), (1, 0), (24, 199), (1, 0)]);
+    elements.extend([(4, 1), (24, 150), (1, 1), (24, 2)]);
+    elements
+}
+
+/// A DEFINE ACK for users 5 and 6.
+fn define_ack() -> Elements {
+    vec![(6, 18), (5, 6), (4, 2), (24, 5), (1, 1), (24, 2), (24, 6), (1, 0), (3, 1)]
+}
+
+/// A DEFINE USER ACK.
+fn define_user_ack() -> Elements {
+    vec![(6, 18), (5, 9), (3, 6)]
+}
+
+/// A CALL BARRED.
+fn call_barred() -> Elements {
+    vec![(6, 18), (5, 13), (2, 2)]
+}
+
 /// A PDU of each form.
-fn each() -> [Elements; 5] {
-    [profile_a(), number_part(), interrogate(), replacement(), definition(2)]
+fn each() -> [Elements; 11] {
+    [
+        profile_a(),
+        number_part(),
+        interrogate(),
+        replacement(),
+        definition(2),
+        external(),
+        user_definition(8),
+        user_definition(10),
+        define_ack(),
+        define_user_ack(),
+        call_barred(),
+    ]
 }
 
 /// With another value of an element.
@@ -124,10 +170,7 @@ fn a_refused_value_stops_at_its_element() {
     for (index, value) in [(14, 9), (15, 0), (15, 25), (16, 13), (17, 15), (18, 31), (20, 14), (21, 10)] {
         stops(with(number_part(), index, value), Refusal::Value, index);
     }
-    for pdu_type in (0..=4).chain(6..=10).chain([13]) {
-        stops(with(interrogate(), 1, pdu_type), Refusal::OtherType, 1);
-    }
-    for pdu_type in 14..=31 {
+    for pdu_type in (0..=4).chain(14..=31) {
         stops(with(interrogate(), 1, pdu_type), Refusal::Value, 1);
     }
     // A DEFINE: range types, definition type, services. Without delivery it is the acknowledgement.
@@ -136,6 +179,22 @@ fn a_refused_value_stops_at_its_element() {
     }
     stops(with(replacement(), 5, 0), Refusal::Value, 6);
     stops(with(with(definition(2), 5, 0), 7, 3), Refusal::Value, 6);
+    // A DEFINE EXTERNAL: definition type, services, range types, a length, a digit; the acknowledgement.
+    for (index, value) in [(2, 0), (7, 3), (8, 0), (9, 4), (10, 10), (13, 9), (14, 25), (15, 13), (17, 9)] {
+        stops(with(external(), index, value), Refusal::Value, index);
+    }
+    stops(with(with(external(), 5, 0), 6, 1), Refusal::Value, 6);
+    for pdu_type in [8, 10] {
+        for (index, value) in [(3, 3), (4, 0), (5, 4), (6, 10), (7, 15), (12, 10)] {
+            stops(with(user_definition(pdu_type), index, value), Refusal::Value, index);
+        }
+    }
+    stops(with(define_ack(), 2, 0), Refusal::Value, 2);
+    stops(with(define_ack(), 8, 5), Refusal::Value, 8);
+    for reserved in 2..=5 {
+        stops(with(define_user_ack(), 2, reserved), Refusal::Value, 2);
+    }
+    stops(with(call_barred(), 2, 3), Refusal::Value, 2);
 }
 
 #[test]
@@ -148,6 +207,8 @@ fn ends_stop_at_the_ssi_of_the_second() {
     stops(with(interrogate(), 3, 7), Refusal::Ends, 6);
     stops(with(interrogate(), 8, 3), Refusal::Ends, 6);
     stops(with(replacement(), 16, 201), Refusal::Ends, 18);
+    stops(with(user_definition(8), 8, 201), Refusal::Ends, 10);
+    stops(with(user_definition(10), 8, 201), Refusal::Ends, 10);
 }
 
 #[test]
@@ -161,6 +222,9 @@ fn bits_left_stop_at_the_first_of_them() {
     }
     // A removal has no lists.
     stops(with(replacement(), 7, 2), Refusal::Left, 11);
+    stops(with(external(), 7, 2), Refusal::Left, 10);
+    stops(with(user_definition(8), 3, 2), Refusal::Left, 6);
+    stops(with(user_definition(10), 3, 2), Refusal::Left, 6);
 }
 
 #[test]
@@ -217,6 +281,7 @@ fn breaks(archive: &[u8], entry: Option<usize>, place: Option<usize>) {
     assert_eq!(capture(archive, &[], 0, out), Err(expected));
     assert_eq!(restore(archive, 1, 5, 1, out), Err(expected));
     assert_eq!(reload(archive, 1, 5, 1, 1, 0, 0, out), Err(expected));
+    assert_eq!(reload_external(archive, 1, 5, 1, 0, 0, out), Err(expected));
     assert_eq!(decide(archive, &request), Err(expected));
     assert_eq!(contents(archive, out), Err(expected));
 }
@@ -282,6 +347,10 @@ fn a_body_whose_refusal_has_no_place_has_its_entry_alone() {
     let for_one = vec![(6, 18), (5, 11), (4, 1), (24, 5), (1, 0), (2, 1)];
     breaks(&replace(0, for_one), Some(0), None);
     breaks(&replace(0, replacement()), Some(0), None);
+    breaks(&replace(0, external()), Some(0), None);
+    breaks(&replace(1, external()), Some(1), None);
+    breaks(&replace(0, user_definition(8)), Some(0), None);
+    breaks(&replace(0, call_barred()), Some(0), None);
     breaks(&replace(0, acknowledge(3)), Some(0), None);
     let mut for_two = with(profile_a(), 2, 2);
     for_two.splice(3..3, [(24, 5), (1, 0)]);
@@ -307,7 +376,7 @@ fn a_body_whose_refusal_has_a_place_has_that_too() {
     breaks(&replace(1, with(number_part(), 17, 13)), Some(1), Some(place_of(&number_part(), 17)));
     breaks(&replace(0, with(profile_a(), 12, 201)), Some(0), Some(place_of(&profile_a(), 14)));
     breaks(&replace(2, [profile_a(), vec![(9, 0)]].concat()), Some(2), Some(141));
-    breaks(&replace(3, with(number_part(), 1, 6)), Some(3), Some(6));
+    breaks(&replace(3, with(number_part(), 1, 4)), Some(3), Some(6));
 }
 
 #[test]
@@ -327,7 +396,7 @@ fn capture_hands_the_place_on() {
     for (elements, why, index) in [
         (with(profile_a(), 9, 4), Refusal::Value, 9),
         (with(profile_a(), 12, 201), Refusal::Ends, 14),
-        (with(profile_a(), 1, 13), Refusal::OtherType, 1),
+        (with(profile_a(), 1, 14), Refusal::Value, 1),
         ([profile_a(), vec![(1, 1)]].concat(), Refusal::Left, 19),
         (profile_a()[..18].to_vec(), Refusal::Short, 18),
         (with(replacement(), 5, 0), Refusal::Value, 6),
@@ -343,4 +412,6 @@ fn capture_hands_the_place_on() {
     assert_eq!(restore(&held, 1, 7, 1, out), Err(refused(Refusal::NotHeld, None, None)));
     assert_eq!(reload(&held, 1, 7, 1, 1, 0, 0, out), Err(refused(Refusal::NotHeld, None, None)));
     assert_eq!(reload(&held, 1, 5, 2, 1, 0, 0, out), Err(refused(Refusal::Loss, None, None)));
+    assert_eq!(reload_external(&held, 1, 7, 1, 0, 0, out), Err(refused(Refusal::NotHeld, None, None)));
+    assert_eq!(reload_external(&held, 1, 5, 2, 0, 0, out), Err(refused(Refusal::Loss, None, None)));
 }

@@ -254,7 +254,7 @@ fn orders_of_refusals() {
     assert_eq!(why(read(&[0; 513], 4097, &mut words)), Err(Refusal::Frame));
     assert_eq!(why(read(&A, usize::MAX, &mut words)), Err(Refusal::Frame));
     assert_eq!(why(read(&A, 144, &mut words)), Err(Refusal::Left));
-    assert_eq!(why(read(&[0x48, 0x40], 11, &mut words)), Err(Refusal::OtherType));
+    assert_eq!(why(read(&[0x48, 0x40], 11, &mut words)), Err(Refusal::Value));
     assert_eq!(why(read(&[0x49, 0xc0], 11, &mut words)), Err(Refusal::Value));
     assert_eq!(why(read(&[0x49, 0x80], 11, &mut words)), Err(Refusal::Short));
     assert_eq!(why(read(&A, 138, &mut words[1..])), Err(Refusal::Range));

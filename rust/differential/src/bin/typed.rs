@@ -22,17 +22,20 @@ type Kind = (&'static str, fn(&mut Cases, &mut Rng));
 const KINDS: [Kind; 3] = [("reading", reads), ("writing", writes), ("archives", archives)];
 
 /// The elements of records that are codes, and the numbers that each can have.
-fn elements() -> [(&'static str, Vec<u32>); 9] {
+fn elements() -> [(&'static str, Vec<u32>); 12] {
     [
         ("PDU type", numbers(PDU_TYPES)),
         ("interrogation type", numbers(INTERROGATION_TYPES)),
-        ("outcome", numbers(OUTCOMES)),
+        ("result", numbers(OUTCOMES)),
         ("delivery status", numbers(DELIVERY_STATUSES)),
         ("service", numbers(SERVICE_CODES)),
         ("digit", numbers(DIGIT_CODES)),
         ("delivery", numbers(BITS)),
         ("acknowledgement", numbers(BITS)),
         ("definition type", numbers(DEFINITION_TYPES)),
+        ("definition result", numbers(DEFINITION_RESULTS)),
+        ("distribution result", numbers(DISTRIBUTION_RESULTS)),
+        ("rejection cause", numbers(REJECTION_CAUSES)),
     ]
 }
 
@@ -46,13 +49,8 @@ fn carried(words: &Record) -> BTreeSet<(&'static str, u32)> {
         ("PDU type", words[at::PDU_TYPE]),
         ("interrogation type", words[at::INTERROGATION_TYPE]),
     ]);
-    if words[at::PDU_TYPE] == 12 {
-        codes.insert(("outcome", words[at::RESULT]));
-        codes.insert(("delivery status", words[at::DELIVERY_STATUS]));
-    }
-    if words[at::PDU_TYPE] == 5 {
-        codes.extend(defined(&words[at::DELIVERY..]));
-    }
+    let form = Form::of(words[at::PDU_TYPE]).expect("it is a PDU type");
+    codes.extend(form.codes.iter().map(|code| (code.name(), words[code.word])));
     let services = &words[at::FIRST_SERVICE..][..SERVICES];
     codes.extend(services[..words[at::SERVICE_COUNT] as usize].iter().map(|word| ("service", *word)));
     for list in [at::RESTRICTED_NUMBERS, at::EXCEPTED_NUMBERS] {
@@ -85,9 +83,11 @@ fn expected() -> Met {
     }
     met.expect("restore, part", numbers(PARTS));
     met.expect("reload, part", numbers(PARTS));
-    met.expect("reload, delivery", numbers(BITS));
-    met.expect("reload, acknowledgement", numbers(BITS));
-    met.expect("reload, definition type", numbers(DEFINITION_TYPES));
+    for call in ["reload", "reload_external"] {
+        met.expect(&format!("{call}, delivery"), numbers(BITS));
+        met.expect(&format!("{call}, acknowledgement"), numbers(BITS));
+        met.expect(&format!("{call}, definition type"), numbers(DEFINITION_TYPES));
+    }
     met.expect("decide, service", [1, 2, 3]);
     met.expect("decide, destination", [1, 2]);
     met.expect("decide, digit", numbers(DIGIT_CODES));
@@ -206,27 +206,38 @@ fn archives(cases: &mut Cases, rng: &mut Rng) {
     if restored.is_some() {
         cases.met.meet("restore, part", number);
     }
-    let reload = Reload::random(rng, &archive);
-    reloads(cases, rng, &held, &reload);
+    for external in [false, true] {
+        let reload = Reload::random(rng, &archive, external);
+        reloads(cases, rng, &held, &reload);
+    }
     let user = archive.user(rng);
     decides(cases, rng, &held, user);
 }
 
 fn reloads(cases: &mut Cases, rng: &mut Rng, held: &[u8], reload: &Reload) {
-    let Reload { user: [network, ssi], part: number, definition: words } = *reload;
+    let Reload { external, user: [network, ssi], part: number, definition: words } = *reload;
     let (Some(part), Some(definition)) = (value(PARTS, number), typed_definition(&words)) else {
         return;
     };
+    let user = boc::Party { network, ssi };
     let reloaded = cases.compare(
         rng,
         boc::PDU_BYTES,
-        |out| boc::reload(held, boc::Party { network, ssi }, part, definition, out),
+        |out| {
+            if external {
+                boc::reload_external(held, user, definition, out)
+            } else {
+                boc::reload(held, user, part, definition, out)
+            }
+        },
         |out| reload.reference(held, out),
     );
     if reloaded.is_some() {
-        cases.met.meet("reload, part", number);
+        if !external {
+            cases.met.meet("reload, part", number);
+        }
         for (element, number) in defined(&words) {
-            cases.met.meet(&format!("reload, {element}"), number);
+            cases.met.meet(&format!("{}, {element}", reload.call()), number);
         }
     }
 }
@@ -245,7 +256,7 @@ fn decides(cases: &mut Cases, rng: &mut Rng, held: &[u8], user: [u32; 2]) {
     let decided = expected.map(|number| value(DECISIONS, number).expect("it is a decision"));
     assert_eq!(boc::decide(held, &request), decided, "{:?}", cases.case);
     if let (Ok(number), Ok(decision)) = (expected, decided) {
-        assert_eq!(decision.cause(), (number < 3).then_some(number), "{:?}", cases.case);
+        assert_eq!(decision.cause(), value(REJECTION_CAUSES, number), "{:?}", cases.case);
         cases.met.meet("decide, decision", number);
         cases.met.meet("decide, service", words[asked::SERVICE]);
         cases.met.meet("decide, destination", words[asked::KIND]);

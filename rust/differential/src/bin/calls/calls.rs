@@ -1,28 +1,29 @@
-//! The eight calls, each on both sides.
+//! The nine calls, each on both sides.
 
 use std::fmt::Debug;
 
 use boc::ffi::{Spot, NOWHERE};
 use differential::*;
-use reference::layout::{request as at, REQUEST_WORDS};
+use reference::layout::{record, request as at, REQUEST_WORDS};
 use reference::{Refusal, Refused};
 
 use crate::lent::{bytes, words, Lent, MARGIN};
 
 /// The calls, and the answers that each can give: 0 or a refusal number.
-const CALLS: [(&str, &[u32]); 8] = [
-    ("read", &[0, 1, 2, 3, 4, 5, 9, 10]),
+const CALLS: [(&str, &[u32]); 9] = [
+    ("read", &[0, 1, 2, 3, 4, 5, 9]),
     ("write", &[0, 3, 4, 8, 9]),
     ("empty", &[0, 8, 9]),
-    ("capture", &[0, 1, 2, 3, 4, 5, 6, 7, 8, 10]),
+    ("capture", &[0, 1, 2, 3, 4, 5, 6, 7, 8]),
     ("restore", &[0, 7, 8, 9, 11]),
     ("reload", &[0, 7, 8, 9, 11, 12]),
+    ("reload_external", &[0, 7, 8, 9, 11, 12]),
     ("decide", &[0, 7, 9]),
     ("contents", &[0, 7, 8]),
 ];
 
 /// The refusals of a PDU that have a place.
-const PLACED: [u32; 5] = [2, 3, 4, 5, 10];
+const PLACED: [u32; 4] = [2, 3, 4, 5];
 
 /// What a visitor's own network tells apart from the home network.
 const TELLS: [&str; 2] = ["destination", "group"];
@@ -64,7 +65,7 @@ pub struct Calls {
 
 impl Calls {
     /// Nothing met yet of all that has to be: each answer and decision, a visitor's too, each refusal of a
-    /// PDU that has a place, each definition type and each refused element of a DEFINE, each definition type
+    /// PDU that has a place, each value of each code of each PDU and each reserved one, each definition type
     /// of a reload for each part, 7 for each damage and for each fault, 6, 8, 9 and 12 for each reason.
     pub fn new() -> Self {
         let mut met = Met::default();
@@ -73,18 +74,26 @@ impl Calls {
         }
         met.expect("read, with a place", PLACED);
         met.expect("capture, with a place", PLACED);
-        met.expect("read, DEFINE", DEFINITIONS.iter().chain(&ELEMENTS[..2]));
-        met.expect("write, DEFINE", DEFINITIONS.iter().chain(&ELEMENTS));
+        for call in ["read", "write"] {
+            for form in &FORMS {
+                met.expect(&format!("{call}, {}", form.name), form.values());
+                met.expect(&format!("{call}, {}, 3", form.name), form.reserved());
+            }
+            met.expect(&format!("{call}, 3 for the PDU type"), reserved_types());
+        }
         met.expect("decide, decision", 0..5);
         met.expect("decide, visitor's", 0..5);
         met.expect("decide, visitor's own network", TELLS);
-        met.expect("capture, 6", UNFIT);
+        met.expect("capture, 6", all_unfit());
         met.expect("capture, 8", LACKS);
         for part in [1, 2] {
             met.expect(&format!("reload, part {part}"), DEFINITIONS);
         }
-        met.expect("reload, 9", OUT_OF_RANGE);
-        met.expect("reload, 12", losses());
+        met.expect("reload_external, part 2", DEFINITIONS);
+        for (call, external) in [("reload", false), ("reload_external", true)] {
+            met.expect(&format!("{call}, 9"), all_out_of_range(external));
+            met.expect(&format!("{call}, 12"), losses(external));
+        }
         for (call, answers) in CALLS {
             if answers.contains(&7) {
                 met.expect(&format!("{call}, 7"), DAMAGES);
@@ -148,7 +157,15 @@ impl Calls {
         }
     }
 
-    pub fn read(&mut self, rng: &mut Rng, pdu: &Pdu, record_words: usize) {
+    /// Counts the codes of a record that was read or written.
+    fn codes(&mut self, call: &str, words: &Record) {
+        let form = Form::of(words[record::PDU_TYPE]).expect("it is a PDU type");
+        for value in form.values_of(words) {
+            self.met.meet(&format!("{call}, {}", form.name), value);
+        }
+    }
+
+    pub fn read(&mut self, rng: &mut Rng, pdu: &Pdu, record_words: usize) -> Result<(), Refused> {
         let mut lent = words(rng, record_words);
         let before = Behind { number: (), spot: Spot { place: rng.draw() as usize, ..Spot::NONE } };
         let mut after = before;
@@ -156,21 +173,23 @@ impl Calls {
         let expected = reference::read(&pdu.bytes, pdu.bits, lent.reference());
         self.compare("read", (library, after), before, expected, &lent);
         self.count("read", &[], expected);
-        if let Some(what) = define_read(pdu, expected) {
-            self.met.meet("read, DEFINE", what);
+        if expected.is_ok() {
+            self.codes("read", lent.reference().first_chunk().expect("it is a record"));
         }
+        expected
     }
 
-    pub fn write(&mut self, rng: &mut Rng, record: &[u32], room: usize) {
+    pub fn write(&mut self, rng: &mut Rng, record: &[u32], room: usize) -> Result<usize, Refusal> {
         let mut lent = bytes(rng, room);
         let before = Behind::without_spot(rng);
         let mut after = before;
         let library = boc::ffi::write(record, lent.library(), &mut after.number);
         let expected = reference::write(record, lent.reference());
         self.compare("write", (library, after), before, expected.map_err(Refused::from), &lent);
-        if let Some(what) = define_written(record, expected) {
-            self.met.meet("write, DEFINE", what);
+        if expected.is_ok() {
+            self.codes("write", record.first_chunk().expect("it is a record"));
         }
+        expected
     }
 
     pub fn empty(&mut self, rng: &mut Rng, home: u32, room: usize) {
@@ -250,37 +269,27 @@ impl Calls {
         self.reload(rng, archive, reload, room);
     }
 
-    /// The DEFINE is also held to the record of the part, since the reference copies bits.
+    /// The PDU is also held to the record of the part, since the reference copies bits.
     pub fn reload(&mut self, rng: &mut Rng, archive: &[u8], reload: &Reload, room: usize) {
+        let call = reload.call();
         let mut lent = bytes(rng, room);
         let before = Behind::random(rng);
         let mut after = before;
-        let Reload { user: [network, ssi], part, definition } = *reload;
-        let [delivery, acknowledgement, definition_type] = definition;
-        let library = boc::ffi::reload(
-            archive,
-            network,
-            ssi,
-            part,
-            definition_type,
-            delivery,
-            acknowledgement,
-            lent.library(),
-            &mut after.number,
-            &mut after.spot,
-        );
+        let library = reload.library(archive, lent.library(), &mut after.number, &mut after.spot);
         let expected = reload.reference(archive, lent.reference());
-        self.compare("reload", (library, after), before, expected, &lent);
-        self.count("reload", archive, expected);
+        self.compare(call, (library, after), before, expected, &lent);
+        self.count(call, archive, expected);
         match expected.map_err(|refused| refused.why) {
             Ok(bits) => {
                 let define = reload.define(archive);
                 let written = &lent.reference()[..bits.div_ceil(8)];
-                assert!((bits, written) == (define.bits, &define.bytes), "{:?}: another DEFINE", self.case);
-                self.met.meet(&format!("reload, part {part}"), DEFINITIONS[definition_type as usize]);
+                assert!((bits, written) == (define.bits, &define.bytes), "{:?}: another PDU", self.case);
+                let [_, _, definition_type] = reload.definition;
+                let definition = DEFINITIONS[definition_type as usize];
+                self.met.meet(&format!("{call}, part {}", reload.part), definition);
             }
-            Err(Refusal::Range) => self.reason("reload, 9", &reload.out_of_range()),
-            Err(Refusal::Loss) => self.reason("reload, 12", &reload.lost(archive)),
+            Err(Refusal::Range) => self.reason(&format!("{call}, 9"), &reload.out_of_range()),
+            Err(Refusal::Loss) => self.reason(&format!("{call}, 12"), &reload.lost(archive)),
             Err(_) => {}
         }
     }
@@ -359,8 +368,10 @@ impl Calls {
             _ => {}
         }
         self.restore_any_room(rng, bytes, user, part);
-        let reload = Reload::random(rng, archive);
-        self.reload_any_room(rng, bytes, &reload);
+        for external in [false, true] {
+            let reload = Reload::random(rng, archive, external);
+            self.reload_any_room(rng, bytes, &reload);
+        }
         for _ in 0..2 {
             let user = archive.user(rng);
             let mut words = request(rng, user);

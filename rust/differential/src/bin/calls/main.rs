@@ -1,11 +1,11 @@
-//! Compares the eight calls of the library with the reference: `calls [SEED]`.
+//! Compares the nine calls of the library with the reference: `calls [SEED]`.
 //!
 //! Each case lends both sides equal buffers of random content and compares the answers, every byte or word of
 //! every buffer, margins before and after what was lent, and the numbers behind the last pointers: a length
 //! or a decision, and where a refused call stopped. It ends with how often each answer of each call was met,
-//! each refusal of a PDU that has a place, each definition type and each refused element of a DEFINE, 7 for
+//! each refusal of a PDU that has a place, each value of each code of each PDU and each reserved one, 7 for
 //! each damage to an archive and for each fault in one, 6 and 8 for each reason that capture can have, a
-//! reload of each part under each definition type, 9 and 12 for each reason that reload can have, each
+//! reload of each part under each definition type, 9 and 12 for each reason that either reload can have, each
 //! decision for a visitor from another network, and a visitor's call that is decided otherwise with the home
 //! network for the visitor's own; one that was never met is a failure too.
 
@@ -18,13 +18,17 @@ use reference::layout::RECORD_WORDS;
 
 mod calls;
 mod lent;
+mod values;
 
 use calls::Calls;
 
 /// A kind of cases, how many there are, and what one does.
 type Kind = (&'static str, u64, fn(&mut Calls, &mut Rng));
 
-const KINDS: [Kind; 8] = [
+/// How many records of each PDU type are tried with each value of each element.
+const SAMPLES: u64 = 30;
+
+const KINDS: [Kind; 9] = [
     ("PDUs", 400_000, pdus),
     ("records", 300_000, records),
     ("empty archives", 5_000, empties),
@@ -32,6 +36,7 @@ const KINDS: [Kind; 8] = [
     ("large archives", 2_000, large_archives),
     ("histories", 600, histories),
     ("changed PDUs", 60, changed_pdus),
+    ("changed elements", SAMPLES * FORMS.len() as u64, changed_elements),
     ("changed archives", 2, changed_archives),
 ];
 
@@ -40,8 +45,8 @@ fn pdus(calls: &mut Calls, rng: &mut Rng) {
     if !rng.one_in(4) {
         pdu.damage(rng);
     }
-    let length = if rng.one_in(40) { rng.pick(&[0, 1, 514, 516, 518, 600]) } else { RECORD_WORDS };
-    calls.read(rng, &pdu, length);
+    let length = if rng.one_in(40) { rng.pick(&[0, 1, 514, 517, 519, 521, 600]) } else { RECORD_WORDS };
+    let _ = calls.read(rng, &pdu, length);
 }
 
 fn records(calls: &mut Calls, rng: &mut Rng) {
@@ -51,14 +56,11 @@ fn records(calls: &mut Calls, rng: &mut Rng) {
         damage_record(rng, &mut words);
     }
     let room = room(rng, needed);
-    if rng.one_in(40) {
-        let length = rng.pick(&[0, 1, 514, 516]);
-        return calls.write(rng, &words[..length], room);
+    let mut given = words.to_vec();
+    if rng.one_in(20) {
+        given.resize(rng.pick(&[0, 1, 514, 517, 519, 521]), 0);
     }
-    if rng.one_in(40) {
-        return calls.write(rng, &[&words[..], &[0]].concat(), room);
-    }
-    calls.write(rng, &words, room);
+    let _ = calls.write(rng, &given, room);
 }
 
 fn empties(calls: &mut Calls, rng: &mut Rng) {
@@ -114,7 +116,10 @@ fn histories(calls: &mut Calls, rng: &mut Rng) {
         for part in [1, 2] {
             calls.restore_any_room(rng, &held, user, part);
             let definition = definition(rng);
-            calls.reload_any_room(rng, &held, &Reload { user, part, definition });
+            for external in [false, true] {
+                let part = if external { 2 } else { part };
+                calls.reload_any_room(rng, &held, &Reload { external, user, part, definition });
+            }
         }
         let words = request(rng, user);
         calls.decide(rng, &held, &words);
@@ -122,15 +127,15 @@ fn histories(calls: &mut Calls, rng: &mut Rng) {
     calls.contents_any_room(rng, &held);
 }
 
-/// A PDU cut at each of its bits, and with each of its bits flipped, read and captured: the longest parts,
-/// for eight users and for one, the longest DEFINE, and any PDUs.
+/// A PDU cut at each of its bits, and with each of its bits flipped, read and captured: the longest of each
+/// type, the longest parts for one user, and any PDUs.
 fn changed_pdus(calls: &mut Calls, rng: &mut Rng) {
     let (home, user) = (1, [1, 5]);
-    let (_, _, case) = calls.case;
-    let words = match case {
-        0 | 1 => longest(rng, 1 + case as u32),
-        2 | 3 => part(rng, home, user, case as u32 - 1, Size::Full),
-        4 => longest_define(rng),
+    let words = match calls.case.2 {
+        form @ 0..9 => record_of(rng, FORMS[form as usize].number, Size::Full),
+        9 => longest_part(rng, 1),
+        10 => part(rng, home, user, 1, Size::Full),
+        11 => part(rng, home, user, 2, Size::Full),
         _ => record(rng),
     };
     let pdu = Pdu::of(&words);
@@ -140,9 +145,17 @@ fn changed_pdus(calls: &mut Calls, rng: &mut Rng) {
     let flipped = (0..pdu.bits).map(|place| pdu.flipped(place));
     for (change, pdu) in cut.chain(flipped).enumerate() {
         calls.change = change;
-        calls.read(rng, &pdu, RECORD_WORDS);
+        let _ = calls.read(rng, &pdu, RECORD_WORDS);
         calls.capture(rng, &held, &pdu, room);
     }
+}
+
+/// A PDU of each type, the longest and any, with each value of each of its elements.
+fn changed_elements(calls: &mut Calls, rng: &mut Rng) {
+    let (_, _, case) = calls.case;
+    let size = if case < FORMS.len() as u64 { Size::Full } else { Size::Any };
+    let words = record_of(rng, FORMS[case as usize % FORMS.len()].number, size);
+    calls.each_value(rng, &words);
 }
 
 /// An archive of 512 entries cut at each of its bytes, and with bits flipped: with the smallest bodies each
@@ -158,7 +171,12 @@ fn changed_archives(calls: &mut Calls, rng: &mut Rng) {
     let whole = archive.bytes();
     let last = archive.entries.last().expect("it has entries");
     let words = request(rng, last.user);
-    let reload = Reload { user: last.user, part: last.part, definition: [1, 1, 1] };
+    let [as_define, as_external] = [(false, last.part), (true, 2)].map(|(external, part)| Reload {
+        external,
+        user: last.user,
+        part,
+        definition: [1, 1, 1],
+    });
     let mut try_calls = |calls: &mut Calls, bytes: &[u8], damage: &'static str| {
         calls.change += 1;
         calls.damage = Some(damage);
@@ -166,7 +184,8 @@ fn changed_archives(calls: &mut Calls, rng: &mut Rng) {
         if case == 0 {
             calls.capture(rng, bytes, &last.pdu, whole.len());
             calls.restore(rng, bytes, last.user, last.part, 100);
-            calls.reload(rng, bytes, &reload, 100);
+            calls.reload(rng, bytes, &as_define, 100);
+            calls.reload(rng, bytes, &as_external, 100);
             calls.decide(rng, bytes, &words);
         }
     };
@@ -196,7 +215,7 @@ fn main() -> ExitCode {
             calls.case = (seed, kind, case);
             calls.change = 0;
             calls.damage = None;
-            run(&mut calls, &mut Rng::new(seed, case << 3 | number));
+            run(&mut calls, &mut Rng::new(seed, case << 4 | number));
         }
     }
     if calls.met.report() {

@@ -46,6 +46,12 @@ impl Held {
                 format!("put {count}")
             }
             Some('l') => format!("was {}", std::mem::replace(&mut self.length, words.length())),
+            Some('r') if line.starts_with("reload_external") => {
+                let [network, ssi, definition, delivery, acknowledgement] = words.numbers();
+                self.give(words.length(), |held, out| {
+                    reference::reload_external(held, network, ssi, definition, delivery, acknowledgement, out)
+                })
+            }
             Some('r') if line.starts_with("reload") => {
                 let [network, ssi, part, definition, delivery, acknowledgement] = words.numbers();
                 self.give(words.length(), |held, out| {
