@@ -8,5 +8,6 @@ pub mod Visitors
 pub mod Reload
 pub mod Words
 pub mod Calls
+pub mod Retired
 pub mod Sequences
 pub mod Determined

@@ -25,9 +25,9 @@ use Rattle.barring.specs.Decide.{partFor, decideIs}
 use Rattle.barring.specs.declared.Decision.{Decision}
 use Rattle.boc.specs.Calls.{nowhere, readNumber, readPlace, writeNumber, writeBits, emptyNumber, emptyLength}
 use Rattle.boc.specs.Calls.{storedNumber, storedLength, storedEntry, storedPlace, captureAnswer, contentsAnswer}
-use Rattle.reload.specs.Define.{isDefinition, defineOf, stands}
+use Rattle.reload.specs.Define.{isDefinition, defineOf, standsIn}
 use Rattle.reload.specs.Reload.{reloadIs}
-use Rattle.boc.specs.Calls.{restoredNumber, restoredLength, restoredEntry, restoredPlace, restoreAnswer, reloadAnswer}
+use Rattle.boc.specs.Calls.{restoredNumber, restoredLength, restoredEntry, restoredPlace, restoreAnswer, reloadAnswer, externalAnswer}
 use Rattle.boc.specs.Calls.{decidedNumber, decidedVerdict, decidedEntry, decidedPlace, decideAnswer}
 
 -- the PDU of an INTERROGATE, one for the users 200 to 199, and so many zeros: 5 of them are an archive that holds nothing
@@ -41,20 +41,20 @@ abbrev lent : ℕ → List ℕ
 lent n = replicate n 0
 
 read-met : readNumber asked 42 520 ∷ readNumber [] 1 520 ∷ readNumber [] 0 520 ∷ readNumber (0x00 ∷ []) 6 520 ∷ readNumber reversed 65 520
-    ∷ readNumber asked 43 520 ∷ readNumber (0x48 ∷ 0x00 ∷ []) 11 520 ∷ readNumber asked 42 519 ∷ [] ≡ 0 ∷ 1 ∷ 2 ∷ 3 ∷ 4 ∷ 5 ∷ 10 ∷ 9 ∷ []
+    ∷ readNumber asked 43 520 ∷ readNumber (0x48 ∷ 0x80 ∷ []) 11 520 ∷ readNumber asked 42 519 ∷ [] ≡ 0 ∷ 1 ∷ 2 ∷ 3 ∷ 4 ∷ 5 ∷ 3 ∷ 9 ∷ []
 unfolding grammar readIs framed bits readWordsIs
 read-met = refl
 
 -- the place: as it was after a success; 1 and 9 have none
 read-places : readPlace asked 42 520 77 ∷ readPlace [] 1 520 77 ∷ readPlace [] 0 520 77 ∷ readPlace (0x00 ∷ []) 6 520 77 ∷ readPlace reversed 65 520 77
-    ∷ readPlace asked 43 520 77 ∷ readPlace (0x48 ∷ 0x00 ∷ []) 11 520 77 ∷ readPlace asked 42 519 77 ∷ []
+    ∷ readPlace asked 43 520 77 ∷ readPlace (0x48 ∷ 0x80 ∷ []) 11 520 77 ∷ readPlace asked 42 519 77 ∷ []
     ≡ 77 ∷ nowhere ∷ 0 ∷ 0 ∷ 40 ∷ 42 ∷ 6 ∷ nowhere ∷ []
 unfolding grammar readIs framed bits readWordsIs
 read-places = refl
 
 -- the users 200 to 199 in words: PDU type, range type 9, SSI, extension present, extension, SSI; interrogation type
 abbrev backwards : List ℕ
-backwards = 11 ∷ 9 ∷ 200 ∷ 0 ∷ 0 ∷ 199 ∷ lent 20 ++ (1 ∷ lent 490)
+backwards = 11 ∷ 9 ∷ 200 ∷ 0 ∷ 0 ∷ 199 ∷ lent 20 ++ (1 ∷ lent 493)
 
 write-met : writeNumber (recordWords asking) (lent 6) ∷ writeNumber (lent 520) [] ∷ writeNumber backwards []
     ∷ writeNumber (recordWords asking) (lent 5) ∷ writeNumber (lent 519) (lent 6) ∷ [] ≡ 0 ∷ 3 ∷ 4 ∷ 8 ∷ 9 ∷ []
@@ -75,7 +75,7 @@ empty-length : emptyLength 1 (lent 5) 77 ∷ emptyLength 1 (lent 4) 77 ∷ [] �
 unfolding calls
 empty-length = refl
 
--- number, entry and place of what boc_capture, boc_restore, boc_reload, boc_contents and boc_decide answer; a success leaves 77
+-- number, entry and place of what boc_capture, boc_restore, boc_reload, boc_reload_external, boc_contents and boc_decide answer; a success leaves 77
 abbrev stored : Stored → List ℕ
 stored a = storedNumber a ∷ storedEntry a 77 ∷ storedPlace a 77 ∷ []
 
@@ -85,7 +85,7 @@ restored a = restoredNumber a ∷ restoredEntry a 77 ∷ restoredPlace a 77 ∷ 
 abbrev decided : Decision → List ℕ
 decided d = decidedNumber d ∷ decidedEntry d 77 ∷ decidedPlace d 77 ∷ []
 
--- profile A's archive with a bit of A's SS type flipped, and with the entry of another user
+-- profile A's archive with a bit of A's PDU type flipped, which is then 4, and with the entry of another user
 abbrev damagedA : List ℕ
 damagedA = take 14 bytesA ++ (0x48 ∷ drop 15 bytesA)
 
@@ -101,7 +101,7 @@ capture-met : (stored (captureAnswer (lent 5) profileA 138 (lent 32)) ≡ 0 ∷ 
     × (stored (captureAnswer (lent 5) (0x00 ∷ []) 6 []) ≡ 3 ∷ nowhere ∷ 0 ∷ [])
     × (stored (captureAnswer (lent 5) reversed 65 []) ≡ 4 ∷ nowhere ∷ 40 ∷ [])
     × (stored (captureAnswer (lent 5) asked 43 []) ≡ 5 ∷ nowhere ∷ 42 ∷ [])
-    × (stored (captureAnswer (lent 5) (0x48 ∷ 0x00 ∷ []) 11 []) ≡ 10 ∷ nowhere ∷ 6 ∷ [])
+    × (stored (captureAnswer (lent 5) (0x48 ∷ 0x80 ∷ []) 11 []) ≡ 3 ∷ nowhere ∷ 6 ∷ [])
     × (stored (captureAnswer (lent 5) asked 42 []) ≡ 6 ∷ nowhere ∷ nowhere ∷ [])
     × (stored (captureAnswer (lent 5) profileA 138 (lent 31)) ≡ 8 ∷ nowhere ∷ nowhere ∷ [])
 unfolding calls bodyAgrees filingOf
@@ -135,13 +135,37 @@ reload-met : (restored (reloadAnswer bytesA 1 5 1 1 1 1 (lent 18)) ≡ 0 ∷ 77 
     × (restored (reloadAnswer bytesA 1 5 2 1 1 1 (lent 18)) ≡ 11 ∷ nowhere ∷ nowhere ∷ [])
     × (restored (reloadAnswer bytesA 1 5 1 2 1 1 (lent 18)) ≡ 12 ∷ nowhere ∷ nowhere ∷ [])
     × (restored (reloadAnswer bytesA 1 5 1 1 1 1 (lent 17)) ≡ 8 ∷ nowhere ∷ nowhere ∷ [])
-unfolding calls bodyAgrees filingOf inRange writeIs writeRefusal recordRefusal isDefinition defineOf stands reloadIs
+unfolding calls bodyAgrees filingOf inRange writeIs writeRefusal recordRefusal isDefinition defineOf standsIn reloadIs
 reload-met = (refl, refl, refl, refl, refl, refl, refl, refl, refl)
 
 reload-bits : restoredLength (reloadAnswer bytesA 1 5 1 1 1 1 (lent 18)) 77 ∷ restoredLength (reloadAnswer bytesA 1 5 1 2 1 1 (lent 18)) 77 ∷ []
     ≡ 137 ∷ 77 ∷ []
-unfolding calls bodyAgrees filingOf inRange writeIs writeRefusal recordRefusal isDefinition defineOf stands reloadIs
+unfolding calls bodyAgrees filingOf inRange writeIs writeRefusal recordRefusal isDefinition defineOf standsIn reloadIs
 reload-bits = refl
+
+-- an archive with the number part of user 1/5 that restricts 112
+abbrev numbered : List ℕ
+numbered =
+    0x00 ∷ 0x00 ∷ 0x01 ∷ 0x00 ∷ 0x01 ∷ 0x00 ∷ 0x00 ∷ 0x01 ∷ 0x00 ∷ 0x00 ∷ 0x05 ∷ 0x02 ∷ 0x00 ∷ 0x50
+    ∷ 0x49 ∷ 0x82 ∷ 0x00 ∷ 0x00 ∷ 0x0a ∷ 0x41 ∷ 0x20 ∷ 0x23 ∷ 0x11 ∷ 0x20 ∷ []
+
+-- 9: a network, a reserved definition type, an acknowledgement without delivery; 11: an identity part alone; 12: the number under removal
+external-met : (restored (externalAnswer numbered 1 5 1 1 1 (lent 10)) ≡ 0 ∷ 77 ∷ 77 ∷ [])
+    × (restored (externalAnswer numbered 16777216 5 1 1 1 (lent 10)) ≡ 9 ∷ nowhere ∷ nowhere ∷ [])
+    × (restored (externalAnswer numbered 1 5 3 1 1 (lent 10)) ≡ 9 ∷ nowhere ∷ nowhere ∷ [])
+    × (restored (externalAnswer numbered 1 5 1 0 1 (lent 10)) ≡ 9 ∷ nowhere ∷ nowhere ∷ [])
+    × (restored (externalAnswer [] 1 5 1 1 1 (lent 10)) ≡ 7 ∷ nowhere ∷ nowhere ∷ [])
+    × (restored (externalAnswer damagedA 1 5 1 1 1 (lent 10)) ≡ 7 ∷ 0 ∷ 6 ∷ [])
+    × (restored (externalAnswer bytesA 1 5 1 1 1 (lent 10)) ≡ 11 ∷ nowhere ∷ nowhere ∷ [])
+    × (restored (externalAnswer numbered 1 5 2 1 1 (lent 10)) ≡ 12 ∷ nowhere ∷ nowhere ∷ [])
+    × (restored (externalAnswer numbered 1 5 1 1 1 (lent 9)) ≡ 8 ∷ nowhere ∷ nowhere ∷ [])
+unfolding calls bodyAgrees filingOf inRange writeIs writeRefusal recordRefusal isDefinition defineOf standsIn reloadIs
+external-met = (refl, refl, refl, refl, refl, refl, refl, refl, refl)
+
+external-bits : restoredLength (externalAnswer numbered 1 5 1 1 1 (lent 10)) 77 ∷ restoredLength (externalAnswer numbered 1 5 2 1 1 (lent 10)) 77 ∷ []
+    ≡ 79 ∷ 77 ∷ []
+unfolding calls bodyAgrees filingOf inRange writeIs writeRefusal recordRefusal isDefinition defineOf standsIn reloadIs
+external-bits = refl
 
 -- speech of user 1/5 to an identity of network 1, and to the number 112
 abbrev to : ℕ → List ℕ

@@ -13,5 +13,6 @@ pub mod Reload
 pub mod Words
 pub mod Calls
 pub mod CallsMet
+pub mod Retired
 pub mod Sequences
 pub mod Determined

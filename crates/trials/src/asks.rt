@@ -17,11 +17,14 @@ pub(crate) fn ask(line: &[u8], held: Held) {
     }
 }
 
-// A held PDU: as it is, or as a DEFINE.
+// A held PDU: as it is, as a DEFINE, or as a DEFINE EXTERNAL.
 fn give(line: &[u8], archive: &[u8]) {
     match input::letter_at(line, 2) {
         b's' => restore(line, archive),
-        b'l' => reload(line, archive),
+        b'l' => match input::letter_at(line, 6) {
+            b'_' => reload_external(line, archive),
+            _ => reload(line, archive),
+        },
         _ => {}
     }
 }
@@ -88,6 +91,42 @@ fn reload_to(archive: &[u8], asked: [u32; 7]) {
         asked[3],
         asked[4],
         asked[5],
+        &mut out[0..end],
+        &mut count,
+        &mut entry,
+        &mut place,
+    );
+    restored(
+        Answer {
+            number,
+            entry,
+            place,
+        },
+        BitCount(count),
+        out,
+    );
+}
+
+// Network, SSI, definition type, delivery, acknowledgement and room stand in this order.
+fn reload_external(line: &[u8], archive: &[u8]) {
+    let mut asked = [0u32; 6];
+    input::numbers_at(line, 16, &mut asked);
+    reload_external_to(archive, asked);
+}
+
+fn reload_external_to(archive: &[u8], asked: [u32; 6]) {
+    let mut out = show::full();
+    let mut count: usize = 0;
+    let mut entry = show::FULL_PLACE;
+    let mut place = show::FULL_PLACE;
+    let end = bits::least(asked[5] as usize, 70000);
+    let number = boc::boc_reload_external(
+        archive,
+        asked[0],
+        asked[1],
+        asked[2],
+        asked[3],
+        asked[4],
         &mut out[0..end],
         &mut count,
         &mut entry,

@@ -8,12 +8,12 @@ const FULL_WORD: u32 = 0xa5a5a5a5;
 // The answer, and the record.
 pub struct Reading {
     pub answer: Answer,
-    pub words: [u32; 517],
+    pub words: [u32; 520],
 }
 
 // Reads the PDU of n bits in the first `count` bytes.
 pub(crate) fn read(bytes: [u8; 520], count: usize, n: usize) -> Reading {
-    let mut words = [FULL_WORD; 517];
+    let mut words = [FULL_WORD; 520];
     let mut place = show::FULL_PLACE;
     let end = bits::least(count, 520);
     let number = boc::boc_read(&bytes[0..end], n, &mut words, &mut place);
@@ -28,7 +28,7 @@ pub(crate) fn read(bytes: [u8; 520], count: usize, n: usize) -> Reading {
     show::words(&words, FULL_WORD);
     Reading {
         answer,
-        words: [0u32; 517],
+        words: [0u32; 520],
     }
 }
 
@@ -40,7 +40,7 @@ pub struct Writing {
 }
 
 // Writes a record to the first `room` bytes of a buffer.
-pub(crate) fn write(words: [u32; 517], room: usize) -> Writing {
+pub(crate) fn write(words: [u32; 520], room: usize) -> Writing {
     let mut bytes = [show::FULL_BYTE; 512];
     let mut n: usize = 0;
     let end = bits::least(room, 512);

@@ -9,14 +9,14 @@ use bits::BitCount;
 pub struct Last {
     pub bits: usize,
     pub bytes: [u8; 520],
-    pub words: [u32; 517],
+    pub words: [u32; 520],
 }
 
 pub(crate) fn nothing() -> Last {
     Last {
         bits: 0,
         bytes: [0u8; 520],
-        words: [0u32; 517],
+        words: [0u32; 520],
     }
 }
 

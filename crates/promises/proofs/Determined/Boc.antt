@@ -1,4 +1,4 @@
--- Each of the eight calls for C has one possible outcome: the number it returns, the buffer, and the numbers behind its pointers.
+-- Each of the nine calls for C has one possible outcome: the number it returns, the buffer, and the numbers behind its pointers.
 use Rattle.boc.proofs as boc
 use Rattle.promises.specs.Determined.{Determined, by-equations}
 
@@ -19,6 +19,9 @@ boc-restore-determined = by-equations (λ κs a x v p. (p .0, λ i. (tt, (tt, (t
 
 pub boc-reload-determined : Determined boc.boc_reload.Kinds.ps boc.boc_reload.Kinds.r boc.boc_reload.Reads.Learnt
 boc-reload-determined = by-equations (λ κs a x v p. (p .0, λ i. (tt, (tt, (tt, (tt, (tt, (tt, (tt, (p .1 .0 i, (p .1 .1 .0 i, (p .1 .1 .1 .0 i, (p .1 .1 .1 .1 i, tt)))))))))))))
+
+pub boc-reload-external-determined : Determined boc.boc_reload_external.Kinds.ps boc.boc_reload_external.Kinds.r boc.boc_reload_external.Reads.Learnt
+boc-reload-external-determined = by-equations (λ κs a x v p. (p .0, λ i. (tt, (tt, (tt, (tt, (tt, (tt, (p .1 .0 i, (p .1 .1 .0 i, (p .1 .1 .1 .0 i, (p .1 .1 .1 .1 i, tt))))))))))))
 
 pub boc-decide-determined : Determined boc.boc_decide.Kinds.ps boc.boc_decide.Kinds.r boc.boc_decide.Reads.Learnt
 boc-decide-determined = by-equations (λ κs a x v p. (p .0, λ i. (tt, (tt, (p .1 .0 i, (p .1 .1 .0 i, (p .1 .1 .1 i, tt)))))))

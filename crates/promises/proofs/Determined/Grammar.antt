@@ -27,11 +27,14 @@ service-of-determined = by-equations (λ κs a x v p. (p, refl))
 pub service-refusal-determined : Determined grammar.site.service_refusal.Kinds.ps grammar.site.service_refusal.Kinds.r grammar.site.service_refusal.Reads.Learnt
 service-refusal-determined = by-equations (λ κs a x v p. (p, refl))
 
+pub pdu-type-determined : Determined grammar.site.pdu_type.Kinds.ps grammar.site.pdu_type.Kinds.r grammar.site.pdu_type.Reads.Learnt
+pdu-type-determined = by-equations (λ κs a x v p. (p, refl))
+
 pub kind-refusal-determined : Determined grammar.site.kind_refusal.Kinds.ps grammar.site.kind_refusal.Kinds.r grammar.site.kind_refusal.Reads.Learnt
 kind-refusal-determined = by-equations (λ κs a x v p. (p, refl))
 
-pub result-refusal-determined : Determined grammar.site.result_refusal.Kinds.ps grammar.site.result_refusal.Kinds.r grammar.site.result_refusal.Reads.Learnt
-result-refusal-determined = by-equations (λ κs a x v p. (p, refl))
+pub reserved-refusal-determined : Determined grammar.site.reserved_refusal.Kinds.ps grammar.site.reserved_refusal.Kinds.r grammar.site.reserved_refusal.Reads.Learnt
+reserved-refusal-determined = by-equations (λ κs a x v p. (p, refl))
 
 pub defined-part-determined : Determined grammar.site.defined_part.Kinds.ps grammar.site.defined_part.Kinds.r grammar.site.defined_part.Reads.Learnt
 defined-part-determined = by-equations (λ κs a x v p. (p, refl))
@@ -48,11 +51,32 @@ network-of-determined = by-equations (λ κs a x v p. (p, refl))
 pub are-digits-determined : Determined grammar.site.are_digits.Kinds.ps grammar.site.are_digits.Kinds.r grammar.site.are_digits.Reads.Learnt
 are-digits-determined = by-equations (λ κs a x v p. (p, refl))
 
+pub form-of-determined : Determined grammar.figures.form_of.Kinds.ps grammar.figures.form_of.Kinds.r grammar.figures.form_of.Reads.Learnt
+form-of-determined = by-equations (λ κs a x v p. (p, refl))
+
+pub part-in-determined : Determined grammar.figures.part_in.Kinds.ps grammar.figures.part_in.Kinds.r grammar.figures.part_in.Reads.Learnt
+part-in-determined = by-equations (λ κs a x v p. (p, refl))
+
+pub figures-in-determined : Determined grammar.figures.figures_in.Kinds.ps grammar.figures.figures_in.Kinds.r grammar.figures.figures_in.Reads.Learnt
+figures-in-determined = by-equations (λ κs a x v p. (p, refl))
+
+pub figures-refusal-determined : Determined grammar.figures.figures_refusal.Kinds.ps grammar.figures.figures_refusal.Kinds.r grammar.figures.figures_refusal.Reads.Learnt
+figures-refusal-determined = by-equations (λ κs a x v p. (p, refl))
+
+pub figures-clean-determined : Determined grammar.figures.figures_clean.Kinds.ps grammar.figures.figures_clean.Kinds.r grammar.figures.figures_clean.Reads.Learnt
+figures-clean-determined = by-equations (λ κs a x v p. (p, refl))
+
+pub figures-run-determined : Determined grammar.figures.figures_run.Kinds.ps grammar.figures.figures_run.Kinds.r grammar.figures.figures_run.Reads.Learnt
+figures-run-determined = by-equations (λ κs a x v p. (p, refl))
+
 pub zero-identities-determined : Determined grammar.zero.zero_identities.Kinds.ps grammar.zero.zero_identities.Kinds.r grammar.zero.zero_identities.Reads.Learnt
 zero-identities-determined = by-equations (λ κs a x v p. (p, refl))
 
 pub zero-numbers-determined : Determined grammar.zero.zero_numbers.Kinds.ps grammar.zero.zero_numbers.Kinds.r grammar.zero.zero_numbers.Reads.Learnt
 zero-numbers-determined = by-equations (λ κs a x v p. (p, refl))
+
+pub zero-figures-determined : Determined grammar.zero.zero_figures.Kinds.ps grammar.zero.zero_figures.Kinds.r grammar.zero.zero_figures.Reads.Learnt
+zero-figures-determined = by-equations (λ κs a x v p. (p, refl))
 
 pub zero-services-determined : Determined grammar.zero.zero_services.Kinds.ps grammar.zero.zero_services.Kinds.r grammar.zero.zero_services.Reads.Learnt
 zero-services-determined = by-equations (λ κs a x v p. (p, refl))
