@@ -1,10 +1,10 @@
--- What an archive holds is an accepting INTERROGATE ACK, so its DEFINE is legal wherever its lists stand. Assumes nothing.
-use mathlib.Core.Path.{_≡_, refl, subst}
+-- What an archive holds is an INTERROGATE ACK, so the PDU that puts it back is legal wherever its lists stand. Assumes nothing.
+use mathlib.Core.Path.{_≡_, subst}
 use mathlib.Core.Bool.{Bool, true, false, _&&_}
 use mathlib.Core.List.{List, [], _∷_}
 use mathlib.Core.Option.{some}
 use Prim.Native.Nat.{ℕ}
-use borrow.Author.Tests.{eqb-true, leb-true}
+use borrow.Author.Tests.{eqb-true}
 use lib.Dec.{eqb, leb}
 use Rattle.bits.specs.Bits.{pick}
 use Rattle.bits.proofs.Tests.{never, both}
@@ -22,6 +22,7 @@ use Rattle.archive.proofs.Model.Bodies.{Agrees, agrees-says}
 use Rattle.reload.specs.Define.{isDefinition, defineOf, stands}
 use Rattle.reload.specs.Reload.{recordOf}
 use Rattle.reload.specs.declared.Definition.{Definition}
+use Rattle.reload.specs.declared.Target.{Target}
 use Rattle.reload.proofs.Standing.{define-legal}
 
 looked-up : (home last : ℕ) (k : Key) (hs : List Held) {h : Held} → keepsRules home last hs ≡ true → lookup k hs ≡ some h → bodyAgrees home h ≡ true
@@ -39,11 +40,9 @@ module _ (b : List ℕ) (a : isArchive b ≡ true) (k : Key) {h : Held} (e : loo
   pub held-agrees : Agrees (reading b .home) h
   held-agrees = agrees-says (reading b .home) h (looked-up (reading b .home) 0 k (reading b .held) (archive-formed b a .rules) e)
 
-  pub held-defined : (d : Definition) → isDefinition d ≡ true → stands (d .definition) (recordOf h .lists) ≡ true → Legal pdu (defineOf d (recordOf h))
-  held-defined d asked fits =
+  pub held-defined : (t : Target) (d : Definition) → isDefinition d ≡ true → stands t (d .definition) (recordOf h .lists) ≡ true
+      → Legal pdu (defineOf t d (recordOf h))
+  held-defined t d asked fits =
       let r : Record = recordOf h in
-      let p = both (eqb (r .kind) 12) (leb 1 (r .result) && (leb (r .result) 2 && eqb (r .affected .code) 1)) (held-agrees .may) in
-      let q = both (leb 1 (r .result)) (leb (r .result) 2 && eqb (r .affected .code) 1) (p .1) in
-      let s = both (leb (r .result) 2) (eqb (r .affected .code) 1) (q .1) in
-      define-legal d r (accepted-legal (h .body) (h .entry .bits .0) (held-agrees .accepted)) (eqb-true (r .kind) 12 (p .0)) (r .result) refl
-      (leb-true 1 (r .result) (q .0)) (leb-true (r .result) 2 (s .0)) asked fits
+      let p = both (eqb (r .kind) 12) (leb 1 (r .figures .result) && (leb (r .figures .result) 2 && eqb (r .affected .code) 1)) (held-agrees .may) in
+      define-legal t d r (accepted-legal (h .body) (h .entry .bits .0) (held-agrees .accepted)) (eqb-true (r .kind) 12 (p .0)) asked fits

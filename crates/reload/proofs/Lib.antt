@@ -1,4 +1,5 @@
 pub mod Lists
+pub mod Parts
 pub mod Standing
 pub mod Reloaded
 pub mod Held

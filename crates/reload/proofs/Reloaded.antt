@@ -1,4 +1,4 @@
--- What reload answers, by what fetch finds, and what the DEFINE of a part comes to. Assumes nothing.
+-- What reload answers, by what fetch finds, and what the PDU of a part comes to. Assumes nothing.
 use mathlib.Core.Path.{_≡_, refl, sym, ap, ap₂, _∙_}
 use mathlib.Core.Bool.{true, false, _&&_}
 use mathlib.Core.List.{List, _++_}
@@ -32,48 +32,49 @@ use Rattle.reload.specs.Define.{isDefinition, defineOf, stands}
 use Rattle.reload.specs.Reload.{asWritten, redefined, reloaded, reloadIs, defineBytes, reloadOut}
 use Rattle.reload.specs.Inner.{partAt, reloadedFrom, reloadedOut}
 use Rattle.reload.specs.declared.Definition.{Definition}
+use Rattle.reload.specs.declared.Target.{Target}
 
-module _ (b : List ℕ) (k : Key) (d : Definition) (out : List ℕ) where
+module _ (t : Target) (b : List ℕ) (k : Key) (d : Definition) (out : List ℕ) where
   -- the part held for the user
   abbrev pub heldFor : Option Held
   heldFor = lookup k (reading b .held)
 
-  pub out-of-range : inRange k && isDefinition d ≡ false → reloadIs b k d out ≡ Refused (plain 9)
+  pub out-of-range : inRange k && isDefinition d ≡ false → reloadIs t b k d out ≡ Refused (plain 9)
   unfolding reloadIs
   out-of-range e = rw e
 
-  pub reload-leaves : {r : Restored} → reloadIs b k d out ≡ r → reloadOut b k d out ≡ restores r (defineBytes d heldFor) out
+  pub reload-leaves : {r : Restored} → reloadIs t b k d out ≡ r → reloadOut t b k d out ≡ restores r (defineBytes t d heldFor) out
   unfolding reloadOut
-  reload-leaves e = ap (λ (r : Restored). restores r (defineBytes d heldFor) out) e
+  reload-leaves e = ap (λ (r : Restored). restores r (defineBytes t d heldFor) out) e
 
   module _ (e : inRange k ≡ true) (f : isDefinition d ≡ true) where
-    pub reload-held : isArchive b ≡ true → reloadIs b k d out ≡ reloaded d heldFor out
+    pub reload-held : isArchive b ≡ true → reloadIs t b k d out ≡ reloaded t d heldFor out
     unfolding reloadIs
     reload-held a = rw (e, f, archive-checked b a)
 
-    pub no-archive : {g : Refusal} → checkIs b ≡ checked.Refused g → reloadIs b k d out ≡ Refused g
+    pub no-archive : {g : Refusal} → checkIs b ≡ checked.Refused g → reloadIs t b k d out ≡ Refused g
     unfolding reloadIs
-    no-archive t = rw (e, f, t)
+    no-archive c = rw (e, f, c)
 
-    pub damaged : {g : Refusal} → fetchIs b k ≡ fetched.Refused g → reloadIs b k d out ≡ Refused g
-    damaged t = no-archive (fetch-damaged b k e t)
+    pub damaged : {g : Refusal} → fetchIs b k ≡ fetched.Refused g → reloadIs t b k d out ≡ Refused g
+    damaged c = no-archive (fetch-damaged b k e c)
 
-    pub missing : fetchIs b k ≡ fetched.NotHeld → reloadIs b k d out ≡ Refused (plain 11)
-    missing t = let r = fetch-missing b k e t in reload-held (r .0) ∙ ap (λ (o : Option Held). reloaded d o out) (r .1)
+    pub missing : fetchIs b k ≡ fetched.NotHeld → reloadIs t b k d out ≡ Refused (plain 11)
+    missing c = let r = fetch-missing b k e c in reload-held (r .0) ∙ ap (λ (o : Option Held). reloaded t d o out) (r .1)
 
     -- the body that is fetched is the part that is held
     pub found : {at : ℕ} {n : BitCount} → fetchIs b k ≡ fetched.Body at n
-        → (reloadIs b k d out ≡ reloadedFrom b at (n .0) d out) × (reloadOut b k d out ≡ reloadedOut b at (n .0) d out)
-    found {at} {n} t =
-        let r = fetch-found b k e t in
+        → (reloadIs t b k d out ≡ reloadedFrom t b at (n .0) d out) × (reloadOut t b k d out ≡ reloadedOut t b at (n .0) d out)
+    found {at} {n} c =
+        let r = fetch-found b k e c in
         let x = r .1 in
         let part : readIs (x .held .body) (x .held .entry .bits .0) .found ≡ partAt b at (n .0) =
         ap₂ (λ (s : List ℕ) (m : BitCount). readIs s (m .0) .found) (x .body) (x .bits) in
-        let same : reloadIs b k d out ≡ reloadedFrom b at (n .0) d out =
-        reload-held (r .0) ∙ ap (λ (o : Option Held). reloaded d o out) (x .is) ∙ ap (λ (p : Record). redefined d p out) part in (
+        let same : reloadIs t b k d out ≡ reloadedFrom t b at (n .0) d out =
+        reload-held (r .0) ∙ ap (λ (o : Option Held). reloaded t d o out) (x .is) ∙ ap (λ (p : Record). redefined t d p out) part in (
           same,
-          reload-leaves same ∙ ap (λ (w : List ℕ). restores (reloadedFrom b at (n .0) d out) w out)
-              (ap (defineBytes d) (x .is) ∙ ap (λ (p : Record). pack (pdu .print (defineOf d p))) part),
+          reload-leaves same ∙ ap (λ (w : List ℕ). restores (reloadedFrom t b at (n .0) d out) w out)
+              (ap (defineBytes t d) (x .is) ∙ ap (λ (p : Record). pack (pdu .print (defineOf t d p))) part),
         )
 
 -- ---- a part that was read
@@ -88,15 +89,16 @@ left-as r out = go (writeRefusal r (length out))
     go zero = ap (λ (m : ℕ). pack (pdu .print r) ++ drop m out) (sym (length-pack (pdu .print r)))
     go (suc k) = refl
 
-module _ (b : List ℕ) (at n : ℕ) (d : Definition) (out : List ℕ) {part : Record} (is : part ≡ partAt b at n) where
+module _ (t : Target) (b : List ℕ) (at n : ℕ) (d : Definition) (out : List ℕ) {part : Record} (is : part ≡ partAt b at n) where
   -- a list has no place
-  pub lost : stands (d .definition) (part .lists) ≡ false → (Refused (plain 12) ≡ reloadedFrom b at n d out) × (out ≡ reloadedOut b at n d out)
+  pub lost : stands t (d .definition) (part .lists) ≡ false → (Refused (plain 12) ≡ reloadedFrom t b at n d out) × (out ≡ reloadedOut t b at n d out)
   lost e = rw (← is, e) (refl, refl)
 
-  -- its DEFINE was written
-  pub stood : stands (d .definition) (part .lists) ≡ true → {define : Record} → define ≡ defineOf d part → {answer : Written} → answer ≡ writeIs define out
-      → {left : List ℕ} → left ≡ outIs define out → (asWritten answer ≡ reloadedFrom b at n d out) × (left ≡ reloadedOut b at n d out)
+  -- its PDU was written
+  pub stood : stands t (d .definition) (part .lists) ≡ true → {define : Record} → define ≡ defineOf t d part
+      → {answer : Written} → answer ≡ writeIs define out → {left : List ℕ} → left ≡ outIs define out
+      → (asWritten answer ≡ reloadedFrom t b at n d out) × (left ≡ reloadedOut t b at n d out)
   stood e {define} made wrote leaves = rw (← is, e) (
     ap asWritten (wrote ∙ ap (λ (r : Record). writeIs r out) made),
-    leaves ∙ ap (λ (r : Record). outIs r out) made ∙ left-as (defineOf d part) out,
+    leaves ∙ ap (λ (r : Record). outIs r out) made ∙ left-as (defineOf t d part) out,
   )

@@ -1,74 +1,66 @@
--- The DEFINE of a held part is legal if the lists of the part stand in it, and those of every legal DEFINE do. Assumes nothing.
-use mathlib.Core.Path.{_≡_, refl, subst}
-use mathlib.Core.Bool.{Bool, true, false, _&&_, _||_}
-use Prim.Native.Nat.{ℕ, _≤_}
+-- The PDU of a held part is legal if the lists of the part stand in it, and those of every legal DEFINE and DEFINE EXTERNAL do. Assumes nothing.
+use mathlib.Core.Path.{_≡_, refl, subst, _∙_}
+use mathlib.Core.Bool.{true, _&&_}
+use Prim.Native.Nat.{ℕ}
 use native.Mathlib.Omega.{arith}
-use borrow.Author.Tests.{leb-true, le-leb, eq-eqb}
 use lib.Dec.{leb}
-use Rattle.bits.specs.Bits.{pick}
-use Rattle.bits.proofs.Tests.{both, both⁻¹}
-use Rattle.codec.specs.Codec.{Legal}
-use Rattle.codec.specs.Parts.{element}
-use Rattle.codec.proofs.Legality.{legal-seq, legal-shaped, legal-mark, pair-legal, shaped-legal, number-legal, element-legal, absent-legal, mark-legal}
-use Rattle.grammar.specs.SiteSheet.{ssType, kindRefusal, acknowledgementRefusal, definitionRefusal, definedPart}
-use Rattle.grammar.specs.Grammar.{identities, partOf, noInterrogation, definition, define, interrogateAck, restOf, fromRecord, pdu}
+use Rattle.bits.proofs.Tests.{both}
+use Rattle.codec.specs.Codec.{Codec, Legal}
+use Rattle.codec.specs.Parts.{element, number, absent, tested, shaped, seq}
+use Rattle.codec.proofs.Legality.{legal-seq, pair-legal, shaped-legal, element-legal, mark-legal}
+use Rattle.grammar.specs.SiteSheet.{ssType, pduType, kindRefusal, definedPart}
+use Rattle.grammar.specs.Grammar.{identities, services, partOf, none, figures, definition, Rest, fromRecord, pdu}
+use Rattle.grammar.specs.Figures.{ofDefinition}
+use Rattle.grammar.specs.Rows.{formOf, partIn, rowed}
 use Rattle.grammar.specs.declared.site.ListKind.the-variants as of
-use Rattle.grammar.specs.declared.record.Lists.{Lists}
 use Rattle.grammar.specs.declared.record.Record.{Record}
-use Rattle.reload.specs.Define.{isDefinition, defineOf, noNumbers, noOthers, stands}
+use Rattle.grammar.proofs.Rows.{in-rows, definition-fault}
+use Rattle.pdu.proofs.Accepted.{row-legal}
+use Rattle.reload.specs.Define.{isDefinition, kindOf, partFor, defineOf, stands}
 use Rattle.reload.specs.declared.Definition.{Definition}
-use Rattle.reload.proofs.Lists.{empty, empty-numbers, identity-lists, no-lists, part-lists}
+use Rattle.reload.specs.declared.Target.{Target}
+use Rattle.reload.specs.declared.Target.the-variants.{Define, DefineExternal}
+use Rattle.reload.proofs.Parts.{part-lists, all-stand}
 
--- ---- the lists of a legal DEFINE stand
+-- tables 10 and 12, which differ in the part whose lists they have
+abbrev tableOf : Target → Codec Rest
+tableOf t = seq (identities of.Users) (λ u. seq definition (λ f. seq services (λ s. partOf (definedPart (partFor t) (f .definition)))))
 
-all-stand : (l : Lists) (t : Bool) → Legal (partOf (pick t 1 0)) l → noNumbers l && (t || noOthers l) ≡ true
-all-stand l true h =
-    let f = identity-lists l h in
-    both⁻¹ (both⁻¹ (eq-eqb _ 0 (empty-numbers _ (f .numbers))) (eq-eqb _ 0 (empty-numbers _ (f .excepted)))) refl
-all-stand l false h =
-    let f = no-lists l h in
-    both⁻¹ (both⁻¹ (eq-eqb _ 0 (empty-numbers _ (f .numbers))) (eq-eqb _ 0 (empty-numbers _ (f .excepted))))
-    (both⁻¹ (eq-eqb _ 0 (empty _ (f .groups))) (both⁻¹ (eq-eqb _ 0 (empty _ (f .restricted))) (eq-eqb _ 0 (empty _ (f .exceptions)))))
+table-is : (t : Target) → rowed (pduType (kindOf t)) ≡ tableOf t
+unfolding pduType formOf partIn
+table-is Define = refl
+table-is DefineExternal = refl
 
-rest-legal : (x : Record) → Legal pdu x → Legal (element 5 kindRefusal) (x .kind) × Legal (identities of.Users) (x .affected)
-    × Legal (restOf (x .kind)) (fromRecord x .1 .1)
-unfolding pdu
-rest-legal x h =
-    let p = legal-seq _ _ _ (legal-shaped _ _ _ _ _ _ (legal-mark _ _ _ _ h)) in
-    let q = legal-seq _ _ _ (p .1) in
-    (p .0, q .0, q .1)
+of-kind : (r : Record) → Legal pdu r → {k : ℕ} → r .kind ≡ k → Legal (rowed (pduType k)) (fromRecord r .1)
+of-kind r h e = subst (λ (k : ℕ). Legal (rowed (pduType k)) (fromRecord r .1)) e (row-legal r h)
 
-pub define-stands : (x : Record) → Legal pdu x → x .kind ≡ 5 → stands (x .definition) (x .lists) ≡ true
-unfolding stands define definedPart
-define-stands x h e =
-    let r : Legal define (fromRecord x .1 .1) = subst (λ (k : ℕ). Legal (restOf k) (fromRecord x .1 .1)) e (rest-legal x h .2) in
-    let s = legal-seq _ _ _ (legal-seq _ _ _ (legal-seq _ _ _ r .1) .1) in
-    all-stand (x .lists) (leb (x .definition) 1) (s .1)
+-- ---- the lists of a legal PDU stand
 
--- ---- the DEFINE of a held part is legal
+pub define-stands : (t : Target) (x : Record) → Legal pdu x → x .kind ≡ kindOf t → stands t (x .figures .definition) (x .lists) ≡ true
+define-stands t x h e =
+    let p = subst (λ (c : Codec Rest). Legal c (fromRecord x .1)) (table-is t) (of-kind x h e) in
+    let s = legal-seq _ _ _ (legal-seq _ _ _ (legal-seq _ _ _ p .1) .1) in
+    all-stand _ (x .lists) (s .1)
 
-definition-legal : (d : Definition) → isDefinition d ≡ true → Legal definition (d .delivery, (d .acknowledgement, d .definition))
-unfolding isDefinition definition
+-- ---- the PDU of a held part is legal
+
+definition-legal : (d : Definition) → isDefinition d ≡ true → Legal definition (ofDefinition (d .delivery) (d .acknowledgement) (d .definition))
+unfolding isDefinition figures none shaped seq absent element tested number
 definition-legal d e =
     let p = both (leb (d .definition) 2) (leb (d .delivery) 1 && leb (d .acknowledgement) (d .delivery)) e in
     let q = both (leb (d .delivery) 1) (leb (d .acknowledgement) (d .delivery)) (p .1) in
-    let k = leb-true (d .definition) 2 (p .0) in
-    let v = leb-true (d .delivery) 1 (q .0) in
-    let a = leb-true (d .acknowledgement) (d .delivery) (q .1) in
-    pair-legal _ _ _ (number-legal 1 (omega arith)) (pair-legal _ _ _
-    (element-legal 1 (acknowledgementRefusal (d .delivery)) (omega arith) (rw (le-leb 0 (d .acknowledgement) (omega arith), q .1)))
-    (element-legal 2 definitionRefusal (omega arith) (rw (le-leb 0 (d .definition) (omega arith), p .0))))
+    record { clean = refl; faultless = definition-fault (ofDefinition (d .delivery) (d .acknowledgement) (d .definition)) ∙ rw (q .0, q .1, p .0) }
 
-pub define-legal : (d : Definition) (r : Record) → Legal pdu r → r .kind ≡ 12 → (part : ℕ) → r .result ≡ part → 1 ≤ part → part ≤ 2
-    → isDefinition d ≡ true → stands (d .definition) (r .lists) ≡ true → Legal pdu (defineOf d r)
-unfolding pdu define noInterrogation interrogateAck kindRefusal stands definedPart defineOf
-define-legal d r h k part is low high asked e =
-    let w = rest-legal r h in
-    let a : Legal interrogateAck (fromRecord r .1 .1) = subst (λ (k : ℕ). Legal (restOf k) (fromRecord r .1 .1)) k (w .2) in
-    let s = legal-seq _ _ _ (legal-seq _ _ _ (legal-seq _ _ _ a .1) .1) in
-    let l : Legal (partOf part) (r .lists) = subst (λ (p : ℕ). Legal (partOf p) (r .lists)) is (s .1) in
-    let kind : Legal (element 5 kindRefusal) 5 = element-legal 5 kindRefusal (omega arith) refl in
-    let none : Legal noInterrogation (0, (0, 0)) = pair-legal _ _ _ absent-legal (pair-legal _ _ _ absent-legal absent-legal) in
-    mark-legal 6 ssType _ refl (shaped-legal _ _ _ _ _ (pair-legal _ _ _ kind (pair-legal _ _ _ (w .1)
-    (pair-legal _ _ _ none (pair-legal _ _ _ (definition-legal d asked)
-    (pair-legal _ _ _ (s .0) (part-lists part (r .lists) (leb (d .definition) 1) low high l e)))))))
+kind-legal : (t : Target) → Legal (element 5 kindRefusal) (kindOf t)
+kind-legal Define = element-legal 5 kindRefusal (omega arith) refl
+kind-legal DefineExternal = element-legal 5 kindRefusal (omega arith) refl
+
+pub define-legal : (t : Target) (d : Definition) (r : Record) → Legal pdu r → r .kind ≡ 12 → isDefinition d ≡ true
+    → stands t (d .definition) (r .lists) ≡ true → Legal pdu (defineOf t d r)
+unfolding pdu defineOf pduType formOf partIn
+define-legal t d r h k asked e =
+    let u = legal-seq _ _ _ (of-kind r h k) in
+    let s = legal-seq _ _ _ (legal-seq _ _ _ (u .1) .1) in
+    mark-legal 6 ssType _ refl (shaped-legal _ _ _ _ _ (pair-legal _ _ _ (kind-legal t)
+    (rw (in-rows (pduType (kindOf t)), table-is t) (pair-legal _ _ _ (u .0) (pair-legal _ _ _ (definition-legal d asked)
+    (pair-legal _ _ _ (s .0) (part-lists (r .figures .result) _ (r .lists) (s .1) e)))))))

@@ -15,9 +15,10 @@ use Rattle.archive.specs.declared.refusal.Refusal.{Refusal}
 use Rattle.archive.specs.declared.Restored.the-variants.{Bits}
 use Rattle.walk.specs.declared.BitPlace.the-variants.{At}
 use Rattle.writer.specs.Write.{recordRefusal, writeRefusal, writeIs}
-use Rattle.reload.specs.Define.{isDefinition, defineOf, stands}
+use Rattle.reload.specs.Define.{isDefinition, defineOf, standsIn}
 use Rattle.reload.specs.Reload.{reloadIs, reloadOut}
 use Rattle.reload.specs.declared.Definition.{Definition}
+use Rattle.reload.specs.declared.Target.the-variants.{Define, DefineExternal}
 
 abbrev asked : ℕ → ℕ → ℕ → Definition
 asked definition delivery acknowledgement = record { definition = definition; delivery = delivery; acknowledgement = acknowledgement }
@@ -27,7 +28,7 @@ lent n = replicate n 0
 
 -- `unfolding computed` opens all of it
 unfoldable computed : Unit {0}
-unfolding calls bodyAgrees filingOf inRange writeIs writeRefusal recordRefusal isDefinition defineOf stands reloadIs reloadOut pack bytesOf
+unfolding calls bodyAgrees filingOf inRange writeIs writeRefusal recordRefusal isDefinition defineOf standsIn reloadIs reloadOut pack bytesOf
 computed = tt
 
 -- ---- what may be asked for: three definition types; an acknowledgement only with delivery
@@ -44,8 +45,8 @@ abbrev defineA : List ℕ
 defineA =
     0x48 ∷ 0xa2 ∷ 0x00 ∷ 0x00 ∷ 0x0a ∷ 0x92 ∷ 0x42 ∷ 0x40 ∷ 0x00 ∷ 0x19 ∷ 0x00 ∷ 0x00 ∷ 0x18 ∷ 0xe1 ∷ 0x00 ∷ 0x00 ∷ 0x96 ∷ 0x00 ∷ []
 
-put-back : (reloadIs bytesA (partOf5 1) (asked 1 1 0) (lent 20) ≡ Bits (record { 0 = 137 }))
-    × (reloadOut bytesA (partOf5 1) (asked 1 1 0) (replicate 20 255) ≡ defineA ++ (255 ∷ 255 ∷ []))
+put-back : (reloadIs Define bytesA (partOf5 1) (asked 1 1 0) (lent 20) ≡ Bits (record { 0 = 137 }))
+    × (reloadOut Define bytesA (partOf5 1) (asked 1 1 0) (replicate 20 255) ≡ defineA ++ (255 ∷ 255 ∷ []))
 unfolding computed
 put-back = (refl, refl)
 
@@ -65,20 +66,20 @@ abbrev bare : List ℕ
 bare = holding 1 63 (0x49 ∷ 0x82 ∷ 0x00 ∷ 0x00 ∷ 0x0a ∷ 0x21 ∷ 0x40 ∷ 0x00 ∷ [])
 
 -- the groups of a number part, and two empty lists of identities; the removal of a part without lists
-groups-back : reloadOut grouped (partOf5 2) (asked 0 0 0) (lent 11)
+groups-back : reloadOut Define grouped (partOf5 2) (asked 0 0 0) (lent 11)
     ≡ 0x48 ∷ 0xa2 ∷ 0x00 ∷ 0x00 ∷ 0x0a ∷ 0x02 ∷ 0x44 ∷ 0x00 ∷ 0x07 ∷ 0xd0 ∷ 0x00 ∷ []
 unfolding computed
 groups-back = refl
 
-removed : (reloadIs bare (partOf5 1) (asked 2 1 1) (lent 7) ≡ Bits (record { 0 = 50 }))
-    × (reloadOut bare (partOf5 1) (asked 2 1 1) (lent 7) ≡ 0x48 ∷ 0xa2 ∷ 0x00 ∷ 0x00 ∷ 0x0a ∷ 0xe2 ∷ 0x80 ∷ [])
+removed : (reloadIs Define bare (partOf5 1) (asked 2 1 1) (lent 7) ≡ Bits (record { 0 = 50 }))
+    × (reloadOut Define bare (partOf5 1) (asked 2 1 1) (lent 7) ≡ 0x48 ∷ 0xa2 ∷ 0x00 ∷ 0x00 ∷ 0x0a ∷ 0xe2 ∷ 0x80 ∷ [])
 unfolding computed
 removed = (refl, refl)
 
 -- ---- 12: a list that is not empty has no place: any under removal, numbers under each definition type
 
 abbrev refusal : List ℕ → Key → Definition → ℕ → Refusal
-refusal b k d room = restoredRefusal (reloadIs b k d (lent room))
+refusal b k d room = restoredRefusal (reloadIs Define b k d (lent room))
 
 lost : (refusal bytesA (partOf5 1) (asked 2 0 0) 20 ≡ plain 12) × (refusal grouped (partOf5 2) (asked 2 0 0) 20 ≡ plain 12)
     × (refusal numbered (partOf5 2) (asked 0 0 0) 20 ≡ plain 12) × (refusal numbered (partOf5 2) (asked 1 0 0) 20 ≡ plain 12)

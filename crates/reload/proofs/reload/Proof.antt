@@ -16,9 +16,9 @@ use Rattle.reload.proofs.reload.Tie as tie
 returns : tie.Need-returns
 returns c =
     let t = c .before in let a = t .before .before .before .before .args in
-    let e = out-of-range (now (a .archive)) (a .key) (a .wanted) (now (a .out))
+    let e = out-of-range (a .target) (now (a .archive)) (a .key) (a .wanted) (now (a .out))
     (ap (λ (x : Bool). x && isDefinition (a .wanted)) (said-no (t .before .in-range .ensures) (t .if1 .taken))) in
-    (c .refused .ensures ∙ sym e, sym (reload-leaves _ _ _ _ e))
+    (c .refused .ensures ∙ sym e, sym (reload-leaves _ _ _ _ _ e))
 
 -- user and part are in range
 user : (c : tie.Else1) → inRange (c .before .before .before .before .args .key) ≡ true
@@ -27,8 +27,9 @@ user c = said-yes (c .before .in-range .ensures) (c .if1 .left)
 returns-2 : tie.Need-returns-2
 returns-2 c =
     let t = c .before in let u = t .before .before in let a = u .before .before .before .before .args in
-    let e = out-of-range (now (a .archive)) (a .key) (a .wanted) (now (a .out)) (rw (user u) (said-no (t .before .is-definition .ensures) (t .if2 .taken))) in
-    (c .refused2 .ensures ∙ sym e, sym (reload-leaves _ _ _ _ e))
+    let e = out-of-range (a .target) (now (a .archive)) (a .key) (a .wanted) (now (a .out))
+    (rw (user u) (said-no (t .before .is-definition .ensures) (t .if2 .taken))) in
+    (c .refused2 .ensures ∙ sym e, sym (reload-leaves _ _ _ _ _ e))
 
 -- and so is the definition
 asked : (c : tie.Else2) → isDefinition (c .before .before .before .before .before .before .args .wanted) ≡ true
@@ -42,14 +43,14 @@ fetched c e = sym (c .fetch .ensures) ∙ e
 returns-3 : tie.Need-returns-3
 returns-3 c =
     let r = c .before in let f = r .before .before in
-    let e = damaged _ _ _ _ (user (f .before .before .before)) (asked (f .before)) (fetched f (r .found .given .1)) in
-    (sym e, sym (reload-leaves _ _ _ _ e))
+    let e = damaged _ _ _ _ _ (user (f .before .before .before)) (asked (f .before)) (fetched f (r .found .given .1)) in
+    (sym e, sym (reload-leaves _ _ _ _ _ e))
 
 returns-4 : tie.Need-returns-4
 returns-4 c =
     let n = c .before in let f = n .before .before in
-    let e = missing _ _ _ _ (user (f .before .before .before)) (asked (f .before)) (fetched f (n .enum-told .given .1)) in
-    (c .refused3 .ensures ∙ sym e, sym (reload-leaves _ _ _ _ e))
+    let e = missing _ _ _ _ _ (user (f .before .before .before)) (asked (f .before)) (fetched f (n .enum-told .given .1)) in
+    (c .refused3 .ensures ∙ sym e, sym (reload-leaves _ _ _ _ _ e))
 
 reload-body-requires : tie.Need-reload-body-requires
 reload-body-requires c κs =
@@ -59,7 +60,7 @@ reload-body-requires c κs =
 returns-5 : tie.Need-returns-5
 returns-5 c =
     let r = c .before .before in let h = r .before .before .before in let f = h .before .before in
-    let e = found _ _ _ _ (user (f .before .before .before)) (asked (f .before)) (fetched f (h .found2 .given .1)) in
+    let e = found _ _ _ _ _ (user (f .before .before .before)) (asked (f .before)) (fetched f (h .found2 .given .1)) in
     (r .reload-body .ensures .0 ∙ sym (e .0), r .reload-body .ensures .1 ∙ sym (e .1))
 
 pub reload-spec : {M : Type 1} → statement M
