@@ -62,12 +62,7 @@ fn refuse(refusal: Refusal, entry: &mut usize, place: &mut usize) -> u32
 }
 
 // Tells an answer that is a length in bytes.
-fn tell_stored(
-    answer: Stored,
-    length: &mut usize,
-    entry: &mut usize,
-    place: &mut usize,
-) -> u32
+fn tell_stored(answer: Stored, length: &mut usize, entry: &mut usize, place: &mut usize) -> u32
     ensures { λ r. ⌜ r ≡ storedNumber answer ⌝ }
     ensures { λ _. ⌜ now (length .exit) ≡ storedLength answer (now (length .entry)) ⌝ }
     ensures { λ _. ⌜ now (entry .exit) ≡ storedEntry answer (now (entry .entry)) ⌝ }
@@ -83,12 +78,7 @@ fn tell_stored(
 }
 
 // And one that is a length in bits.
-fn tell_restored(
-    answer: Restored,
-    bits: &mut usize,
-    entry: &mut usize,
-    place: &mut usize,
-) -> u32
+fn tell_restored(answer: Restored, bits: &mut usize, entry: &mut usize, place: &mut usize) -> u32
     ensures { λ r. ⌜ r ≡ restoredNumber answer ⌝ }
     ensures { λ _. ⌜ now (bits .exit) ≡ restoredLength answer (now (bits .entry)) ⌝ }
     ensures { λ _. ⌜ now (entry .exit) ≡ restoredEntry answer (now (entry .entry)) ⌝ }
