@@ -4,21 +4,23 @@ use mathlib.Core.Bool.{false}
 use mathlib.Core.List.{List}
 use Prim.Native.Nat.{ℕ}
 use Rattle.bits.proofs.Tests.{differ}
-use Rattle.promises.specs.Answers.{isOneOf, OneOf}
+use Rattle.promises.specs.Answers.{isOneOf, OneOf, Exactly}
 use Rattle.promises.specs.Retired.{Promise}
 use Rattle.promises.proofs.Calls.{read-kept, write-kept, empty-kept, capture-kept, restore-kept, reload-kept, decide-kept, contents-kept}
 
-not-listed : (ks : List ℕ) → isOneOf ks 10 ≡ false → {k : ℕ} → OneOf ks k → k ≡ 10 → ⊥
-not-listed ks no listed e = differ (sym (subst (OneOf ks) e listed) ∙ no)
+-- a table whose list of numbers does not have 10
+unlisted {ℓ} : {A : Type 0} {number : A → ℕ} {answer : A} {numbers : List ℕ} {Given : A → Type ℓ} → Exactly number answer numbers Given
+    → isOneOf numbers 10 ≡ false → number answer ≡ 10 → ⊥
+unlisted {numbers = numbers} table without e = differ (sym (subst (OneOf numbers) e (table .listed)) ∙ without)
 
 pub promise : Promise
 promise = record {
-  read = λ s n words. not-listed _ refl (read-kept s n words 0 .table .listed);
-  write = λ words out. not-listed _ refl (write-kept words out 0 .table .listed);
-  empty = λ home out. not-listed _ refl (empty-kept home out 0 .table .listed);
-  capture = λ b s n out. not-listed _ refl (capture-kept b s n out 0 0 0 .table .listed);
-  restore = λ b network ssi part out. not-listed _ refl (restore-kept b network ssi part out 0 0 0 .table .listed);
-  reload = λ t b key d out. not-listed _ refl (reload-kept t b key d out 0 0 0 .table .listed);
-  decide = λ b words. not-listed _ refl (decide-kept b words 0 0 0 .table .listed);
-  contents = λ b out. not-listed _ refl (contents-kept b out 0 0 0 .table .listed);
+  read = λ s n words. unlisted (read-kept s n words 0 .table) refl;
+  write = λ words out. unlisted (write-kept words out 0 .table) refl;
+  empty = λ home out. unlisted (empty-kept home out 0 .table) refl;
+  capture = λ b s n out. unlisted (capture-kept b s n out 0 0 0 .table) refl;
+  restore = λ b network ssi part out. unlisted (restore-kept b network ssi part out 0 0 0 .table) refl;
+  reload = λ t b key d out. unlisted (reload-kept t b key d out 0 0 0 .table) refl;
+  decide = λ b words. unlisted (decide-kept b words 0 0 0 .table) refl;
+  contents = λ b out. unlisted (contents-kept b out 0 0 0 .table) refl;
 }

@@ -61,7 +61,7 @@ module _ (l : Lists) where
       (eqb-true _ _ (p .0), are-identities (q .0), are-numbers (q .1))
 
   -- addition and replacement have places for the lists of the part, removal for none
-  by : (t : Target) (few : Bool) → Bool
+  abbrev by : (t : Target) (few : Bool) → Bool
   by t few = standsIn (pick few (partFor t) 0) l
 
   stands-by : (t : Target) (definition : ℕ) → definition ≤ 2 → Stands t definition l → (few : Bool) → leb definition 1 ≡ few → by t few ≡ true

@@ -19,6 +19,7 @@ use Rattle.archive.specs.Keeping.{storedRefusal, over, captured, emptyOut, capt
 use Rattle.archive.specs.Restoring.{restoredRefusal, restoreOut}
 use Rattle.archive.specs.Listing.{listOut}
 use Rattle.archive.specs.Listing as lists
+use Rattle.archive.specs.declared.contents.Key.{Key}
 use Rattle.reload.specs.Define.{defineOf}
 use Rattle.reload.specs.Reload.{recordOf, reloadIs, reloadOut}
 use Rattle.reload.specs.declared.Definition.{Definition}
