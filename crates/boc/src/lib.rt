@@ -134,8 +134,8 @@ pub extern "C" fn boc_empty(home: u32, out: &mut [u8], length: &mut usize) -> u3
     ensures { λ _. ⌜ now (length .exit) ≡ emptyLength home (now (out .entry)) (now (length .entry)) ⌝ }
 {
     match archive::empty(home, out) {
-        Stored::Bytes(n) => {
-            *length = n;
+        Stored::Bytes(bytes) => {
+            *length = bytes;
             0
         },
         Stored::Refused(refusal) => refusal.number,
