@@ -8,7 +8,7 @@ use Rattle.boc.proofs.boc_empty.Tie as tie
 returns : tie.Need-returns
 returns c =
     let call = c .before .before .before .before .before .empty in
-    passed (call .ensures .0) (c .before .n .given .1) storedNumber storedLength _ (call .ensures .1)
+    passed (call .ensures .0) (c .before .bytes .given .1) storedNumber storedLength _ (call .ensures .1)
 
 returns-2 : tie.Need-returns-2
 returns-2 c =
