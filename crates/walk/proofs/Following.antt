@@ -25,7 +25,7 @@ use Rattle.grammar.specs.declared.site.PduType.{PduType}
 use Rattle.grammar.specs.declared.record.Figures.{Figures}
 use Rattle.grammar.proofs.Rows.{no-lists, narrow, figures-seen}
 use Rattle.grammar.proofs.Steps.{services-at, noServices-at, noPart-at}
-use Rattle.walk.specs.Inner.{pass, passing, servicesIn, resultFrom, resultIn, Ends, Finds}
+use Rattle.walk.specs.Inner.{pass, passing, servicesIn, resultFrom, resultBehind, resultIn, Ends, Finds}
 use Rattle.walk.proofs.Passes.{past, pass-places}
 use Rattle.walk.proofs.Results.{pdu-result}
 use Rattle.walk.proofs.Aheads.{ends-as, Holds, in-window, in-front, coded-ends, row-ends}
@@ -100,21 +100,31 @@ module _ (t : PduType) (s : List ℕ) (at : ℕ) {f : Figures} (is : f ≡ figur
             ∙ past (partOf part) l (At (record { at = here + width })) (At (record { at = end })) _ (sym (r .there n few i)));
       }
 
--- SS type, PDU type and affected users before it
-pub pdu-finds : {s : List ℕ} {code m p result end : ℕ} → windowAt s 0 / 2 ^ 51 ≡ ssType → code ≡ windowAt s 0 / 2 ^ 46 % 2 ^ 5 → kindRefusal code ≡ 0
-    → Ends (pass (usersOf (pduType code))) s 11 m p
-    → Finds (λ l. resultFrom (pduType code) l (At (record { at = p }))) s p result end → Finds resultIn s 0 result end
-unfolding resume
-pdu-finds {s} {code} {p = p} marked is legal r f =
+-- the affected users before it
+pub behind-finds : (t : PduType) {s : List ℕ} {m p result end : ℕ} → Ends (pass (usersOf t)) s 11 m p
+    → Finds (λ l. resultFrom t l (At (record { at = p }))) s p result end → Finds (resultBehind t) s 11 result end
+unfolding resultBehind resume
+behind-finds t {s} {p = p} r f =
     let after = r .after in
     let later = f .after in
+    record {
+      after = omega arith;
+      there = λ n few i.
+          past (usersOf t) (bitsIn n s) (At (record { at = 11 })) (At (record { at = p })) _ (sym (r .there n few (omega arith)))
+          ∙ f .there n few i;
+    }
+
+-- SS type and PDU type before that
+pub pdu-finds : {s : List ℕ} {code result end : ℕ} → windowAt s 0 / 2 ^ 51 ≡ ssType → code ≡ windowAt s 0 / 2 ^ 46 % 2 ^ 5 → kindRefusal code ≡ 0
+    → Finds (resultBehind (pduType code)) s 11 result end → Finds resultIn s 0 result end
+unfolding resultBehind resume
+pdu-finds {s} {code} marked is legal f =
+    let after = f .after in
     record {
       after = omega arith;
       there = λ n few i.
           let l : List Bool = bitsIn n s in
           let a = element-got 6 (only ssType) l 0 ssType 6 (in-front s 0 6 51 refl (omega arith) (sym marked) n (omega arith)) refl in
           let b = element-got 5 kindRefusal l 6 code 11 (in-window s 0 6 5 6 refl (omega arith) (omega arith) is n (omega arith)) legal in
-          pdu-result l ∙ rw (a, b)
-          (past (usersOf (pduType code)) l (At (record { at = 11 })) (At (record { at = p })) _ (sym (r .there n few (omega arith)))
-          ∙ f .there n few i);
+          pdu-result l ∙ rw (a, b) (f .there n few i);
     }

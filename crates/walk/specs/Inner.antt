@@ -16,7 +16,7 @@ use Rattle.codec.specs.declared.Reached.{Reached}
 use Rattle.codec.specs.declared.Reached.the-variants as reached
 use Rattle.grammar.specs.SiteSheet.{entriesOf, countRefusal, serviceRefusal, pduType, definedPart}
 use Rattle.grammar.specs.Grammar.{identity, noIdentity, zeroIdentity, rangeEnds, secondEnd, partOf, pdu}
-use Rattle.grammar.specs.Rows.{formOf, partIn, figuresOf, servicesOf}
+use Rattle.grammar.specs.Rows.{formOf, partIn, figuresOf, usersOf, servicesOf}
 use Rattle.grammar.specs.declared.site.PduType.{PduType}
 use Rattle.grammar.specs.declared.record.Identity.{Identity}
 use Rattle.grammar.specs.declared.record.Figures.{Figures}
@@ -80,6 +80,10 @@ definedFrom c part l start = resume start (λ at. andNext (readAt c l at) (λ f 
 unfoldable pub resultFrom : PduType → List Bool → Reached → Found ℕ
 resultFrom t l start = resume start (λ at. andNext (readAt (figuresOf t) l at) (λ f p. andNext (readAt (servicesOf t) l p) (λ s q.
     andNext (readAt (partOf (partIn t f)) l q) (λ lists end. got (f .result) end))))
+
+-- the same from the affected users on, which begin at bit 11
+unfoldable pub resultBehind : PduType → List Bool → Found ℕ
+resultBehind t l = andNext (readAt (usersOf t) l 11) (λ affected p. resultFrom t l (reached.At (record { at = p })))
 
 -- the interrogation result of the PDU l
 unfoldable pub resultIn : List Bool → Found ℕ

@@ -17,7 +17,7 @@ ghost use Rattle.grammar.specs.Grammar.{identity, identities, external, externa
 ghost use Rattle.grammar.specs.Rows.{formOf, usersIf};
 ghost use Rattle.grammar.specs.declared.site.ListKind.the-variants as of;
 ghost use Rattle.codec.specs.declared.Reached.the-variants as reached;
-ghost use Rattle.walk.specs.Inner.{pass, steps, range, coded, passing, servicesIn, resultFrom, resultIn, Ends, Finds};
+ghost use Rattle.walk.specs.Inner.{pass, steps, range, coded, passing, servicesIn, resultFrom, resultBehind, resultIn, Ends, Finds};
 
 // So far beyond its start that no PDU has it, a part ends that is not legal.
 const BEYOND: usize = 4097;
@@ -273,7 +273,17 @@ fn rest_ahead(s: &[u8], start: usize, kind: PduType, form: Form) -> Ahead
     }
 }
 
-// The whole of a PDU.
+// What follows SS type and PDU type.
+fn behind_type(s: &[u8], first: u64, kind: PduType) -> Ahead
+    requires { ⌜ first ≡ windowAt (now s) 0 ⌝ }
+    ensures { λ r. ⌜ Finds (resultBehind kind) (now (s .entry)) 11 (r .result) (r .end) ⌝ }
+{
+    let form = figures::form_of(kind);
+    let users = users_ahead(s, first, form.users);
+    rest_ahead(s, users, kind, form)
+}
+
+// The whole of a PDU; that it is an INTERROGATE ACK, as all in an archive are, is seen first.
 pub(crate) fn pdu_ahead(s: &[u8]) -> Ahead
     ensures { λ r. ⌜ Finds resultIn (now (s .entry)) 0 (r .result) (r .end) ⌝ }
 {
@@ -282,13 +292,13 @@ pub(crate) fn pdu_ahead(s: &[u8]) -> Ahead
         return beyond(0);
     }
     let code = ((first >> 46u32) % 32) as u32;
+    if code == 12 {
+        return behind_type(s, first, PduType::InterrogateAck);
+    }
     if site::kind_refusal(code) != 0 {
         return beyond(0);
     }
-    let kind = site::pdu_type(code);
-    let form = figures::form_of(kind);
-    let users = users_ahead(s, first, form.users);
-    rest_ahead(s, users, kind, form)
+    behind_type(s, first, site::pdu_type(code))
 }
 
 // The same for fewer than eight bytes, with zeros after them. Apart, so that in the walk of more bytes no window has to look for so few.
