@@ -38,6 +38,8 @@
  *
  * Archive. An archive is exactly the bytes that were written: lend the first N bytes of the buffer, where N is the
  * length that boc_empty or boc_capture gave. One byte more or less is no archive and gives BOC_ARCHIVE.
+ * It has no checksum: a changed bit that leaves a legal PDU of the same user passes every check. Keep a hash beside the
+ * file, and look at it before use.
  */
 #ifndef BOC_H
 #define BOC_H
@@ -273,6 +275,7 @@ uint32_t boc_empty(uint32_t home, uint8_t *out, size_t out_len, size_t *length);
 /*
  * Writes to the front of `out` the archive that holds the PDU of `bits` bits in `pdu` too, and its length in bytes to
  * `length`. A PDU that was held for the same user and part is replaced, and its room is used again.
+ * `out` is a second buffer: it may not be the one that `archive` stands in.
  * Refuses, in this order: BOC_ARCHIVE; what boc_read refuses of the PDU, BOC_FRAME to BOC_LEFT; BOC_UNFIT unless it is
  * an INTERROGATE ACK with range type 1 for affected users and with identities or numbers as its result; BOC_ROOM. Where
  * the PDU is refused, `place` is one in it, and there is no entry.
