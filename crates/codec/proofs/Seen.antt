@@ -7,7 +7,7 @@ use native.Mathlib.Omega.{arith}
 use Rattle.bits.proofs.Tests.{never}
 use Rattle.codec.specs.Codec.{Codec}
 use Rattle.codec.specs.Parts.{first-none, numberFault, number, absent, element, seq, tested, shaped}
-use Rattle.codec.specs.Reading.{Found, got, refused, andNext, unlessAt, readAt}
+use Rattle.codec.specs.Reading.{got, refused, readAt}
 use Rattle.codec.proofs.Reading.{readAt-absent, readAt-seq, readAt-shaped, readAt-tested}
 use Rattle.codec.proofs.Onward.{element-got}
 

@@ -1,7 +1,7 @@
 -- Each table is its row; and the figures of each type: where they stand in a window, as a run of bits, and when they are refused. Assumes nothing.
-use mathlib.Core.Path.{_≡_, refl, sym, ap, ap₂, _∙_}
+use mathlib.Core.Path.{_≡_, refl, sym, ap, _∙_}
 use mathlib.Core.Bool.{Bool, true, false, _&&_}
-use mathlib.Core.List.{List, [], _++_, append-nil, append-assoc}
+use mathlib.Core.List.{List, _++_, append-nil, append-assoc}
 use Prim.Native.Nat.{ℕ, zero, suc, _+_, _-_, _*_, _/_, _%_, _^_, _≤_, _<_}
 use native.Mathlib.Nat.{add-zero}
 use native.Mathlib.Omega.{arith}
@@ -21,8 +21,8 @@ use Rattle.codec.specs.Reading.{Found, got, readAt}
 use Rattle.codec.proofs.Windows.{number-in-window}
 use Rattle.codec.proofs.Seen.{Seen, read, seen-number, seen-element, seen-absent, seen-seq, seen-shaped}
 use Rattle.grammar.specs.SiteSheet.{askedRefusal, resultRefusal, acknowledgementRefusal, definitionRefusal, definedRefusal, distributedRefusal}
-use Rattle.grammar.specs.SiteSheet.{causeRefusal, between, reserved}
-use Rattle.grammar.specs.Grammar.{Three, none, toFigures, fromFigures, figures, Rest, restOf, tables}
+use Rattle.grammar.specs.SiteSheet.{causeRefusal, between}
+use Rattle.grammar.specs.Grammar.{Three, none, toFigures, figures, restOf, tables}
 use Rattle.grammar.specs.Rows.{formOf, partIn, figuresOf, rowed, widthOf, figuresIn, definitionIn, userDefinitionIn}
 use Rattle.grammar.specs.Rows.{definitionRun, runOf}
 use Rattle.grammar.specs.declared.site.PduType.{PduType}

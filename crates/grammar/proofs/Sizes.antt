@@ -1,5 +1,4 @@
 -- How long a part of a PDU can be: the sum of what its elements can be. Assumes nothing.
-use mathlib.Core.Path.{_≡_}
 use mathlib.Core.List.{_++_}
 use Prim.Native.Nat.{ℕ, _+_, _≤_}
 use native.Mathlib.Omega.{arith}

@@ -1,6 +1,6 @@
 -- Figures and services are one run of bits, with the lists behind it; without services the figures are all. Assumes nothing.
-use mathlib.Core.Path.{_≡_, refl, sym, ap, ap₂, _∙_}
-use mathlib.Core.Bool.{Bool, true, false}
+use mathlib.Core.Path.{_≡_, sym, ap, ap₂, _∙_}
+use mathlib.Core.Bool.{true, false}
 use mathlib.Core.List.{List, _++_, append-nil}
 use Prim.Native.Nat.{ℕ, _+_, _-_, _/_, _%_, _^_, _≤_}
 use native.Mathlib.Omega.{arith}
@@ -10,7 +10,7 @@ use Rattle.bits.specs.Bits.{bitsOf}
 use Rattle.bits.proofs.Numbers.{length-bitsOf, bitsOf-add, bitsOf-mod}
 use Rattle.codec.specs.Parts.{number, seq}
 use Rattle.grammar.specs.Grammar.{services, partOf, noPart, fromRecord}
-use Rattle.grammar.specs.Rows.{formOf, partIn, figuresOf, servicesOf, widthOf, runOf}
+use Rattle.grammar.specs.Rows.{formOf, partIn, figuresOf, widthOf, runOf}
 use Rattle.grammar.specs.declared.site.PduType.{PduType}
 use Rattle.grammar.proofs.Rows.{no-lists, narrow, figures-print}
 use Rattle.grammar.proofs.Sizes.{size-noServices, size-noPart}

@@ -9,7 +9,7 @@ use Rattle.grammar.specs.Zero.{zeroIdentities}
 use Rattle.grammar.specs.declared.site.ListKind.the-variants as of
 use Rattle.grammar.proofs.Steps.{noIdentities-at}
 use Rattle.walk.proofs.Passes.{pass-nothing}
-use Rattle.walk.proofs.Aheads.{off, ends-as, in-window}
+use Rattle.walk.proofs.Aheads.{off, in-window}
 use Rattle.walk.proofs.Sights.{legal-code, list-ends}
 use Rattle.walk.proofs.ahead.users_ahead.Statement.{statement}
 use Rattle.walk.proofs.ahead.users_ahead.Tie as tie
