@@ -7,4 +7,5 @@ pub mod Ending
 pub mod Rows
 pub mod Aheads
 pub mod Sights
+pub mod Empties
 pub mod Following

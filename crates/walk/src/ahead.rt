@@ -178,15 +178,22 @@ fn externals_ahead(s: &[u8], start: usize) -> usize
     numbers_ahead(s, start + 4, code)
 }
 
-// The lists of a part.
+// The lists of a part; that all three are empty is seen first, in one window.
 fn part_ahead(s: &[u8], start: usize, part: u32) -> usize
     requires { ⌜ start ≤ 100000 ⌝ }
     ensures { λ r. ⌜ Ends (pass (partOf part)) (now (s .entry)) start 69661 r ⌝ }
 {
+    let codes = bits::window(s, start) >> 45u32;
     if part == 1 {
+        if codes == 0 {
+            return start + 12;
+        }
         return list_ahead(s, list_ahead(s, list_ahead(s, start)));
     }
     if part == 2 {
+        if codes == 0 {
+            return start + 12;
+        }
         return externals_ahead(s, externals_ahead(s, list_ahead(s, start)));
     }
     start
@@ -230,7 +237,7 @@ fn beyond(start: usize) -> Ahead
     }
 }
 
-// The affected users, where the PDU has them: their range type stands in its first window.
+// The affected users, where the PDU has them: their range type stands in its first window. One user, as in an archive, is seen first.
 fn users_ahead(s: &[u8], first: u64, users: bool) -> usize
     requires { ⌜ first ≡ windowAt (now s) 0 ⌝ }
     ensures { λ r. ⌜ Ends (pass (usersIf users)) (now (s .entry)) 11 4101 r ⌝ }
@@ -239,6 +246,9 @@ fn users_ahead(s: &[u8], first: u64, users: bool) -> usize
         return 11;
     }
     let code = ((first >> 42u32) % 16) as u32;
+    if code == 1 {
+        return mixed_ahead(s, 15, 1);
+    }
     if site::range_refusal(ListKind::Users, code) != 0 {
         return 11 + BEYOND;
     }

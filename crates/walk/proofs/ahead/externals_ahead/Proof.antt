@@ -3,23 +3,16 @@ use mathlib.Core.Path.{refl, sym, ap, _∙_}
 use Prim.Native.Nat.{ℕ, _/_, _^_}
 use native.Mathlib.Omega.{arith}
 use borrow.Author.Needs.{needs}
-use Rattle.grammar.specs.SiteSheet.{rangeType, rangeRefusal}
-use Rattle.grammar.specs.Grammar.{external}
-use Rattle.grammar.specs.declared.site.ListKind.the-variants as of
-use Rattle.walk.specs.Inner.{pass}
-use Rattle.walk.proofs.Aheads.{off, ends-as, ends-empty, in-front}
+use Rattle.walk.proofs.Aheads.{off, in-front}
 use Rattle.walk.proofs.Sights.{single-code, externals-end}
+use Rattle.walk.proofs.Empties.{no-numbers}
 use Rattle.walk.proofs.ahead.externals_ahead.Statement.{statement}
 use Rattle.walk.proofs.ahead.externals_ahead.Tie as tie
 
 returns : tie.Need-returns
-unfolding rangeType rangeRefusal
 returns c =
     let w = c .before in
-    let e = c .if1 .taken in
-    ends-as (λ l r. refl) (omega arith)
-    (externals-end (in-front _ _ 4 53 refl (omega arith) (ap (λ (w : ℕ). w / 2 ^ 53) (w .window .ensures)))
-    (ap (rangeRefusal of.Numbers) e) (ends-empty (pass external) _ _ e))
+    no-numbers (c .if1 .taken) (in-front _ _ 4 53 refl (omega arith) (ap (λ (w : ℕ). w / 2 ^ 53) (w .window .ensures))) (omega arith)
 
 returns-3 : tie.Need-returns-3
 returns-3 c =

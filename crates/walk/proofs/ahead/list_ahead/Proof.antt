@@ -3,23 +3,17 @@ use mathlib.Core.Path.{refl, sym, ap, _∙_}
 use Prim.Native.Nat.{ℕ, _/_, _^_}
 use native.Mathlib.Omega.{arith}
 use borrow.Author.Needs.{needs}
-use Rattle.grammar.specs.SiteSheet.{rangeType, rangeRefusal}
-use Rattle.grammar.specs.Grammar.{identity}
 use Rattle.grammar.specs.declared.site.ListKind.the-variants as of
-use Rattle.walk.specs.Inner.{pass}
-use Rattle.walk.proofs.Aheads.{off, ends-as, ends-empty, in-front}
-use Rattle.walk.proofs.Sights.{legal-code, singles-end, list-ends}
+use Rattle.walk.proofs.Aheads.{off, in-front}
+use Rattle.walk.proofs.Sights.{legal-code, list-ends}
+use Rattle.walk.proofs.Empties.{no-identities}
 use Rattle.walk.proofs.ahead.list_ahead.Statement.{statement}
 use Rattle.walk.proofs.ahead.list_ahead.Tie as tie
 
 returns : tie.Need-returns
-unfolding rangeType rangeRefusal
 returns c =
     let w = c .before in
-    let e = c .if1 .taken in
-    ends-as (λ l r. refl) (omega arith)
-    (list-ends of.Identities (in-front _ _ 4 53 refl (omega arith) (ap (λ (w : ℕ). w / 2 ^ 53) (w .window .ensures)))
-    (ap (rangeRefusal of.Identities) e) (singles-end {k = 0} (omega arith) (omega arith) (ends-empty (pass identity) _ _ e)))
+    no-identities (c .if1 .taken) (in-front _ _ 4 53 refl (omega arith) (ap (λ (w : ℕ). w / 2 ^ 53) (w .window .ensures))) (omega arith)
 
 returns-3 : tie.Need-returns-3
 returns-3 c =
