@@ -1,7 +1,8 @@
 /*
  * A gateway in small: captures what the switch answered for user 1/5, an identity part and a number part, restores
- * both, compares them bit for bit, reloads them as a DEFINE and a DEFINE EXTERNAL, decides calls, and tells where a
- * damaged PDU and a damaged archive are at fault. Ends with status 0 exactly if all is as it must be.
+ * both, compares them bit for bit, captures one again on a later day, reloads them as a DEFINE and a DEFINE EXTERNAL,
+ * decides calls, and tells where a damaged PDU and a damaged archive are at fault. Ends with status 0 exactly if all is
+ * as it must be.
  */
 #include <stdio.h>
 #include <string.h>
@@ -9,6 +10,9 @@
 #include "boc.h"
 
 enum { HOME = 1, USER = 5 };
+
+/* The days of the captures. A gateway would take today's, such as time(NULL) / 86400: days since 1970-01-01. */
+enum { DAY = 300, NEXT_DAY, LATER_DAY = 304 };
 
 /* A PDU: its bits, and the bytes that hold them. */
 struct pdu {
@@ -75,11 +79,11 @@ static int make_number_part(struct pdu *pdu)
 }
 
 /* The archive with a PDU too becomes the current one, unless the PDU is refused. */
-static uint32_t offer(const struct pdu *pdu, struct spot *spot)
+static uint32_t offer(const struct pdu *pdu, uint32_t day, struct spot *spot)
 {
     int next = 1 - store.current;
     uint32_t number = boc_capture(store.buffers[store.current], store.length, pdu->bytes, bytes_for(pdu->bits),
-                                  pdu->bits, store.buffers[next], BOC_ARCHIVE_BYTES, &store.length, &spot->entry,
+                                  pdu->bits, day, store.buffers[next], BOC_ARCHIVE_BYTES, &store.length, &spot->entry,
                                   &spot->place);
 
     if (number == BOC_OK)
@@ -87,32 +91,47 @@ static uint32_t offer(const struct pdu *pdu, struct spot *spot)
     return number;
 }
 
-static int capture(const struct pdu *pdu)
+static int capture(const struct pdu *pdu, uint32_t day)
 {
     struct spot spot;
 
-    if (refused("capture", offer(pdu, &spot), &spot))
+    if (refused("capture", offer(pdu, day, &spot), &spot))
         return 1;
-    printf("captured %zu bits, archive %zu bytes\n", pdu->bits, store.length);
+    printf("captured %zu bits, day %u, archive %zu bytes\n", pdu->bits, (unsigned)day, store.length);
     return 0;
 }
 
-static int restore_and_compare(uint32_t part, const struct pdu *captured)
+static int restore_and_compare(uint32_t part, const struct pdu *captured, uint32_t captured_on)
 {
     struct pdu back = {0};
     struct spot spot;
+    uint32_t day;
 
     if (refused("restore",
                 boc_restore(store.buffers[store.current], store.length, HOME, USER, part, back.bytes,
-                            sizeof back.bytes, &back.bits, &spot.entry, &spot.place),
+                            sizeof back.bytes, &back.bits, &day, &spot.entry, &spot.place),
                 &spot))
         return 1;
-    if (back.bits != captured->bits || memcmp(back.bytes, captured->bytes, bytes_for(back.bits)) != 0) {
+    if (back.bits != captured->bits || memcmp(back.bytes, captured->bytes, bytes_for(back.bits)) != 0 ||
+        day != captured_on) {
         printf("restored part %u: differs\n", (unsigned)part);
         return 1;
     }
-    printf("restored part %u: %zu bits, the same\n", (unsigned)part, back.bits);
+    printf("restored part %u: %zu bits, day %u, the same\n", (unsigned)part, back.bits, (unsigned)day);
     return 0;
+}
+
+/* A second look at the identity part, which has not changed: the archive is the same but for two bytes, its day. */
+static int look_again(void)
+{
+    enum { FIRST_DAY = 14, AFTER_FIRST_DAY = 16 };
+    const uint8_t *before = store.buffers[store.current], *after = store.buffers[1 - store.current];
+    size_t length = store.length;
+
+    if (capture(&identity_part, LATER_DAY) || restore_and_compare(BOC_IDENTITY_PART, &identity_part, LATER_DAY))
+        return 1;
+    return store.length != length || memcmp(before, after, FIRST_DAY) != 0 ||
+           memcmp(before + AFTER_FIRST_DAY, after + AFTER_FIRST_DAY, length - AFTER_FIRST_DAY) != 0;
 }
 
 /* A part as a PDU of this type that replaces what the switch has; the user is told and acknowledges it. */
@@ -242,7 +261,7 @@ static int offer_damaged(void)
     uint32_t number;
 
     damaged.bytes[5] ^= 0x01;
-    number = offer(&damaged, &spot);
+    number = offer(&damaged, LATER_DAY, &spot);
     refused("capture, damaged", number, &spot);
     return number != BOC_VALUE || spot.entry != BOC_NOWHERE || spot.place != 45;
 }
@@ -268,11 +287,12 @@ int main(void)
 
     if (refused("empty", boc_empty(HOME, store.buffers[0], BOC_ARCHIVE_BYTES, &store.length), NULL))
         return 1;
-    if (capture(&identity_part) || decide_number("112", BOC_PART_NOT_HELD))
+    if (capture(&identity_part, DAY) || decide_number("112", BOC_PART_NOT_HELD))
         return 1;
-    if (make_number_part(&number_part) || capture(&number_part) || list())
+    if (make_number_part(&number_part) || capture(&number_part, NEXT_DAY) || list())
         return 1;
-    if (restore_and_compare(BOC_IDENTITY_PART, &identity_part) || restore_and_compare(BOC_NUMBER_PART, &number_part))
+    if (restore_and_compare(BOC_IDENTITY_PART, &identity_part, DAY) ||
+        restore_and_compare(BOC_NUMBER_PART, &number_part, NEXT_DAY) || look_again())
         return 1;
     if (reload_and_compare(BOC_IDENTITY_PART, &identity_part, BOC_DEFINE) || reload_numbers() ||
         reload_and_compare(BOC_NUMBER_PART, &number_part, BOC_DEFINE_EXTERNAL))

@@ -3,9 +3,9 @@
  * in an archive, restores them, reloads them as DEFINEs or DEFINE EXTERNALs, and decides calls from them.
  * Link libboc.a.
  *
- * Every function returns 0, or the number of a refusal (enum boc_refusal). What it answers besides, a length or a
- * decision, goes through `length`, `bits` or `decision`. A refused call changes no byte of any buffer and leaves what
- * is behind that pointer as it was; an accepted one leaves the bytes after what it wrote.
+ * Every function returns 0, or the number of a refusal (enum boc_refusal). What it answers besides, a length, a day or
+ * a decision, goes through `length`, `bits`, `day` or `decision`. A refused call changes no byte of any buffer and
+ * leaves what is behind these pointers as it was; an accepted one leaves the bytes after what it wrote.
  *
  * Where it stopped. `place` is the place of a bit in a PDU and `entry` the index of an entry in an archive, both from
  * 0. A refused call writes those of the two that it has, BOC_NOWHERE where the refusal brings none; an accepted one
@@ -22,8 +22,8 @@
  *
  * Buffers. A buffer is a pointer and a length, in bytes or in words of 32 bits. The pointer is valid for that length
  * and aligned for its type; at length 0 it may be any pointer, NULL included, for nothing is read or written through
- * it. The pointers to a single number, through which lengths, decisions, entries and places go, are never NULL, whether
- * the call will be refused or not. What a call writes may not overlap anything else that it is lent.
+ * it. The pointers to a single number, through which lengths, days, decisions, entries and places go, are never NULL,
+ * whether the call will be refused or not. What a call writes may not overlap anything else that it is lent.
  *
  * At the same time. Nothing is allocated, no operating system is called, and nothing is kept between calls or shared by
  * them. Calls may run at the same time on one archive, PDU, record or request, as long as nobody changes it; what a
@@ -38,8 +38,12 @@
  *
  * Archive. An archive is exactly the bytes that were written: lend the first N bytes of the buffer, where N is the
  * length that boc_empty or boc_capture gave. One byte more or less is no archive and gives BOC_ARCHIVE.
- * It has no checksum: a changed bit that leaves a legal PDU of the same user passes every check. Keep a hash beside the
- * file, and look at it before use.
+ * It has no checksum: a changed bit that leaves a legal PDU of the same user, or changes its day, passes every check.
+ * Keep a hash beside the file, and look at it before use.
+ *
+ * Day. A PDU is captured under a day, a number of at most 65,535 that tells how old it is, and is restored and listed
+ * with it. Nothing else depends on it. What it counts from is the caller's business; days since 1970-01-01, which reach
+ * to 2149-06-06, are recommended.
  */
 #ifndef BOC_H
 #define BOC_H
@@ -62,7 +66,7 @@ enum boc_refusal {
     BOC_UNFIT = 6,     /* a legal PDU that no archive entry may hold */
     BOC_ARCHIVE = 7,   /* the archive breaks a rule */
     BOC_ROOM = 8,      /* a new key with 512 held, or the result exceeds 65,536 bytes or the lent buffer */
-    BOC_RANGE = 9,     /* a request, user, part, definition, home network or count of words out of its range */
+    BOC_RANGE = 9,     /* a request, user, part, definition, home network, day or count of words out of its range */
     BOC_NOT_HELD = 11, /* restore, reload: not held */
     BOC_LOSS = 12      /* reload: a held list that is not empty has no place in the PDU */
 };
@@ -75,8 +79,9 @@ enum boc_limits {
     BOC_PDU_BYTES = 307,          /* the longest PDU that is read or written, 2,456 bits */
     BOC_ARCHIVE_BYTES = 65536,    /* the longest archive */
     BOC_ARCHIVE_ENTRIES = 512,    /* the most entries of an archive */
-    BOC_CONTENTS_BYTES = 17946,   /* no listing is longer: 26 bytes, and 35 for each entry */
+    BOC_CONTENTS_BYTES = 23066,   /* no listing is longer: 26 bytes, and 45 for each entry */
     BOC_NETWORK_LIMIT = 16777216, /* networks and SSIs are below this */
+    BOC_DAY_LIMIT = 65536,        /* days are below this */
     BOC_LIST_PLACES = 8,          /* entries of a list */
     BOC_DIGIT_PLACES = 24,        /* digits of an external number */
     BOC_SERVICE_PLACES = 7        /* services of a record */
@@ -273,23 +278,25 @@ uint32_t boc_write(const uint32_t *record, size_t record_words, uint8_t *out, si
 uint32_t boc_empty(uint32_t home, uint8_t *out, size_t out_len, size_t *length);
 
 /*
- * Writes to the front of `out` the archive that holds the PDU of `bits` bits in `pdu` too, and its length in bytes to
- * `length`. A PDU that was held for the same user and part is replaced, and its room is used again.
+ * Writes to the front of `out` the archive that holds the PDU of `bits` bits in `pdu` too, under this day, and its
+ * length in bytes to `length`. A PDU that was held for the same user and part is replaced, whatever its day, and its
+ * room is used again; if it is the same PDU, nothing but the two bytes of its day changes.
  * `out` is a second buffer: it may not be the one that `archive` stands in.
- * Refuses, in this order: BOC_ARCHIVE; what boc_read refuses of the PDU, BOC_FRAME to BOC_LEFT; BOC_UNFIT unless it is
- * an INTERROGATE ACK with range type 1 for affected users and with identities or numbers as its result; BOC_ROOM. Where
- * the PDU is refused, `place` is one in it, and there is no entry.
+ * Refuses, in this order: BOC_RANGE for a day of 65,536 or more; BOC_ARCHIVE; what boc_read refuses of the PDU,
+ * BOC_FRAME to BOC_LEFT; BOC_UNFIT unless it is an INTERROGATE ACK with range type 1 for affected users and with
+ * identities or numbers as its result; BOC_ROOM. Where the PDU is refused, `place` is one in it, and there is no entry.
  */
 uint32_t boc_capture(const uint8_t *archive, size_t archive_len, const uint8_t *pdu, size_t pdu_len, size_t bits,
-                     uint8_t *out, size_t out_len, size_t *length, size_t *entry, size_t *place);
+                     uint32_t day, uint8_t *out, size_t out_len, size_t *length, size_t *entry, size_t *place);
 
 /*
- * Writes the PDU held for a user and part (enum boc_part) to the front of `out`, and its length in bits to `bits`.
+ * Writes the PDU held for a user and part (enum boc_part) to the front of `out`, its length in bits to `bits`, and the
+ * day under which it was captured to `day`.
  * Refuses, in this order: BOC_RANGE for a network or SSI of 16,777,216 or more, or a part other than the two;
  * BOC_ARCHIVE; BOC_NOT_HELD; BOC_ROOM.
  */
 uint32_t boc_restore(const uint8_t *archive, size_t archive_len, uint32_t network, uint32_t ssi, uint32_t part,
-                     uint8_t *out, size_t out_len, size_t *bits, size_t *entry, size_t *place);
+                     uint8_t *out, size_t out_len, size_t *bits, uint32_t *day, size_t *entry, size_t *place);
 
 /*
  * Writes the part held for a user to the front of `out` as a DEFINE, and its length in bits to `bits`: the affected
@@ -325,7 +332,7 @@ uint32_t boc_decide(const uint8_t *archive, size_t archive_len, const uint32_t *
 
 /*
  * Writes the listing of an archive to the front of `out` as text with no zero byte at its end, and its length in bytes
- * to `length`: `home H entries N`, then for each entry `NETWORK SSI part P bits B`, each on a line, in decimal.
+ * to `length`: `home H entries N`, then for each entry `NETWORK SSI part P bits B day D`, each on a line, in decimal.
  * Refuses, in this order: BOC_ARCHIVE; BOC_ROOM.
  */
 uint32_t boc_contents(const uint8_t *archive, size_t archive_len, uint8_t *out, size_t out_len, size_t *length,

@@ -21,6 +21,7 @@ enum { TOP = BOC_NETWORK_LIMIT - 1, DIGIT = 2 };
 
 /* What the calls are lent. */
 static uint32_t record[BOC_RECORD_WORDS], request[BOC_REQUEST_WORDS], user, part, definition, home, decision;
+static uint32_t day = BOC_DAY_LIMIT - 1, found_day;
 static uint8_t pdu[BOC_PDU_BYTES + 1], archive[BOC_ARCHIVE_BYTES + 1], out[BOC_ARCHIVE_BYTES];
 static size_t bits, archive_len, room = sizeof out, number, at_entry, at_place;
 
@@ -37,11 +38,12 @@ static uint32_t writes(void) { return boc_write(record, BOC_RECORD_WORDS, out, r
 static uint32_t empties(void) { return boc_empty(home, out, room, &number); }
 static uint32_t captures(void)
 {
-    return boc_capture(archive, archive_len, pdu, bytes_for(bits), bits, out, room, &number, &at_entry, &at_place);
+    return boc_capture(archive, archive_len, pdu, bytes_for(bits), bits, day, out, room, &number, &at_entry,
+                       &at_place);
 }
 static uint32_t restores(void)
 {
-    return boc_restore(archive, archive_len, TOP, user, part, out, room, &number, &at_entry, &at_place);
+    return boc_restore(archive, archive_len, TOP, user, part, out, room, &number, &found_day, &at_entry, &at_place);
 }
 static uint32_t reloads(void)
 {
@@ -290,6 +292,9 @@ static void read_each_way(const struct kind *kind, uint32_t captured)
         expect(CAPTURE, BOC_ROOM);
         room = sizeof out;
     }
+    day++;
+    expect(CAPTURE, BOC_RANGE);
+    day--;
     spoil(pdu, bits);
     read_and_capture(kind->of_pdu, captured);
     memcpy(pdu, whole, sizeof pdu);
@@ -360,7 +365,7 @@ static struct kind shorter(const struct kind *kind, int digits)
 /* The bytes that an entry of this kind takes. */
 static size_t room_for(const struct kind *kind)
 {
-    enum { ENTRY = 9 };
+    enum { ENTRY = 11 };
 
     prepare(kind, 1, TOP);
     encode();
@@ -368,8 +373,8 @@ static size_t room_for(const struct kind *kind)
 }
 
 /*
- * The archive of 512 entries with the longest listing: home network, networks and SSIs of eight digits, and bit
- * lengths of four for as many of the last entries as there is room for. The last of all has this kind.
+ * The archive of 512 entries with the longest listing: home network, networks and SSIs of eight digits, days of five,
+ * and bit lengths of four for as many of the last entries as there is room for. The last of all has this kind.
  */
 static void make_many(const struct kind *kind)
 {
@@ -452,6 +457,7 @@ static void ask_each_way(const struct kind *kind)
     user = TOP;
     part = held;
     expect(RESTORE, BOC_OK);
+    same("the day", found_day, day);
     room = bytes_for(number) - 1;
     expect(RESTORE, BOC_ROOM);
     room = sizeof out;

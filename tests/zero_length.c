@@ -8,7 +8,7 @@
 
 #include "boc.h"
 
-enum { HOME = 1, USER = 5, ROOM = 64 };
+enum { HOME = 1, USER = 5, DAY = 300, ROOM = 64 };
 
 /* Profile A of the user as a PDU. */
 static const uint8_t pdu[] = {0x49, 0x82, 0x00, 0x00, 0x0a, 0x21, 0x21, 0x20, 0x00,
@@ -37,7 +37,7 @@ static void lend(void *none)
     uint32_t record[BOC_RECORD_WORDS], barred[BOC_RECORD_WORDS];
     uint32_t request[BOC_REQUEST_WORDS] = {HOME, USER, BOC_SERVICE_SPEECH, BOC_TO_IDENTITY};
     uint8_t empty[ROOM], archive[ROOM], both[ROOM], out[ROOM];
-    uint32_t decision;
+    uint32_t decision, day;
     size_t empty_len, archive_len, both_len, n, entry, place;
 
     expect("boc_read", boc_read(pdu, sizeof pdu, bits, record, BOC_RECORD_WORDS, &place), BOC_OK);
@@ -58,19 +58,23 @@ static void lend(void *none)
     expect("boc_empty, no buffer", boc_empty(HOME, none, 0, &n), BOC_ROOM);
 
     expect("boc_capture",
-           boc_capture(empty, empty_len, pdu, sizeof pdu, bits, archive, sizeof archive, &archive_len, &entry, &place),
+           boc_capture(empty, empty_len, pdu, sizeof pdu, bits, DAY, archive, sizeof archive, &archive_len, &entry,
+                       &place),
            BOC_OK);
     expect("boc_capture, no archive",
-           boc_capture(none, 0, pdu, sizeof pdu, bits, out, sizeof out, &n, &entry, &place), BOC_ARCHIVE);
+           boc_capture(none, 0, pdu, sizeof pdu, bits, DAY, out, sizeof out, &n, &entry, &place), BOC_ARCHIVE);
     expect("boc_capture, no bytes",
-           boc_capture(empty, empty_len, none, 0, 0, out, sizeof out, &n, &entry, &place), BOC_SHORT);
+           boc_capture(empty, empty_len, none, 0, 0, DAY, out, sizeof out, &n, &entry, &place), BOC_SHORT);
     expect("boc_capture, no buffer",
-           boc_capture(empty, empty_len, pdu, sizeof pdu, bits, none, 0, &n, &entry, &place), BOC_ROOM);
+           boc_capture(empty, empty_len, pdu, sizeof pdu, bits, DAY, none, 0, &n, &entry, &place), BOC_ROOM);
+    expect("boc_capture, nothing, and a day out of range",
+           boc_capture(none, 0, none, 0, 0, BOC_DAY_LIMIT, none, 0, &n, &entry, &place), BOC_RANGE);
 
     expect("boc_restore, no archive",
-           boc_restore(none, 0, HOME, USER, BOC_IDENTITY_PART, out, sizeof out, &n, &entry, &place), BOC_ARCHIVE);
+           boc_restore(none, 0, HOME, USER, BOC_IDENTITY_PART, out, sizeof out, &n, &day, &entry, &place), BOC_ARCHIVE);
     expect("boc_restore, no buffer",
-           boc_restore(archive, archive_len, HOME, USER, BOC_IDENTITY_PART, none, 0, &n, &entry, &place), BOC_ROOM);
+           boc_restore(archive, archive_len, HOME, USER, BOC_IDENTITY_PART, none, 0, &n, &day, &entry, &place),
+           BOC_ROOM);
 
     expect("boc_reload",
            boc_reload(archive, archive_len, HOME, USER, BOC_IDENTITY_PART, BOC_REPLACEMENT, 1, 1, out, sizeof out, &n,
@@ -86,8 +90,8 @@ static void lend(void *none)
            BOC_ROOM);
 
     expect("boc_capture, number part",
-           boc_capture(archive, archive_len, number_part, sizeof number_part, number_bits, both, sizeof both, &both_len,
-                       &entry, &place),
+           boc_capture(archive, archive_len, number_part, sizeof number_part, number_bits, DAY, both, sizeof both,
+                       &both_len, &entry, &place),
            BOC_OK);
     expect("boc_reload_external",
            boc_reload_external(both, both_len, HOME, USER, BOC_REMOVAL, 1, 1, out, sizeof out, &n, &entry, &place),

@@ -1,4 +1,4 @@
--- Whatever is offered, restoring gives the last PDU accepted for the user and part, or 11: each capture puts its PDU in or changes nothing.
+-- Whatever is offered, restoring gives the last PDU accepted for the user and part, and its day, or 11: each capture puts its PDU in or changes nothing.
 -- Assumes nothing.
 use mathlib.Core.Path.{_≡_, refl, sym, ap, _∙_, subst}
 use mathlib.Core.Bool.{Bool, true, false}
@@ -10,14 +10,13 @@ use lib.Dec.{leb}
 use borrow.Author.Tests.{le-leb}
 use Rattle.bits.specs.Bits.{pick}
 use Rattle.bits.specs.Frame.{bytesFor}
-use Rattle.bits.specs.declared.BitCount.{BitCount}
 use Rattle.archive.specs.Model.{Held, Archive, inRange}
-use Rattle.archive.specs.Filing.{names}
+use Rattle.archive.specs.Filing.{sameKey}
 use Rattle.archive.specs.Reading.{reading, isArchive}
 use Rattle.archive.specs.Refusals.{plain}
 use Rattle.archive.specs.Keeping.{over, emptyIs, emptyOut, heldFor, captured, captureOut}
 use Rattle.archive.specs.Restoring.{lookup, delivered, bodyOf, restoreIs, restores, restoreOut}
-use Rattle.archive.specs.History.{Offer, keptOf, answerTo, after, afterAll, entryOf, latest, lastAccepted}
+use Rattle.archive.specs.History.{Offer, keptOf, answerTo, after, afterAll, offeredFor, latest, lastAccepted}
 use Rattle.archive.specs.declared.contents.Key.{Key}
 use Rattle.archive.specs.declared.Stored.{Stored}
 use Rattle.archive.specs.declared.Stored.the-variants.{Bytes, Refused}
@@ -32,7 +31,7 @@ use Rattle.archive.proofs.Calls.Empty.{empty-holds}
 -- what is held is the last PDU accepted
 abbrev pub Matches : Option Held → Option Offer → Type 0
 Matches none none = Unit {0}
-Matches (some h) (some o) = (h .body ≡ o .pdu) × (h .entry .bits ≡ record { 0 = o .bits })
+Matches (some h) (some o) = (h .body ≡ o .pdu) × (h .entry .bits ≡ record { 0 = o .bits }) × (h .entry .day ≡ o .day)
 Matches none (some o) = ⊥
 Matches (some h) none = ⊥
 
@@ -41,22 +40,22 @@ module _ (k : Key) (r : inRange k ≡ true) where
   heldIn b = lookup k (reading b .held)
 
   step : (b : List ℕ) (o : Offer) (last : Option Offer) → isArchive b ≡ true → Matches (heldIn b) last
-      → (isArchive (after b o) ≡ true) × (Matches (heldIn (after b o)) (latest (answerTo b o) (names (entryOf b o) k) o last))
+      → (isArchive (after b o) ≡ true) × (Matches (heldIn (after b o)) (latest (answerTo b o) (sameKey (offeredFor b o) k) o last))
   unfolding after
   step b o last ok m = go (answerTo b o) refl
     where
       now : (x : Stored) → List ℕ
-      now x = keptOf x b (captureOut b (o .pdu) (o .bits) (o .lent))
+      now x = keptOf x b (captureOut b (o .pdu) (o .bits) (o .day) (o .lent))
 
-      picked : (p : Bool) {l : Option Held} → l ≡ pick p (some (heldFor (reading b .home) (o .pdu) (o .bits))) (heldIn b) → (n : ℕ)
+      picked : (p : Bool) {l : Option Held} → l ≡ pick p (some (heldFor (reading b .home) (o .pdu) (o .bits) (o .day))) (heldIn b) → (n : ℕ)
           → Matches l (latest (Bytes n) p o last)
-      picked true e n = subst (λ (l : Option Held). Matches l (some o)) (sym e) (refl, refl)
+      picked true e n = subst (λ (l : Option Held). Matches l (some o)) (sym e) (refl, refl, refl)
       picked false e n = subst (λ (l : Option Held). Matches l last) (sym e) m
 
       go : (x : Stored) → answerTo b o ≡ x
-          → (isArchive (now (answerTo b o)) ≡ true) × (Matches (heldIn (now (answerTo b o))) (latest (answerTo b o) (names (entryOf b o) k) o last))
+          → (isArchive (now (answerTo b o)) ≡ true) × (Matches (heldIn (now (answerTo b o))) (latest (answerTo b o) (sameKey (offeredFor b o) k) o last))
       go (Bytes n) e =
-          rw e (new-archive b (o .pdu) (o .bits) n (o .lent) e, picked (names (entryOf b o) k) (held-after b (o .pdu) (o .bits) n (o .lent) e k r) n)
+          rw e (new-archive b (o .pdu) (o .bits) (o .day) n (o .lent) e, picked (sameKey (offeredFor b o) k) (held-after b (o .pdu) (o .bits) (o .day) n (o .lent) e k r) n)
       go (Refused k) e = rw e (ok, m)
 
   steps : (b : List ℕ) (os : List Offer) (last : Option Offer) → isArchive b ≡ true → Matches (heldIn b) last
@@ -65,14 +64,14 @@ module _ (k : Key) (r : inRange k ≡ true) where
   steps b [] last ok m = (ok, m)
   steps b (o ∷ os) last ok m =
       let s = step b o last ok m in
-      steps (after b o) os (latest (answerTo b o) (names (entryOf b o) k) o last) (s .0) (s .1)
+      steps (after b o) os (latest (answerTo b o) (sameKey (offeredFor b o) k) o last) (s .0) (s .1)
 
 -- ---- what restoring gives
 
--- of the last PDU accepted: its bits, or 11 if there was none
+-- of the last PDU accepted: its bits and its day, or 11 if there was none
 abbrev pub givenOf : Option Offer → ℕ → Restored
 givenOf none room = restored.Refused (plain 11)
-givenOf (some o) room = pick (leb (bytesFor (o .bits)) room) (restored.Bits (record { 0 = o .bits })) (restored.Refused (plain 8))
+givenOf (some o) room = pick (leb (bytesFor (o .bits)) room) (restored.Bits (record { 0 = o .bits }) (o .day)) (restored.Refused (plain 8))
 
 abbrev pub pduOf : Option Offer → List ℕ
 pduOf none = []
@@ -80,7 +79,8 @@ pduOf (some o) = o .pdu
 
 gives : (l : Option Held) (last : Option Offer) (room : ℕ) → Matches l last → (delivered l room ≡ givenOf last room) × (bodyOf l ≡ pduOf last)
 gives none none room m = (refl, refl)
-gives (some h) (some o) room m = (ap (λ (n : BitCount). pick (leb (bytesFor (n .0)) room) (restored.Bits n) (restored.Refused (plain 8))) (m .1), m .0)
+gives (some h) (some o) room m =
+    ((λ i. pick (leb (bytesFor (m .1 i .0)) room) (restored.Bits (m .1 i) (m .2 i)) (restored.Refused (plain 8))), m .0)
 gives none (some o) room m = absurd m
 gives (some h) none room m = absurd m
 
@@ -91,8 +91,8 @@ same-home : (b : List ℕ) (o : Offer) → reading (after b o) .home ≡ reading
 unfolding after captured
 same-home b o = go (answerTo b o) refl
   where
-    go : (x : Stored) → answerTo b o ≡ x → reading (keptOf (answerTo b o) b (captureOut b (o .pdu) (o .bits) (o .lent))) .home ≡ reading b .home
-    go (Bytes n) e = rw e (ap (λ (a : Archive). a .home) (new-reads b (o .pdu) (o .bits) n (o .lent) e))
+    go : (x : Stored) → answerTo b o ≡ x → reading (keptOf (answerTo b o) b (captureOut b (o .pdu) (o .bits) (o .day) (o .lent))) .home ≡ reading b .home
+    go (Bytes n) e = rw e (ap (λ (a : Archive). a .home) (new-reads b (o .pdu) (o .bits) (o .day) n (o .lent) e))
     go (Refused k) e = rw e
 
 home-kept : (b : List ℕ) (os : List Offer) → reading (afterAll b os) .home ≡ reading b .home
@@ -136,8 +136,8 @@ module _ (home : ℕ) (lent : List ℕ) (m : ℕ) (e : emptyIs home (length lent
   pub never : last ≡ none → (restoreIs (afterAll start os) k (length out) ≡ restored.Refused (plain 11)) × (restoreOut (afterAll start os) k out ≡ out)
   never n = rw n at history
 
-  -- otherwise, with room for it, exactly the bits of the last
+  -- otherwise, with room for it, exactly the bits of the last, and its day
   pub always : (o : Offer) → last ≡ some o → bytesFor (o .bits) ≤ length out
-      → (restoreIs (afterAll start os) k (length out) ≡ restored.Bits (record { 0 = o .bits }))
+      → (restoreIs (afterAll start os) k (length out) ≡ restored.Bits (record { 0 = o .bits }) (o .day))
       × (restoreOut (afterAll start os) k out ≡ over (o .pdu) out)
   always o l h = rw (l, le-leb (bytesFor (o .bits)) (length out) h) at history

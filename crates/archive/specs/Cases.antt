@@ -29,8 +29,11 @@ use Rattle.archive.specs.declared.Restored.the-variants as restored
 abbrev key : ℕ → ℕ → ℕ → Key
 key network ssi part = record { network = network; ssi = ssi; part = part }
 
+abbrev entryOn : ℕ → ℕ → ℕ → ℕ → ℕ → Entry
+entryOn day network ssi part bits = record { key = key network ssi part; bits = record { 0 = bits }; day = day }
+
 abbrev entry : ℕ → ℕ → ℕ → ℕ → Entry
-entry network ssi part bits = record { key = key network ssi part; bits = record { 0 = bits } }
+entry = entryOn 300
 
 -- ---- bytes and limits
 
@@ -40,8 +43,8 @@ header : (headerBytes 0x010203 0x0102 ≡ 1 ∷ 2 ∷ 3 ∷ 1 ∷ 2 ∷ [])
 unfolding headerBytes homeOf
 header = (refl, refl, refl)
 
-contents : (entryBytes (entry 0x010203 0x040506 7 0x0809) ≡ 1 ∷ 2 ∷ 3 ∷ 4 ∷ 5 ∷ 6 ∷ 7 ∷ 8 ∷ 9 ∷ [])
-    × (entryAt (0 ∷ 1 ∷ 2 ∷ 3 ∷ 4 ∷ 5 ∷ 6 ∷ 7 ∷ 8 ∷ 9 ∷ []) 1 ≡ entry 0x010203 0x040506 7 0x0809)
+contents : (entryBytes (entryOn 0x0a0b 0x010203 0x040506 7 0x0809) ≡ 1 ∷ 2 ∷ 3 ∷ 4 ∷ 5 ∷ 6 ∷ 7 ∷ 8 ∷ 9 ∷ 10 ∷ 11 ∷ [])
+    × (entryAt (0 ∷ 1 ∷ 2 ∷ 3 ∷ 4 ∷ 5 ∷ 6 ∷ 7 ∷ 8 ∷ 9 ∷ 10 ∷ 11 ∷ []) 1 ≡ entryOn 0x0a0b 0x010203 0x040506 7 0x0809)
 unfolding entryBytes
 contents = (refl, refl)
 
@@ -83,41 +86,45 @@ in-place = (refl, refl, refl, refl)
 replaced : put (holding 1 5 2 16) three ≡ holding 1 5 1 8 ∷ holding 1 5 2 16 ∷ holding 2 0 1 8 ∷ []
 replaced = refl
 
--- header, 9 bytes an entry, and bodies of 1, 2 and 1 bytes
-length-3 : lengthOf (record { home = 0; held = holding 1 5 1 8 ∷ holding 1 5 2 9 ∷ holding 2 0 1 1 ∷ [] }) ≡ 36
+-- header, 11 bytes an entry, and bodies of 1, 2 and 1 bytes
+length-3 : lengthOf (record { home = 0; held = holding 1 5 1 8 ∷ holding 1 5 2 9 ∷ holding 2 0 1 1 ∷ [] }) ≡ 42
 length-3 = refl
 
 -- ---- a history: each PDU lists no groups and restricts nothing
 
-abbrev offer : List ℕ → ℕ → Offer
-offer s n = record { pdu = s; bits = n; lent = replicate 60 0 }
+abbrev offer : List ℕ → ℕ → ℕ → Offer
+offer s n day = record { pdu = s; bits = n; day = day; lent = replicate 60 0 }
 
--- user 5: service 1; then services 2 and 3; and a failed interrogation
+-- user 5: service 1; then services 2 and 3, of a day before the first's; and a failed interrogation
 abbrev first : Offer
-first = offer (0x49 ∷ 0x82 ∷ 0x00 ∷ 0x00 ∷ 0x0a ∷ 0x21 ∷ 0x20 ∷ 0x00 ∷ []) 63
+first = offer (0x49 ∷ 0x82 ∷ 0x00 ∷ 0x00 ∷ 0x0a ∷ 0x21 ∷ 0x20 ∷ 0x00 ∷ []) 63 300
 
 abbrev second : Offer
-second = offer (0x49 ∷ 0x82 ∷ 0x00 ∷ 0x00 ∷ 0x0a ∷ 0x22 ∷ 0x4c ∷ 0x00 ∷ 0x00 ∷ []) 66
+second = offer (0x49 ∷ 0x82 ∷ 0x00 ∷ 0x00 ∷ 0x0a ∷ 0x22 ∷ 0x4c ∷ 0x00 ∷ 0x00 ∷ []) 66 299
 
 abbrev failed : Offer
-failed = offer (0x49 ∷ 0x82 ∷ 0x00 ∷ 0x00 ∷ 0x0a ∷ 0x61 ∷ 0x20 ∷ []) 51
+failed = offer (0x49 ∷ 0x82 ∷ 0x00 ∷ 0x00 ∷ 0x0a ∷ 0x61 ∷ 0x20 ∷ []) 51 301
 
--- user 7/4, numbers
+-- the first once more, of a day that is none
+abbrev tooLate : Offer
+tooLate = offer (first .pdu) 63 65536
+
+-- user 7/4, numbers, of the last day
 abbrev visitor : Offer
-visitor = offer (0x49 ∷ 0x82 ∷ 0x00 ∷ 0x00 ∷ 0x09 ∷ 0x00 ∷ 0x00 ∷ 0x07 ∷ 0x41 ∷ 0x60 ∷ 0x00 ∷ []) 87
+visitor = offer (0x49 ∷ 0x82 ∷ 0x00 ∷ 0x00 ∷ 0x09 ∷ 0x00 ∷ 0x00 ∷ 0x07 ∷ 0x41 ∷ 0x60 ∷ 0x00 ∷ []) 87 65535
 
 abbrev nothing : List ℕ
 nothing = 0x00 ∷ 0x00 ∷ 0x01 ∷ 0x00 ∷ 0x00 ∷ []
 
 abbrev offers : List Offer
-offers = first ∷ visitor ∷ second ∷ failed ∷ []
+offers = first ∷ visitor ∷ second ∷ failed ∷ tooLate ∷ []
 
--- 43 bytes: the second PDU of user 1/5, part 1, of 66 bits, and the visitor's
+-- 47 bytes: the second PDU of user 1/5, part 1, of 66 bits, and the visitor's
 abbrev kept : List ℕ
 kept =
     0x00 ∷ 0x00 ∷ 0x01 ∷ 0x00 ∷ 0x02 ∷
-    0x00 ∷ 0x00 ∷ 0x01 ∷ 0x00 ∷ 0x00 ∷ 0x05 ∷ 0x01 ∷ 0x00 ∷ 0x42 ∷
-    0x00 ∷ 0x00 ∷ 0x07 ∷ 0x00 ∷ 0x00 ∷ 0x04 ∷ 0x02 ∷ 0x00 ∷ 0x57 ∷
+    0x00 ∷ 0x00 ∷ 0x01 ∷ 0x00 ∷ 0x00 ∷ 0x05 ∷ 0x01 ∷ 0x00 ∷ 0x42 ∷ 0x01 ∷ 0x2b ∷
+    0x00 ∷ 0x00 ∷ 0x07 ∷ 0x00 ∷ 0x00 ∷ 0x04 ∷ 0x02 ∷ 0x00 ∷ 0x57 ∷ 0xff ∷ 0xff ∷
     0x49 ∷ 0x82 ∷ 0x00 ∷ 0x00 ∷ 0x0a ∷ 0x22 ∷ 0x4c ∷ 0x00 ∷ 0x00 ∷
     0x49 ∷ 0x82 ∷ 0x00 ∷ 0x00 ∷ 0x09 ∷ 0x00 ∷ 0x00 ∷ 0x07 ∷ 0x41 ∷ 0x60 ∷ 0x00 ∷ []
 
@@ -125,7 +132,8 @@ history : afterAll nothing offers ≡ kept
 unfolding calls bodyAgrees filingOf after afterAll
 history = refl
 
--- the last accepted of user 1/5 is the second, not the first, nor the failed one; the visitor's stays; no other user or part has one
+-- the last accepted of user 1/5 is the second, not the first, nor the failed one, nor the one of no day; the visitor's stays; no other user or
+-- part has one
 last-accepted : (lastAccepted (key 1 5 1) nothing none offers ≡ some second)
     × (lastAccepted (key 7 4 2) nothing none offers ≡ some visitor)
     × (lastAccepted (key 1 5 2) nothing none offers ≡ none)
@@ -133,20 +141,20 @@ last-accepted : (lastAccepted (key 1 5 1) nothing none offers ≡ some second)
 unfolding calls bodyAgrees filingOf after afterAll lastAccepted
 last-accepted = (refl, refl, refl, refl)
 
--- where their bodies begin; nothing is held for another part, or in an empty archive; one byte more or less, and no header, is no archive
-fetched : (fetchIs kept (key 1 5 1) ≡ Body 23 (record { 0 = 66 }))
-    × (fetchIs kept (key 7 4 2) ≡ Body 32 (record { 0 = 87 }))
+-- where their bodies begin, and their days; nothing is held for another part, or in an empty archive; one byte more or less, and no header, is no archive
+fetched : (fetchIs kept (key 1 5 1) ≡ Body 27 (record { 0 = 66 }) 299)
+    × (fetchIs kept (key 7 4 2) ≡ Body 36 (record { 0 = 87 }) 65535)
     × (fetchIs kept (key 7 4 1) ≡ NotHeld)
     × (fetchIs nothing (key 1 5 1) ≡ NotHeld)
     × (fetchIs (kept ++ (0x00 ∷ [])) (key 1 5 1) ≡ fetch.Refused (plain 7))
-    × (fetchIs (take 42 kept) (key 1 5 1) ≡ fetch.Refused (plain 7))
+    × (fetchIs (take 46 kept) (key 1 5 1) ≡ fetch.Refused (plain 7))
     × (fetchIs [] (key 1 5 1) ≡ fetch.Refused (plain 7))
 unfolding calls bodyAgrees filingOf fetchIs inRange
 fetched = (refl, refl, refl, refl, refl, refl, refl)
 
 -- what is restored, and the byte after it stays
 
-restored-visitor : (restoreIs kept (key 7 4 2) 11 ≡ restored.Bits (record { 0 = 87 }))
+restored-visitor : (restoreIs kept (key 7 4 2) 11 ≡ restored.Bits (record { 0 = 87 }) 65535)
     × (restoreOut kept (key 7 4 2) (replicate 12 0xff)
     ≡ 0x49 ∷ 0x82 ∷ 0x00 ∷ 0x00 ∷ 0x09 ∷ 0x00 ∷ 0x00 ∷ 0x07 ∷ 0x41 ∷ 0x60 ∷ 0x00 ∷ 0xff ∷ [])
 unfolding calls bodyAgrees filingOf restoreIs restoreOut inRange
@@ -222,11 +230,15 @@ told = (refl, refl, refl)
 
 -- ---- the listing of the least and the greatest numbers
 
--- `home 0 entries 2`, `0 0 part 1 bits 63`, `16777215 16777215 part 2 bits 2456`
-listing-2 : listing (record { home = 0; held = holding 0 0 1 63 ∷ holding 16777215 16777215 2 2456 ∷ [] }) ≡
+abbrev listed : ℕ → ℕ → ℕ → ℕ → ℕ → Held
+listed day network ssi part bits = record { entry = entryOn day network ssi part bits; body = [] }
+
+-- `home 0 entries 2`, `0 0 part 1 bits 63 day 0`, `16777215 16777215 part 2 bits 2456 day 65535`
+listing-2 : listing (record { home = 0; held = listed 0 0 0 1 63 ∷ listed 65535 16777215 16777215 2 2456 ∷ [] }) ≡
     104 ∷ 111 ∷ 109 ∷ 101 ∷ 32 ∷ 48 ∷ 32 ∷ 101 ∷ 110 ∷ 116 ∷ 114 ∷ 105 ∷ 101 ∷ 115 ∷ 32 ∷ 50 ∷ 10 ∷
-    48 ∷ 32 ∷ 48 ∷ 32 ∷ 112 ∷ 97 ∷ 114 ∷ 116 ∷ 32 ∷ 49 ∷ 32 ∷ 98 ∷ 105 ∷ 116 ∷ 115 ∷ 32 ∷ 54 ∷ 51 ∷ 10 ∷
+    48 ∷ 32 ∷ 48 ∷ 32 ∷ 112 ∷ 97 ∷ 114 ∷ 116 ∷ 32 ∷ 49 ∷ 32 ∷ 98 ∷ 105 ∷ 116 ∷ 115 ∷ 32 ∷ 54 ∷ 51 ∷ 32 ∷ 100 ∷ 97 ∷ 121 ∷ 32 ∷ 48 ∷ 10 ∷
     49 ∷ 54 ∷ 55 ∷ 55 ∷ 55 ∷ 50 ∷ 49 ∷ 53 ∷ 32 ∷ 49 ∷ 54 ∷ 55 ∷ 55 ∷ 55 ∷ 50 ∷ 49 ∷ 53 ∷
-    32 ∷ 112 ∷ 97 ∷ 114 ∷ 116 ∷ 32 ∷ 50 ∷ 32 ∷ 98 ∷ 105 ∷ 116 ∷ 115 ∷ 32 ∷ 50 ∷ 52 ∷ 53 ∷ 54 ∷ 10 ∷ []
+    32 ∷ 112 ∷ 97 ∷ 114 ∷ 116 ∷ 32 ∷ 50 ∷ 32 ∷ 98 ∷ 105 ∷ 116 ∷ 115 ∷ 32 ∷ 50 ∷ 52 ∷ 53 ∷ 54 ∷
+    32 ∷ 100 ∷ 97 ∷ 121 ∷ 32 ∷ 54 ∷ 53 ∷ 53 ∷ 51 ∷ 53 ∷ 10 ∷ []
 unfolding listing twoItems firstLine lines line item decimal digits
 listing-2 = refl

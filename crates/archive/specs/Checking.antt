@@ -7,7 +7,7 @@ use lib.Dec.{ltb, eqb}
 use Rattle.bits.specs.Bits.{pick, guard}
 use Rattle.walk.specs.declared.BitPlace.{BitPlace}
 use Rattle.reader.specs.Read.{refusalOf, readIs}
-use Rattle.archive.specs.Model.{Held, rank, inRange, lengthOf, withinLimits}
+use Rattle.archive.specs.Model.{Held, rank, inRange, isDay, lengthOf, withinLimits}
 use Rattle.archive.specs.Filing.{bodyAgrees}
 use Rattle.archive.specs.Reading.{reading}
 use Rattle.archive.specs.Refusals.{plain, ofBody}
@@ -15,10 +15,10 @@ use Rattle.archive.specs.declared.refusal.Refusal.{Refusal}
 use Rattle.archive.specs.declared.checking.Checked.{Checked}
 use Rattle.archive.specs.declared.checking.Checked.the-variants.{Archive, Refused}
 
--- every key is in range, and they rise strictly, from above a rank on
+-- every key is in range, they rise strictly, from above a rank on, and every entry has a day, as two bytes always do
 unfoldable pub inOrder : ℕ → List Held → Bool
 inOrder last [] = true
-inOrder last (h ∷ hs) = ltb last (rank h) && (inRange (h .entry .key) && inOrder (rank h) hs)
+inOrder last (h ∷ hs) = ltb last (rank h) && (inRange (h .entry .key) && (isDay (h .entry .day) && inOrder (rank h) hs))
 
 -- header, contents and file length are right, whatever the bodies
 unfoldable pub hasShape : List ℕ → Bool

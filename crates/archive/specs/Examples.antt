@@ -1,4 +1,4 @@
--- The 32-byte example of document 01: profile A captured at home network 1.
+-- The 34-byte example of documents 01 and 02: profile A captured at home network 1, on day 300.
 use mathlib.Core.Path.{_≡_, refl}
 use mathlib.Core.List.{List, [], _∷_}
 use mathlib.Core.Option.{none, some}
@@ -30,13 +30,15 @@ partOf5 part = record { network = 1; ssi = 5; part = part }
 
 -- held as its part 1
 abbrev pub heldA : Held
-heldA = record { entry = record { key = partOf5 1; bits = record { 0 = 138 } }; body = profileA }
+heldA = record { entry = record { key = partOf5 1; bits = record { 0 = 138 }; day = 300 }; body = profileA }
 
 abbrev pub holdingA : Archive
 holdingA = record { home = 1; held = heldA ∷ [] }
 
 abbrev pub bytesA : List ℕ
-bytesA = 0x00 ∷ 0x00 ∷ 0x01 ∷ 0x00 ∷ 0x01 ∷ 0x00 ∷ 0x00 ∷ 0x01 ∷ 0x00 ∷ 0x00 ∷ 0x05 ∷ 0x01 ∷ 0x00 ∷ 0x8a ∷ profileA
+bytesA =
+    0x00 ∷ 0x00 ∷ 0x01 ∷ 0x00 ∷ 0x01 ∷
+    0x00 ∷ 0x00 ∷ 0x01 ∷ 0x00 ∷ 0x00 ∷ 0x05 ∷ 0x01 ∷ 0x00 ∷ 0x8a ∷ 0x01 ∷ 0x2c ∷ profileA
 
 written-a : bytesOf holdingA ≡ bytesA
 unfolding headerBytes entryBytes
@@ -46,10 +48,10 @@ read-a : reading bytesA ≡ holdingA
 unfolding reading heldFrom
 read-a = refl
 
-length-a : length bytesA ≡ 32
+length-a : length bytesA ≡ 34
 length-a = refl
 
-as-long : lengthOf holdingA ≡ 32
+as-long : lengthOf holdingA ≡ 34
 as-long = refl
 
 -- captured into the empty archive, and once more: the same bytes
@@ -67,7 +69,7 @@ other-part : lookup (partOf5 2) (holdingA .held) ≡ none
 other-part = refl
 
 -- its body begins after the header and the one entry
-place-a : bodyFrom (partOf5 1) (bodiesAt bytesA) (holdingA .held) ≡ Body 14 (record { 0 = 138 })
+place-a : bodyFrom (partOf5 1) (bodiesAt bytesA) (holdingA .held) ≡ Body 16 (record { 0 = 138 }) 300
 place-a = refl
 
 -- ---- the calls themselves
@@ -83,12 +85,12 @@ empty-1 : emptyOut 1 (replicate 6 0xff) ≡ 0x00 ∷ 0x00 ∷ 0x01 ∷ 0x00 ∷ 
 unfolding calls
 empty-1 = refl
 
--- capturing A into it writes the 32 bytes
-capture-a : captureIs (0x00 ∷ 0x00 ∷ 0x01 ∷ 0x00 ∷ 0x00 ∷ []) profileA 138 32 ≡ Bytes 32
+-- capturing A into it on day 300 writes the 34 bytes
+capture-a : captureIs (0x00 ∷ 0x00 ∷ 0x01 ∷ 0x00 ∷ 0x00 ∷ []) profileA 138 300 34 ≡ Bytes 34
 unfolding calls
 capture-a = refl
 
-capture-a-out : captureOut (0x00 ∷ 0x00 ∷ 0x01 ∷ 0x00 ∷ 0x00 ∷ []) profileA 138 (replicate 32 0xff) ≡ bytesA
+capture-a-out : captureOut (0x00 ∷ 0x00 ∷ 0x01 ∷ 0x00 ∷ 0x00 ∷ []) profileA 138 300 (replicate 34 0xff) ≡ bytesA
 unfolding calls
 capture-a-out = refl
 
@@ -110,11 +112,12 @@ decimal-most : decimal 16777215 ≡ 49 ∷ 54 ∷ 55 ∷ 55 ∷ 55 ∷ 50 ∷ 49
 unfolding decimal digits
 decimal-most = refl
 
--- `home 1 entries 1` and `1 5 part 1 bits 138`, each on its line
+-- `home 1 entries 1` and `1 5 part 1 bits 138 day 300`, each on its line
 abbrev pub textA : List ℕ
 textA =
     104 ∷ 111 ∷ 109 ∷ 101 ∷ 32 ∷ 49 ∷ 32 ∷ 101 ∷ 110 ∷ 116 ∷ 114 ∷ 105 ∷ 101 ∷ 115 ∷ 32 ∷ 49 ∷ 10 ∷
-    49 ∷ 32 ∷ 53 ∷ 32 ∷ 112 ∷ 97 ∷ 114 ∷ 116 ∷ 32 ∷ 49 ∷ 32 ∷ 98 ∷ 105 ∷ 116 ∷ 115 ∷ 32 ∷ 49 ∷ 51 ∷ 56 ∷ 10 ∷ []
+    49 ∷ 32 ∷ 53 ∷ 32 ∷ 112 ∷ 97 ∷ 114 ∷ 116 ∷ 32 ∷ 49 ∷ 32 ∷ 98 ∷ 105 ∷ 116 ∷ 115 ∷ 32 ∷ 49 ∷ 51 ∷ 56 ∷
+    32 ∷ 100 ∷ 97 ∷ 121 ∷ 32 ∷ 51 ∷ 48 ∷ 48 ∷ 10 ∷ []
 
 listing-a : listing holdingA ≡ textA
 unfolding listing twoItems firstLine lines line item decimal digits

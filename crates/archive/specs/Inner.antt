@@ -33,12 +33,9 @@ use Rattle.archive.specs.declared.filing.Filing.the-variants.{Under, Now
 
 -- ---- filing
 
--- the entry of an accepted PDU of n bits with this head; nowhere if no archive entry may hold it
-unfoldable pub filingUnder : ℕ → Head → ℕ → Filing
-filingUnder home h n =
-    pick (holdable h)
-    (Under (record { key = record { network = networkOf home (h .user); ssi = h .user .ssi; part = h .result }; bits = record { 0 = n } }))
-    Nowhere
+-- the key of an accepted PDU with this head; nowhere if no archive entry may hold it
+unfoldable pub filingUnder : ℕ → Head → Filing
+filingUnder home h = pick (holdable h) (Under (record { network = networkOf home (h .user); ssi = h .user .ssi; part = h .result })) Nowhere
 
 -- the walk's refusal, with the number 0 for none
 abbrev pub walkedRefusal : Walked → Refusal
@@ -70,17 +67,20 @@ faultIs b k n at off index place =
 
 -- ---- the place of a key, by its rank
 
--- a place with so many entries, none or one, and a body of so many bits
-abbrev pub placeOf : ℕ → ℕ → ℕ → ℕ → Place
-placeOf at off entries bits = record { at = at; off = off; entries = entries; bits = record { 0 = bits } }
+-- a place with an entry, of so many bits and a day; and one with none
+abbrev pub placeOf : ℕ → ℕ → Entry → Place
+placeOf at off e = record { at = at; off = off; entries = 1; bits = e .bits; day = e .day }
+
+abbrev pub gapAt : ℕ → ℕ → Place
+gapAt at off = record { at = at; off = off; entries = 0; bits = record { 0 = 0 }; day = 0 }
 
 -- the search, by order: the entry of the key, or the gap where it would go
 unfoldable pub seek : ℕ → ℕ → ℕ → List Held → Place
-seek r at off [] = placeOf at off 0 0
+seek r at off [] = gapAt at off
 seek r at off (h ∷ hs) =
     pick (ltb (rank h) r)
     (seek r (at + entryWidth) (off + bodySize h) hs)
-    (pick (eqb (rank h) r) (placeOf at off 1 (h .entry .bits .0)) (placeOf at off 0 0))
+    (pick (eqb (rank h) r) (placeOf at off (h .entry)) (gapAt at off))
 
 -- ---- a new entry and body for those at a place
 
@@ -107,6 +107,7 @@ pub record KeyFits (k : Key) : Type 0 where
 pub record EntryFits (e : Entry) : Type 0 where
   pub key : KeyFits (e .key)
   pub bits : e .bits .0 < 65536
+  pub day : e .day < 65536
 
 -- header, contents before the place, the new entry
 unfoldable pub frontOf : List ℕ → ℕ → ℕ → Entry → List ℕ

@@ -9,11 +9,12 @@ use Rattle.reader.specs.Read.{readIs}
 use Rattle.reader.specs.declared.Answer.{Answer}
 use Rattle.reader.specs.declared.Answer.the-variants as reader
 use Rattle.judging.specs.Judge.{mayHold}
-use Rattle.archive.specs.Model.{Held, Archive, rank, headerWidth, bytesOf, lengthOf, withinLimits}
-use Rattle.archive.specs.Filing.{entryFor}
+use Rattle.archive.specs.Model.{Held, Archive, rank, isDay, headerWidth, bytesOf, lengthOf, withinLimits}
+use Rattle.archive.specs.Filing.{filedKey}
 use Rattle.archive.specs.Reading.{reading}
 use Rattle.archive.specs.Refusals.{plain, ofPdu}
 use Rattle.archive.specs.Checking.{checkIs, ifArchive}
+use Rattle.archive.specs.declared.contents.Entry.{Entry}
 use Rattle.archive.specs.declared.refusal.Refusal.{Refusal}
 use Rattle.archive.specs.declared.Stored.{Stored}
 use Rattle.archive.specs.declared.Stored.the-variants.{Bytes, Refused}
@@ -53,13 +54,16 @@ put h (x ∷ xs) = pick (ltb (rank x) (rank h)) (x ∷ put h xs) (pick (eqb (ran
 abbrev pub with : Archive → Held → Archive
 with a h = record { home = a .home; held = put h (a .held) }
 
--- what a PDU of n bits is held as
-abbrev pub heldFor : ℕ → List ℕ → ℕ → Held
-heldFor home s n = record { entry = entryFor home (readIs s n .found) n; body = s }
+-- the entry of a PDU of n bits, taken on a day, and what it is held as
+abbrev pub entryFor : ℕ → List ℕ → ℕ → ℕ → Entry
+entryFor home s n day = record { key = filedKey home (readIs s n .found); bits = record { 0 = n }; day = day }
 
--- the archive after the capture
-unfoldable pub captured : List ℕ → List ℕ → ℕ → Archive
-captured b s n = with (reading b) (heldFor (reading b .home) s n)
+abbrev pub heldFor : ℕ → List ℕ → ℕ → ℕ → Held
+heldFor home s n day = record { entry = entryFor home s n day; body = s }
+
+-- the archive after the capture: the day given is kept, even when lower than the old one
+unfoldable pub captured : List ℕ → List ℕ → ℕ → ℕ → Archive
+captured b s n day = with (reading b) (heldFor (reading b .home) s n day)
 
 -- the reader's refusal is passed on
 abbrev pub ifAccepted : Answer → Stored → Stored
@@ -70,13 +74,14 @@ ifAccepted (reader.Refused f) r = Refused (ofPdu f)
 unfoldable pub placed : Archive → ℕ → Stored
 placed a room = guard (withinLimits (length (a .held)) (lengthOf a) && leb (lengthOf a) room) (Refused (plain 8)) (Bytes (lengthOf a))
 
--- 7, the PDU's own, 6, 8
-unfoldable pub captureIs : List ℕ → List ℕ → ℕ → ℕ → Stored
-captureIs b s n room =
-    ifArchive (checkIs b) Refused
+-- 9 for a day above 65,535, 7, the PDU's own, 6, 8
+unfoldable pub captureIs : List ℕ → List ℕ → ℕ → ℕ → ℕ → Stored
+captureIs b s n day room =
+    guard (isDay day) (Refused (plain 9))
+    (ifArchive (checkIs b) Refused
     (ifAccepted (readIs s n .answer)
     (guard (mayHold (readIs s n .found)) (Refused (plain 6))
-    (placed (captured b s n) room)))
+    (placed (captured b s n day) room))))
 
-unfoldable pub captureOut : List ℕ → List ℕ → ℕ → List ℕ → List ℕ
-captureOut b s n out = leaves (captureIs b s n (length out)) (bytesOf (captured b s n)) out
+unfoldable pub captureOut : List ℕ → List ℕ → ℕ → ℕ → List ℕ → List ℕ
+captureOut b s n day out = leaves (captureIs b s n day (length out)) (bytesOf (captured b s n day)) out

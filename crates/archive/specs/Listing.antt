@@ -55,6 +55,10 @@ partWord = 32 ∷ 112 ∷ 97 ∷ 114 ∷ 116 ∷ 32 ∷ []
 abbrev pub bitsWord : List ℕ
 bitsWord = 32 ∷ 98 ∷ 105 ∷ 116 ∷ 115 ∷ 32 ∷ []
 
+-- ` day `
+abbrev pub dayWord : List ℕ
+dayWord = 32 ∷ 100 ∷ 97 ∷ 121 ∷ 32 ∷ []
+
 -- `entry `
 abbrev pub entryWord : List ℕ
 entryWord = 101 ∷ 110 ∷ 116 ∷ 114 ∷ 121 ∷ 32 ∷ []
@@ -81,10 +85,11 @@ twoItems word n other m = word ++ (item n other ++ item m lineEnd)
 unfoldable pub firstLine : ℕ → ℕ → List ℕ
 firstLine home count = twoItems homeWord home entriesWord count
 
--- `NETWORK SSI part P bits B`
+-- `NETWORK SSI part P bits B day D`
 unfoldable pub line : Entry → List ℕ
 line e =
-    item (e .key .network) space ++ (item (e .key .ssi) partWord ++ (item (e .key .part) bitsWord ++ item (e .bits .0) lineEnd))
+    item (e .key .network) space
+    ++ (item (e .key .ssi) partWord ++ (item (e .key .part) bitsWord ++ (item (e .bits .0) dayWord ++ item (e .day) lineEnd)))
 
 unfoldable pub lines : List Held → List ℕ
 lines [] = []

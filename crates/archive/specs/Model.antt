@@ -28,6 +28,10 @@ rank h = rankOf (h .entry .key)
 unfoldable pub inRange : Key → Bool
 inRange k = ltb (k .network) 16777216 && (ltb (k .ssi) 16777216 && (leb 1 (k .part) && leb (k .part) 2))
 
+-- a day, of whatever beginning, below 65,536
+abbrev pub isDay : ℕ → Bool
+isDay day = ltb day 65536
+
 -- entries that rise strictly, from above a rank on: no user and part stands twice
 pub data Rising : ℕ → List Held → Type 0 where
   no-key : {last : ℕ} → Rising last []
@@ -39,7 +43,7 @@ abbrev pub headerWidth : ℕ
 headerWidth = 5
 
 abbrev pub entryWidth : ℕ
-entryWidth = 9
+entryWidth = 11
 
 abbrev pub bytes2 : ℕ → List ℕ
 bytes2 x = x / 256 ∷ x % 256 ∷ []
@@ -51,9 +55,9 @@ bytes3 x = x / 65536 ∷ x / 256 % 256 ∷ x % 256 ∷ []
 unfoldable pub headerBytes : ℕ → ℕ → List ℕ
 headerBytes home count = bytes3 home ++ bytes2 count
 
--- network, SSI, part, bit length
+-- network, SSI, part, bit length, day
 unfoldable pub entryBytes : Entry → List ℕ
-entryBytes e = bytes3 (e .key .network) ++ (bytes3 (e .key .ssi) ++ (e .key .part ∷ bytes2 (e .bits .0)))
+entryBytes e = bytes3 (e .key .network) ++ (bytes3 (e .key .ssi) ++ (e .key .part ∷ (bytes2 (e .bits .0) ++ bytes2 (e .day))))
 
 abbrev pub contentsOf : List Held → List ℕ
 contentsOf [] = []

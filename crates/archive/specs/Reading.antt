@@ -29,6 +29,7 @@ abbrev pub entryAt : List ℕ → ℕ → Entry
 entryAt b at = record {
   key = record { network = number3 b at; ssi = number3 b (at + 3); part = getD b (at + 6) 0 };
   bits = record { 0 = number2 b (at + 7) };
+  day = number2 b (at + 9);
 }
 
 -- the bytes that the body of the entry at a place has

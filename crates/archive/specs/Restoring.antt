@@ -17,11 +17,11 @@ use Rattle.archive.specs.declared.refusal.Refusal.{Refusal}
 use Rattle.archive.specs.declared.Restored.{Restored}
 use Rattle.archive.specs.declared.Restored.the-variants.{Bits, Refused}
 
--- ---- fetch: where the body of a user and part begins, and its bit length
+-- ---- fetch: where the body of a user and part begins, its bit length, and its day
 
 abbrev pub bodyFrom : Key → ℕ → List Held → Fetched
 bodyFrom k off [] = fetched.NotHeld
-bodyFrom k off (h ∷ hs) = pick (eqb (rank h) (rankOf k)) (fetched.Body off (h .entry .bits)) (bodyFrom k (off + bodySize h) hs)
+bodyFrom k off (h ∷ hs) = pick (eqb (rank h) (rankOf k)) (fetched.Body off (h .entry .bits) (h .entry .day)) (bodyFrom k (off + bodySize h) hs)
 
 unfoldable pub fetchIs : List ℕ → Key → Fetched
 fetchIs b k = ifArchive (checkIs b) fetched.Refused (guard (inRange k) fetched.NotHeld (bodyFrom k (bodiesAt b) (reading b .held)))
@@ -30,7 +30,7 @@ fetchIs b k = ifArchive (checkIs b) fetched.Refused (guard (inRange k) fetched.N
 
 -- document 01's number of an answer, 0 for success, with its entry and its place
 abbrev pub restoredRefusal : Restored → Refusal
-restoredRefusal (Bits n) = plain 0
+restoredRefusal (Bits n day) = plain 0
 restoredRefusal (Refused f) = f
 
 -- the PDU held for a key
@@ -41,7 +41,7 @@ lookup k (h ∷ hs) = pick (eqb (rank h) (rankOf k)) (some h) (lookup k hs)
 -- 11 for a PDU that is not held, then 8
 abbrev pub delivered : Option Held → ℕ → Restored
 delivered none room = Refused (plain 11)
-delivered (some h) room = guard (leb (bodySize h) room) (Refused (plain 8)) (Bits (h .entry .bits))
+delivered (some h) room = guard (leb (bodySize h) room) (Refused (plain 8)) (Bits (h .entry .bits) (h .entry .day))
 
 abbrev pub bodyOf : Option Held → List ℕ
 bodyOf none = []
@@ -53,7 +53,7 @@ restoreIs b k room = guard (inRange k) (Refused (plain 9)) (ifArchive (checkIs b
 
 -- a refusal changes no byte
 abbrev pub restores : Restored → List ℕ → List ℕ → List ℕ
-restores (Bits n) w out = over w out
+restores (Bits n day) w out = over w out
 restores (Refused f) w out = out
 
 unfoldable pub restoreOut : List ℕ → Key → List ℕ → List ℕ

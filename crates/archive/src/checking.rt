@@ -137,12 +137,13 @@ fn rest_has_shape(archive: &[u8], entries: usize, from: usize, bodies: usize, ra
     off == archive.len()
 }
 
-// A contents place and a body place: those of a key's entry, or where they would go, with no entry and no bits.
+// A contents place and a body place: those of a key's entry, or where they would go, with no entry, no bits and day 0.
 pub struct Place {
     pub at: usize,
     pub off: usize,
     pub entries: usize,
     pub bits: BitCount,
+    pub day: u32,
 }
 
 // Where the contents, and where the bodies, go on after a place.
@@ -182,6 +183,7 @@ pub(crate) fn find(archive: &[u8], key: Key) -> Place
                     off,
                     entries: 1,
                     bits: held,
+                    day: entry.day,
                 };
             }
             return Place {
@@ -189,6 +191,7 @@ pub(crate) fn find(archive: &[u8], key: Key) -> Place
                 off,
                 entries: 0,
                 bits: BitCount(0),
+                day: 0,
             };
         }
         off += held.bytes();
@@ -200,5 +203,6 @@ pub(crate) fn find(archive: &[u8], key: Key) -> Place
         off,
         entries: 0,
         bits: BitCount(0),
+        day: 0,
     }
 }

@@ -10,7 +10,7 @@ ghost use Rattle.archive.specs.Inner.{KeyFits, EntryFits};
 // Bytes of the header, and of an entry of the contents.
 pub(crate) const HEADER: usize = 5;
 
-pub(crate) const ENTRY: usize = 9;
+pub(crate) const ENTRY: usize = 11;
 
 // A user, by network and SSI, and a part: 1 for identities, 2 for numbers.
 pub struct Key {
@@ -29,10 +29,11 @@ impl Key {
     }
 }
 
-// A contents entry.
+// A contents entry: a key, the bit length of its PDU, and the day on which that was taken, below 65,536.
 pub struct Entry {
     pub key: Key,
     pub bits: BitCount,
+    pub day: u32,
 }
 
 // Whether a user and part are in range.
@@ -127,6 +128,7 @@ pub(crate) fn entry_at(b: &[u8], at: usize) -> Entry
     Entry {
         key,
         bits: BitCount(two(b, at + 7)),
+        day: two(b, at + 9) as u32,
     }
 }
 
@@ -145,5 +147,7 @@ pub(crate) fn entry_bytes(entry: Entry) -> [u8; ENTRY]
         key.part as u8,
         (entry.bits.0 / 256) as u8,
         (entry.bits.0 % 256) as u8,
+        (entry.day / 256) as u8,
+        (entry.day % 256) as u8,
     ]
 }

@@ -37,15 +37,15 @@ pub enum Stored {
     Refused(Refusal),
 }
 
-// The length in bits of a PDU that was written from an archive, or a refusal.
+// The length in bits of a PDU that was written from an archive, and the day on which it was taken; or a refusal.
 pub enum Restored {
-    Bits(BitCount),
+    Bits(BitCount, u32),
     Refused(Refusal),
 }
 
-// Where the body of a held PDU begins, and its length in bits; or the refusal of what is no archive.
+// Where the body of a held PDU begins, its length in bits, and its day; or the refusal of what is no archive.
 pub enum Fetched {
-    Body(usize, BitCount),
+    Body(usize, BitCount, u32),
     NotHeld,
     Refused(Refusal),
 }
@@ -65,11 +65,14 @@ pub fn empty(home: u32, out: &mut [u8]) -> Stored
     Stored::Bytes(copying::append(out, 0, &header))
 }
 
-// Captures a PDU of n bits: writes the archive with it to the lent buffer.
-pub fn capture(archive: &[u8], body: &[u8], n: BitCount, out: &mut [u8]) -> Stored
-    ensures { λ r. ⌜ r ≡ captureIs (now (archive .entry)) (now (body .entry)) (n .0) (length (now (out .entry))) ⌝ }
-    ensures { λ _. ⌜ now (out .exit) ≡ captureOut (now (archive .entry)) (now (body .entry)) (n .0) (now (out .entry)) ⌝ }
+// Captures a PDU of n bits that was taken on a day: writes the archive with it to the lent buffer.
+pub fn capture(archive: &[u8], body: &[u8], n: BitCount, day: u32, out: &mut [u8]) -> Stored
+    ensures { λ r. ⌜ r ≡ captureIs (now (archive .entry)) (now (body .entry)) (n .0) day (length (now (out .entry))) ⌝ }
+    ensures { λ _. ⌜ now (out .exit) ≡ captureOut (now (archive .entry)) (now (body .entry)) (n .0) day (now (out .entry)) ⌝ }
 {
+    if 65535 < day {
+        return Stored::Refused(refusal::plain(9));
+    }
     let checked = checking::check(archive);
     if let Checked::Refused(refusal) = checked {
         return Stored::Refused(refusal);
@@ -78,10 +81,11 @@ pub fn capture(archive: &[u8], body: &[u8], n: BitCount, out: &mut [u8]) -> Stor
     let Walked::Accepted(head) = walked else {
         return Stored::Refused(refusal::of_walk(walked));
     };
-    let filing = filing::filing_of(contents::home(archive), head, n);
-    let Filing::Under(entry) = filing else {
+    let filing = filing::filing_of(contents::home(archive), head);
+    let Filing::Under(key) = filing else {
         return Stored::Refused(refusal::plain(6));
     };
+    let entry = Entry { key, bits: n, day };
     file(archive, entry, body, out)
 }
 
@@ -120,13 +124,13 @@ pub fn fetch(archive: &[u8], key: Key) -> Fetched
         return Fetched::NotHeld;
     }
     let n = place.bits;
-    Fetched::Body(place.off, n)
+    Fetched::Body(place.off, n, place.day)
 }
 
-// Writes a body to the front of the lent buffer.
-fn deliver(archive: &[u8], off: usize, n: BitCount, out: &mut [u8]) -> Restored
+// Writes a body to the front of the lent buffer; answers with its day too.
+fn deliver(archive: &[u8], off: usize, n: BitCount, day: u32, out: &mut [u8]) -> Restored
     requires { ⌜ off + bytesFor (n .0) ≤ length (now archive) ⌝ }
-    ensures { λ r. ⌜ r ≡ pick (leb (bytesFor (n .0)) (length (now (out .entry)))) (Restored.Bits n) (Restored.Refused (plain 8)) ⌝ }
+    ensures { λ r. ⌜ r ≡ pick (leb (bytesFor (n .0)) (length (now (out .entry)))) (Restored.Bits n day) (Restored.Refused (plain 8)) ⌝ }
     ensures { λ r. ⌜ now (out .exit) ≡ restores r (take (bytesFor (n .0)) (drop off (now (archive .entry)))) (now (out .entry)) ⌝ }
 {
     let size = n.bytes();
@@ -135,7 +139,7 @@ fn deliver(archive: &[u8], off: usize, n: BitCount, out: &mut [u8]) -> Restored
     }
     let end = off + size;
     copying::append(out, 0, &archive[off..end]);
-    Restored::Bits(n)
+    Restored::Bits(n, day)
 }
 
 // Restores the PDU held for a user and part: writes its bytes to the lent buffer.
@@ -150,6 +154,6 @@ pub fn restore(archive: &[u8], key: Key, out: &mut [u8]) -> Restored
     match found {
         Fetched::Refused(refusal) => Restored::Refused(refusal),
         Fetched::NotHeld => Restored::Refused(refusal::plain(11)),
-        Fetched::Body(off, n) => deliver(archive, off, n, out),
+        Fetched::Body(off, n, day) => deliver(archive, off, n, day, out),
     }
 }

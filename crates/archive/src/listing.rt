@@ -98,7 +98,8 @@ fn write_line(out: &mut [u8], at: usize, entry: Entry) -> usize
     let ssi_at = write_item(out, at, key.network as usize, b" ");
     let part_at = write_item(out, ssi_at, key.ssi as usize, b" part ");
     let bits_at = write_item(out, part_at, key.part as usize, b" bits ");
-    write_item(out, bits_at, entry.bits.0, b"\n")
+    let day_at = write_item(out, bits_at, entry.bits.0, b" day ");
+    write_item(out, day_at, entry.day as usize, b"\n")
 }
 
 // Writes the lines of all entries.
@@ -130,16 +131,17 @@ fn write_text(archive: &[u8], out: &mut [u8]) -> usize
 // Bytes of the words in the first line, and in the line of an entry.
 const FIRST_WORDS: usize = 15;
 
-const LINE_WORDS: usize = 14;
+const LINE_WORDS: usize = 19;
 
 // The length of an entry's line.
 fn line_length(entry: Entry) -> usize
-    ensures { λ r. ⌜ (r ≡ length (line entry)) × (r ≤ 94) ⌝ }
+    ensures { λ r. ⌜ (r ≡ length (line entry)) × (r ≤ 119) ⌝ }
 {
     let key = entry.key;
     let user = digits_of(key.network as usize) + digits_of(key.ssi as usize);
     let body = digits_of(key.part as usize) + digits_of(entry.bits.0);
-    user + body + LINE_WORDS
+    let day = digits_of(entry.day as usize);
+    user + body + day + LINE_WORDS
 }
 
 // The length of the whole text.

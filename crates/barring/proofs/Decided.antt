@@ -61,8 +61,8 @@ module _ (b : List ℕ) (q : Request) (e : requestRefusal q ≡ 0) where
   decide-held a = rw (e, archive-checked b a)
 
   -- the body that is fetched lies within the archive, and the rule applied to it is the decision
-  module _ (at : ℕ) (n : BitCount) (f : fetchedFor ≡ Body at n) where
-    body : (isArchive b ≡ true) × BodyIs b at n (partIn b q)
+  module _ (at : ℕ) (n : BitCount) {day : ℕ} (f : fetchedFor ≡ Body at n day) where
+    body : (isArchive b ≡ true) × BodyIs b at n day (partIn b q)
     body = fetch-found b _ (request-ranged q e) f
 
     pub body-within : at + bytesFor (n .0) ≤ length b

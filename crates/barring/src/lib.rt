@@ -77,7 +77,7 @@ pub fn decide(archive: &[u8], request: Request) -> Decision
         part,
     };
     match archive::fetch(archive, key) {
-        Fetched::Body(at, n) => ruling_of_body(archive, at, n, request),
+        Fetched::Body(at, n, _) => ruling_of_body(archive, at, n, request),
         Fetched::NotHeld => Decision::NotHeld,
         Fetched::Refused(refusal) => Decision::Refused(refusal),
     }

@@ -24,8 +24,10 @@ use Rattle.archive.specs.declared.Stored.{Stored}
 use Rattle.archive.specs.declared.Stored.the-variants as stored
 use Rattle.archive.specs.declared.Restored.{Restored}
 use Rattle.archive.specs.declared.Restored.the-variants as restored
-use Rattle.reload.specs.Reload.{reloadIs, reloadOut}
+use Rattle.reload.specs.Reload.{reloadedRefusal, reloadIs, reloadOut}
 use Rattle.reload.specs.declared.Definition.{Definition}
+use Rattle.reload.specs.declared.Reloaded.{Reloaded}
+use Rattle.reload.specs.declared.Reloaded.the-variants as reloaded
 use Rattle.reload.specs.declared.Target.the-variants.{Define, DefineExternal}
 use Rattle.words.specs.RecordWords.{areRecord, recordFrom}
 use Rattle.words.specs.RequestWords.{isRequest, requestFrom}
@@ -100,24 +102,28 @@ abbrev pub emptyLength : ℕ → List ℕ → ℕ → ℕ
 emptyLength home out old = storedLength (emptyIs home (length out)) old
 
 -- what boc_capture answers
-abbrev pub captureAnswer : List ℕ → List ℕ → ℕ → List ℕ → Stored
-captureAnswer b s n out = captureIs b s n (length out)
+abbrev pub captureAnswer : List ℕ → List ℕ → ℕ → ℕ → List ℕ → Stored
+captureAnswer b s n day out = captureIs b s n day (length out)
 
--- ---- boc_restore, boc_reload and boc_reload_external
+-- ---- boc_restore
 
 abbrev pub restoredNumber : Restored → ℕ
 restoredNumber a = restoredRefusal a .number
 
 abbrev pub restoredLength : Restored → ℕ → ℕ
-restoredLength (restored.Bits n) old = n .0
+restoredLength (restored.Bits n day) old = n .0
 restoredLength (restored.Refused f) old = old
 
+abbrev pub restoredDay : Restored → ℕ → ℕ
+restoredDay (restored.Bits n day) old = day
+restoredDay (restored.Refused f) old = old
+
 abbrev pub restoredEntry : Restored → ℕ → ℕ
-restoredEntry (restored.Bits n) old = old
+restoredEntry (restored.Bits n day) old = old
 restoredEntry (restored.Refused f) old = entryWord (f .entry)
 
 abbrev pub restoredPlace : Restored → ℕ → ℕ
-restoredPlace (restored.Bits n) old = old
+restoredPlace (restored.Bits n day) old = old
 restoredPlace (restored.Refused f) old = placeWord (f .place)
 
 -- the user and part that the call names
@@ -127,11 +133,28 @@ keyOf network ssi part = record { network = network; ssi = ssi; part = part }
 abbrev pub restoreAnswer : List ℕ → ℕ → ℕ → ℕ → List ℕ → Restored
 restoreAnswer b network ssi part out = restoreIs b (keyOf network ssi part) (length out)
 
+-- ---- boc_reload and boc_reload_external
+
+abbrev pub reloadedNumber : Reloaded → ℕ
+reloadedNumber a = reloadedRefusal a .number
+
+abbrev pub reloadedLength : Reloaded → ℕ → ℕ
+reloadedLength (reloaded.Bits n) old = n .0
+reloadedLength (reloaded.Refused f) old = old
+
+abbrev pub reloadedEntry : Reloaded → ℕ → ℕ
+reloadedEntry (reloaded.Bits n) old = old
+reloadedEntry (reloaded.Refused f) old = entryWord (f .entry)
+
+abbrev pub reloadedPlace : Reloaded → ℕ → ℕ
+reloadedPlace (reloaded.Bits n) old = old
+reloadedPlace (reloaded.Refused f) old = placeWord (f .place)
+
 -- the definition that the call names
 abbrev pub definitionOf : ℕ → ℕ → ℕ → Definition
 definitionOf definition delivery acknowledgement = record { definition = definition; delivery = delivery; acknowledgement = acknowledgement }
 
-abbrev pub reloadAnswer : List ℕ → ℕ → ℕ → ℕ → ℕ → ℕ → ℕ → List ℕ → Restored
+abbrev pub reloadAnswer : List ℕ → ℕ → ℕ → ℕ → ℕ → ℕ → ℕ → List ℕ → Reloaded
 reloadAnswer b network ssi part definition delivery acknowledgement out =
     reloadIs Define b (keyOf network ssi part) (definitionOf definition delivery acknowledgement) out
 
@@ -141,7 +164,7 @@ reloadLeaves b network ssi part definition delivery acknowledgement out =
     reloadOut Define b (keyOf network ssi part) (definitionOf definition delivery acknowledgement) out
 
 -- what boc_reload_external answers of the number part, and leaves in the buffer
-abbrev pub externalAnswer : List ℕ → ℕ → ℕ → ℕ → ℕ → ℕ → List ℕ → Restored
+abbrev pub externalAnswer : List ℕ → ℕ → ℕ → ℕ → ℕ → ℕ → List ℕ → Reloaded
 externalAnswer b network ssi definition delivery acknowledgement out =
     reloadIs DefineExternal b (keyOf network ssi 2) (definitionOf definition delivery acknowledgement) out
 

@@ -13,6 +13,7 @@ use pdu::Answer;
 use pdu::BitPlace;
 use pdu::Written;
 use reload::Definition;
+use reload::Reloaded;
 use reload::Target;
 use words::request;
 ghost use mathlib.Core.Path.{_≡_};
@@ -23,7 +24,8 @@ ghost use Rattle.archive.specs.Restoring.{restoreOut};
 ghost use Rattle.archive.specs.Listing.{listOut};
 ghost use Rattle.boc.specs.Calls.{placeWord, entryWord, readNumber, readPlace, writeNumber, writeOut, writeBits, emptyNumber, emptyLength};
 ghost use Rattle.boc.specs.Calls.{storedNumber, storedLength, storedEntry, storedPlace, captureAnswer, contentsAnswer};
-ghost use Rattle.boc.specs.Calls.{restoredNumber, restoredLength, restoredEntry, restoredPlace, keyOf, restoreAnswer, reloadAnswer, reloadLeaves};
+ghost use Rattle.boc.specs.Calls.{restoredNumber, restoredLength, restoredDay, restoredEntry, restoredPlace, keyOf, restoreAnswer};
+ghost use Rattle.boc.specs.Calls.{reloadedNumber, reloadedLength, reloadedEntry, reloadedPlace, reloadAnswer, reloadLeaves};
 ghost use Rattle.boc.specs.Calls.{externalAnswer, externalLeaves};
 ghost use Rattle.boc.specs.Calls.{decidedNumber, decidedVerdict, decidedEntry, decidedPlace, decideAnswer};
 
@@ -77,19 +79,43 @@ fn tell_stored(answer: Stored, length: &mut usize, entry: &mut usize, place: &mu
     }
 }
 
-// And one that is a length in bits.
-fn tell_restored(answer: Restored, bits: &mut usize, entry: &mut usize, place: &mut usize) -> u32
+// One that is a length in bits and a day.
+fn tell_restored(
+    answer: Restored,
+    bits: &mut usize,
+    day: &mut u32,
+    entry: &mut usize,
+    place: &mut usize,
+) -> u32
     ensures { λ r. ⌜ r ≡ restoredNumber answer ⌝ }
     ensures { λ _. ⌜ now (bits .exit) ≡ restoredLength answer (now (bits .entry)) ⌝ }
+    ensures { λ _. ⌜ now (day .exit) ≡ restoredDay answer (now (day .entry)) ⌝ }
     ensures { λ _. ⌜ now (entry .exit) ≡ restoredEntry answer (now (entry .entry)) ⌝ }
     ensures { λ _. ⌜ now (place .exit) ≡ restoredPlace answer (now (place .entry)) ⌝ }
 {
     match answer {
-        Restored::Bits(n) => {
+        Restored::Bits(n, taken) => {
             *bits = n.0;
+            *day = taken;
             0
         },
         Restored::Refused(refusal) => refuse(refusal, entry, place),
+    }
+}
+
+// And one that is a length in bits.
+fn tell_reloaded(answer: Reloaded, bits: &mut usize, entry: &mut usize, place: &mut usize) -> u32
+    ensures { λ r. ⌜ r ≡ reloadedNumber answer ⌝ }
+    ensures { λ _. ⌜ now (bits .exit) ≡ reloadedLength answer (now (bits .entry)) ⌝ }
+    ensures { λ _. ⌜ now (entry .exit) ≡ reloadedEntry answer (now (entry .entry)) ⌝ }
+    ensures { λ _. ⌜ now (place .exit) ≡ reloadedPlace answer (now (place .entry)) ⌝ }
+{
+    match answer {
+        Reloaded::Bits(n) => {
+            *bits = n.0;
+            0
+        },
+        Reloaded::Refused(refusal) => refuse(refusal, entry, place),
     }
 }
 
@@ -142,28 +168,29 @@ pub extern "C" fn boc_empty(home: u32, out: &mut [u8], length: &mut usize) -> u3
     }
 }
 
-// Captures the PDU of `bits` bits in `pdu`: writes the new archive; its length in bytes goes to `length`.
+// Captures the PDU of `bits` bits in `pdu`, taken on `day`: writes the new archive; its length in bytes goes to `length`.
 #[no_mangle]
 pub extern "C" fn boc_capture(
     archive: &[u8],
     pdu: &[u8],
     bits: usize,
+    day: u32,
     out: &mut [u8],
     length: &mut usize,
     entry: &mut usize,
     place: &mut usize,
 ) -> u32
-    ensures { λ r. ⌜ r ≡ storedNumber (captureAnswer (now (archive .entry)) (now (pdu .entry)) bits (now (out .entry))) ⌝ }
-    ensures { λ _. ⌜ now (out .exit) ≡ captureOut (now (archive .entry)) (now (pdu .entry)) bits (now (out .entry)) ⌝ }
-    ensures { λ _. ⌜ now (length .exit) ≡ storedLength (captureAnswer (now (archive .entry)) (now (pdu .entry)) bits (now (out .entry))) (now (length .entry)) ⌝ }
-    ensures { λ _. ⌜ now (entry .exit) ≡ storedEntry (captureAnswer (now (archive .entry)) (now (pdu .entry)) bits (now (out .entry))) (now (entry .entry)) ⌝ }
-    ensures { λ _. ⌜ now (place .exit) ≡ storedPlace (captureAnswer (now (archive .entry)) (now (pdu .entry)) bits (now (out .entry))) (now (place .entry)) ⌝ }
+    ensures { λ r. ⌜ r ≡ storedNumber (captureAnswer (now (archive .entry)) (now (pdu .entry)) bits day (now (out .entry))) ⌝ }
+    ensures { λ _. ⌜ now (out .exit) ≡ captureOut (now (archive .entry)) (now (pdu .entry)) bits day (now (out .entry)) ⌝ }
+    ensures { λ _. ⌜ now (length .exit) ≡ storedLength (captureAnswer (now (archive .entry)) (now (pdu .entry)) bits day (now (out .entry))) (now (length .entry)) ⌝ }
+    ensures { λ _. ⌜ now (entry .exit) ≡ storedEntry (captureAnswer (now (archive .entry)) (now (pdu .entry)) bits day (now (out .entry))) (now (entry .entry)) ⌝ }
+    ensures { λ _. ⌜ now (place .exit) ≡ storedPlace (captureAnswer (now (archive .entry)) (now (pdu .entry)) bits day (now (out .entry))) (now (place .entry)) ⌝ }
 {
-    let answer = archive::capture(archive, pdu, BitCount(bits), out);
+    let answer = archive::capture(archive, pdu, BitCount(bits), day, out);
     tell_stored(answer, length, entry, place)
 }
 
-// Restores the PDU held for a user and part; its length in bits goes to `bits`.
+// Restores the PDU held for a user and part; its length in bits goes to `bits`, its day to `day`.
 #[no_mangle]
 pub extern "C" fn boc_restore(
     archive: &[u8],
@@ -172,18 +199,20 @@ pub extern "C" fn boc_restore(
     part: u32,
     out: &mut [u8],
     bits: &mut usize,
+    day: &mut u32,
     entry: &mut usize,
     place: &mut usize,
 ) -> u32
     ensures { λ r. ⌜ r ≡ restoredNumber (restoreAnswer (now (archive .entry)) network ssi part (now (out .entry))) ⌝ }
     ensures { λ _. ⌜ now (out .exit) ≡ restoreOut (now (archive .entry)) (keyOf network ssi part) (now (out .entry)) ⌝ }
     ensures { λ _. ⌜ now (bits .exit) ≡ restoredLength (restoreAnswer (now (archive .entry)) network ssi part (now (out .entry))) (now (bits .entry)) ⌝ }
+    ensures { λ _. ⌜ now (day .exit) ≡ restoredDay (restoreAnswer (now (archive .entry)) network ssi part (now (out .entry))) (now (day .entry)) ⌝ }
     ensures { λ _. ⌜ now (entry .exit) ≡ restoredEntry (restoreAnswer (now (archive .entry)) network ssi part (now (out .entry))) (now (entry .entry)) ⌝ }
     ensures { λ _. ⌜ now (place .exit) ≡ restoredPlace (restoreAnswer (now (archive .entry)) network ssi part (now (out .entry))) (now (place .entry)) ⌝ }
 {
     let key = Key { network, ssi, part };
     let answer = archive::restore(archive, key, out);
-    tell_restored(answer, bits, entry, place)
+    tell_restored(answer, bits, day, entry, place)
 }
 
 // Writes the DEFINE of the part held for a user; its length in bits goes to `bits`.
@@ -201,11 +230,11 @@ pub extern "C" fn boc_reload(
     entry: &mut usize,
     place: &mut usize,
 ) -> u32
-    ensures { λ r. ⌜ r ≡ restoredNumber (reloadAnswer (now (archive .entry)) network ssi part definition delivery acknowledgement (now (out .entry))) ⌝ }
+    ensures { λ r. ⌜ r ≡ reloadedNumber (reloadAnswer (now (archive .entry)) network ssi part definition delivery acknowledgement (now (out .entry))) ⌝ }
     ensures { λ _. ⌜ now (out .exit) ≡ reloadLeaves (now (archive .entry)) network ssi part definition delivery acknowledgement (now (out .entry)) ⌝ }
-    ensures { λ _. ⌜ now (bits .exit) ≡ restoredLength (reloadAnswer (now (archive .entry)) network ssi part definition delivery acknowledgement (now (out .entry))) (now (bits .entry)) ⌝ }
-    ensures { λ _. ⌜ now (entry .exit) ≡ restoredEntry (reloadAnswer (now (archive .entry)) network ssi part definition delivery acknowledgement (now (out .entry))) (now (entry .entry)) ⌝ }
-    ensures { λ _. ⌜ now (place .exit) ≡ restoredPlace (reloadAnswer (now (archive .entry)) network ssi part definition delivery acknowledgement (now (out .entry))) (now (place .entry)) ⌝ }
+    ensures { λ _. ⌜ now (bits .exit) ≡ reloadedLength (reloadAnswer (now (archive .entry)) network ssi part definition delivery acknowledgement (now (out .entry))) (now (bits .entry)) ⌝ }
+    ensures { λ _. ⌜ now (entry .exit) ≡ reloadedEntry (reloadAnswer (now (archive .entry)) network ssi part definition delivery acknowledgement (now (out .entry))) (now (entry .entry)) ⌝ }
+    ensures { λ _. ⌜ now (place .exit) ≡ reloadedPlace (reloadAnswer (now (archive .entry)) network ssi part definition delivery acknowledgement (now (out .entry))) (now (place .entry)) ⌝ }
 {
     let key = Key { network, ssi, part };
     let wanted = Definition {
@@ -214,7 +243,7 @@ pub extern "C" fn boc_reload(
         acknowledgement,
     };
     let answer = reload::reload(Target::Define, archive, key, wanted, out);
-    tell_restored(answer, bits, entry, place)
+    tell_reloaded(answer, bits, entry, place)
 }
 
 // Writes the DEFINE EXTERNAL of the number part held for a user; its length in bits goes to `bits`.
@@ -231,11 +260,11 @@ pub extern "C" fn boc_reload_external(
     entry: &mut usize,
     place: &mut usize,
 ) -> u32
-    ensures { λ r. ⌜ r ≡ restoredNumber (externalAnswer (now (archive .entry)) network ssi definition delivery acknowledgement (now (out .entry))) ⌝ }
+    ensures { λ r. ⌜ r ≡ reloadedNumber (externalAnswer (now (archive .entry)) network ssi definition delivery acknowledgement (now (out .entry))) ⌝ }
     ensures { λ _. ⌜ now (out .exit) ≡ externalLeaves (now (archive .entry)) network ssi definition delivery acknowledgement (now (out .entry)) ⌝ }
-    ensures { λ _. ⌜ now (bits .exit) ≡ restoredLength (externalAnswer (now (archive .entry)) network ssi definition delivery acknowledgement (now (out .entry))) (now (bits .entry)) ⌝ }
-    ensures { λ _. ⌜ now (entry .exit) ≡ restoredEntry (externalAnswer (now (archive .entry)) network ssi definition delivery acknowledgement (now (out .entry))) (now (entry .entry)) ⌝ }
-    ensures { λ _. ⌜ now (place .exit) ≡ restoredPlace (externalAnswer (now (archive .entry)) network ssi definition delivery acknowledgement (now (out .entry))) (now (place .entry)) ⌝ }
+    ensures { λ _. ⌜ now (bits .exit) ≡ reloadedLength (externalAnswer (now (archive .entry)) network ssi definition delivery acknowledgement (now (out .entry))) (now (bits .entry)) ⌝ }
+    ensures { λ _. ⌜ now (entry .exit) ≡ reloadedEntry (externalAnswer (now (archive .entry)) network ssi definition delivery acknowledgement (now (out .entry))) (now (entry .entry)) ⌝ }
+    ensures { λ _. ⌜ now (place .exit) ≡ reloadedPlace (externalAnswer (now (archive .entry)) network ssi definition delivery acknowledgement (now (out .entry))) (now (place .entry)) ⌝ }
 {
     let key = Key {
         network,
@@ -248,7 +277,7 @@ pub extern "C" fn boc_reload_external(
         acknowledgement,
     };
     let answer = reload::reload(Target::DefineExternal, archive, key, wanted, out);
-    tell_restored(answer, bits, entry, place)
+    tell_reloaded(answer, bits, entry, place)
 }
 
 // Decides a request; the decision goes to `decision`: 0 to 2 barred with that cause, 3 allowed, 4 not held.

@@ -9,8 +9,8 @@ ghost use Rattle.bits.specs.Bits.{pick};
 fn main() {
     // one byte more than an archive may have, so that longer input is refused
     let mut input = [0u8; 65537];
-    // no report is longer: 26 bytes, and 35 for each of at most 512 entries
-    let mut text = [0u8; 17946];
+    // no report is longer: 26 bytes, and 45 for each of at most 512 entries
+    let mut text = [0u8; 23066];
     // nothing told is longer: 12 bytes, and two numbers of at most 20 digits
     let mut fault = [0u8; 52];
     let got = read_all(&mut input);

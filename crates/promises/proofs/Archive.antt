@@ -6,7 +6,7 @@ use Prim.Native.Nat.{ℕ}
 use Rattle.bits.proofs.Tests.{differ, false-unless}
 use Rattle.reader.specs.Read.{readIs}
 use Rattle.judging.specs.Judge.{mayHold}
-use Rattle.archive.specs.Filing.{entryFor}
+use Rattle.archive.specs.Keeping.{entryFor}
 use Rattle.archive.proofs.Model.Bodies as bodies
 use Rattle.archive.proofs.Bytes.AsWritten as writing
 use Rattle.archive.proofs.Calls.Limits.{counted}
@@ -37,7 +37,7 @@ promise = record {
   no-entry = λ s n a. (
     λ m home e l. false-unless _ (λ x.
         differ (sym (subst (λ (k : ℕ). mayHold (readIs s k .found) ≡ true) l (bodies.agrees-says home (record { entry = e; body = s }) x .may)) ∙ m)),
-    λ none. false-unless _ (λ m. let e = entryFor 0 (readIs s n .found) n in
-        differ (sym (bodies.agrees-is 0 (record { entry = e; body = s }) (offered-agrees 0 s n a m)) ∙ none 0 e refl)),
+    λ none. false-unless _ (λ m. let e = entryFor 0 s n 0 in
+        differ (sym (bodies.agrees-is 0 (record { entry = e; body = s }) (offered-agrees 0 s n 0 a m)) ∙ none 0 e refl)),
   );
 }

@@ -32,7 +32,9 @@ use Rattle.archive.specs.declared.Stored.the-variants as stored
 use Rattle.archive.specs.declared.Restored.{Restored}
 use Rattle.archive.specs.declared.Restored.the-variants as restored
 use Rattle.archive.specs.declared.contents.Key.{Key}
-use Rattle.reload.specs.Reload.{reloadIs}
+use Rattle.reload.specs.Reload.{reloadedRefusal, reloadIs}
+use Rattle.reload.specs.declared.Reloaded.{Reloaded}
+use Rattle.reload.specs.declared.Reloaded.the-variants as reloaded
 use Rattle.reload.specs.declared.Definition.{Definition}
 use Rattle.reload.specs.declared.Target.{Target}
 use Rattle.words.specs.RecordWords.{recordWords, recordFrom}
@@ -43,7 +45,8 @@ use Rattle.barring.specs.declared.Decision.{Decision}
 use Rattle.barring.specs.declared.Decision.the-variants as decided
 use Rattle.boc.specs.Calls.{placeWord, entryWord, readPlaceOf, writtenLength, writeNumber, writeOut, writeBits}
 use Rattle.boc.specs.Calls.{storedNumber, storedLength, storedEntry, storedPlace, captureAnswer, contentsAnswer}
-use Rattle.boc.specs.Calls.{restoredNumber, restoredLength, restoredEntry, restoredPlace, keyOf, restoreAnswer}
+use Rattle.boc.specs.Calls.{restoredNumber, restoredLength, restoredDay, restoredEntry, restoredPlace, keyOf, restoreAnswer}
+use Rattle.boc.specs.Calls.{reloadedNumber, reloadedLength, reloadedEntry, reloadedPlace}
 use Rattle.boc.specs.Calls.{decidedNumber, decidedVerdict, decidedEntry, decidedPlace, decideAnswer}
 use Rattle.promises.specs.Answers.{Exactly}
 use Rattle.promises.specs.Calls as call
@@ -81,10 +84,16 @@ module _ (old entry place : ℕ) where
   stored-success a e =
       (ap (λ (x : Stored). storedLength x old) e, ap (λ (x : Stored). storedEntry x entry) e, ap (λ (x : Stored). storedPlace x place) e)
 
-  restored-refusal : (a : Restored) → (restoredNumber a ≡ 0 → ⊥) → (f : Refusal) × (a ≡ restored.Refused f) × (restoredLength a old ≡ old)
+  restored-refusal : (oldDay : ℕ) (a : Restored) → (restoredNumber a ≡ 0 → ⊥) → (f : Refusal) × (a ≡ restored.Refused f)
+      × (restoredLength a old ≡ old) × (restoredDay a oldDay ≡ oldDay)
       × (restoredEntry a entry ≡ entryWord (restoredRefusal a .entry)) × (restoredPlace a place ≡ placeWord (restoredRefusal a .place))
-  restored-refusal (restored.Bits n) h = absurd (h refl)
-  restored-refusal (restored.Refused f) h = (f, refl, refl, refl, refl)
+  restored-refusal oldDay (restored.Bits n day) h = absurd (h refl)
+  restored-refusal oldDay (restored.Refused f) h = (f, refl, refl, refl, refl, refl)
+
+  reloaded-refusal : (a : Reloaded) → (reloadedNumber a ≡ 0 → ⊥) → (f : Refusal) × (a ≡ reloaded.Refused f) × (reloadedLength a old ≡ old)
+      × (reloadedEntry a entry ≡ entryWord (reloadedRefusal a .entry)) × (reloadedPlace a place ≡ placeWord (reloadedRefusal a .place))
+  reloaded-refusal (reloaded.Bits n) h = absurd (h refl)
+  reloaded-refusal (reloaded.Refused f) h = (f, refl, refl, refl, refl)
 
   decided-refusal : (d : Decision) → (decidedNumber d ≡ 0 → ⊥) → (decidedVerdict d old ≡ old)
       × (decidedEntry d entry ≡ entryWord (decidedRefusal d .entry)) × (decidedPlace d place ≡ placeWord (decidedRefusal d .place))
@@ -168,21 +177,21 @@ module _ (home : ℕ) (out : List ℕ) (old : ℕ) where
     refusal = λ h. let r = stored-refusal old 0 0 (emptyIs home (length out)) h in (empty.promise .refusal home out (r .0) (r .1), r .2);
   }
 
-module _ (b s : List ℕ) (n : ℕ) (out : List ℕ) (old entry place : ℕ) where
-  pub capture-kept : Capture b s n out old entry place
+module _ (b s : List ℕ) (n day : ℕ) (out : List ℕ) (old entry place : ℕ) where
+  pub capture-kept : Capture b s n day out old entry place
   capture-kept = record {
-    table = capture.promise .table b s n (length out);
+    table = capture.promise .table b s n day (length out);
     success = λ e.
-        let p = capture.promise .success b s n out e in
+        let p = capture.promise .success b s n day out e in
         let q = stored-success old entry place _ (p .0) in
         (p .1, q .0, q .1, q .2);
     refusal = λ h.
-        let r = stored-refusal old entry place (captureAnswer b s n out) h in
-        (capture.promise .refusal b s n out (r .0) (r .1), r .2, r .3, r .4);
+        let r = stored-refusal old entry place (captureAnswer b s n day out) h in
+        (capture.promise .refusal b s n day out (r .0) (r .1), r .2, r .3, r .4);
   }
 
-module _ (b : List ℕ) (network ssi part : ℕ) (out : List ℕ) (old entry place : ℕ) where
-  pub restore-kept : Restore b network ssi part out old entry place
+module _ (b : List ℕ) (network ssi part : ℕ) (out : List ℕ) (old oldDay entry place : ℕ) where
+  pub restore-kept : Restore b network ssi part out old oldDay entry place
   restore-kept = record {
     table = restore.promise .table b (keyOf network ssi part) (length out);
     success = λ e.
@@ -192,12 +201,13 @@ module _ (b : List ℕ) (network ssi part : ℕ) (out : List ℕ) (old entry pla
           p .2,
           p .4,
           ap (λ (x : Restored). restoredLength x old) (p .3),
+          ap (λ (x : Restored). restoredDay x oldDay) (p .3),
           ap (λ (x : Restored). restoredEntry x entry) (p .3),
           ap (λ (x : Restored). restoredPlace x place) (p .3),
         );
     refusal = λ h.
-        let r = restored-refusal old entry place (restoreAnswer b network ssi part out) h in
-        (restore.promise .refusal b (keyOf network ssi part) out (r .0) (r .1), r .2, r .3, r .4);
+        let r = restored-refusal old entry place oldDay (restoreAnswer b network ssi part out) h in
+        (restore.promise .refusal b (keyOf network ssi part) out (r .0) (r .1), r .2, r .3, r .4, r .5);
   }
 
 module _ (t : Target) (b : List ℕ) (key : Key) (d : Definition) (out : List ℕ) (old entry place : ℕ) where
@@ -210,12 +220,12 @@ module _ (t : Target) (b : List ℕ) (key : Key) (d : Definition) (out : List �
           p .1,
           p .2,
           p .5,
-          ap (λ (x : Restored). restoredLength x old) (p .4),
-          ap (λ (x : Restored). restoredEntry x entry) (p .4),
-          ap (λ (x : Restored). restoredPlace x place) (p .4),
+          ap (λ (x : Reloaded). reloadedLength x old) (p .4),
+          ap (λ (x : Reloaded). reloadedEntry x entry) (p .4),
+          ap (λ (x : Reloaded). reloadedPlace x place) (p .4),
         );
     refusal = λ h.
-        let r = restored-refusal old entry place (reloadIs t b key d out) h in
+        let r = reloaded-refusal old entry place (reloadIs t b key d out) h in
         (reload.promise .refusal t b key d out (r .0) (r .1), r .2, r .3, r .4);
   }
 

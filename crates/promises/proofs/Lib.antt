@@ -11,3 +11,4 @@ pub mod Calls
 pub mod Retired
 pub mod Sequences
 pub mod Determined
+pub mod Days

@@ -21,18 +21,18 @@ use Rattle.pdu.proofs.RoundTrip.{read-written}
 use Rattle.archive.specs.Model.{Held}
 use Rattle.archive.specs.Reading.{reading}
 use Rattle.archive.specs.Refusals.{plain}
-use Rattle.archive.specs.Restoring.{restoredRefusal, lookup}
+use Rattle.archive.specs.Restoring.{lookup}
 use Rattle.archive.specs.declared.contents.Key.{Key}
 use Rattle.archive.specs.declared.refusal.Refusal.{Refusal}
-use Rattle.archive.specs.declared.Restored.{Restored}
-use Rattle.archive.specs.declared.Restored.the-variants.{Bits, Refused}
+use Rattle.reload.specs.declared.Reloaded.{Reloaded}
+use Rattle.reload.specs.declared.Reloaded.the-variants.{Bits, Refused}
 use Rattle.reload.specs.Define.{defineOf, stands}
-use Rattle.reload.specs.Reload.{recordOf, reloadIs, reloadOut}
+use Rattle.reload.specs.Reload.{reloadedRefusal, recordOf, reloadIs, reloadOut}
 use Rattle.reload.specs.declared.Definition.{Definition}
 use Rattle.reload.specs.declared.Target.{Target}
 use Rattle.reload.proofs.Standing.{define-stands}
 use Rattle.reload.proofs.Held.{held-agrees}
-use Rattle.boc.specs.Calls.{restoredLength}
+use Rattle.boc.specs.Calls.{reloadedLength}
 use Rattle.promises.specs.Answers.{OneOf}
 use Rattle.promises.specs.Archive as archive
 use Rattle.promises.specs.Archive.{IsArchive, Ranged}
@@ -76,7 +76,7 @@ module _ (t : Target) (b : List ℕ) (key : Key) (d : Definition) (out : List �
 
   module _ (n : ℕ) (e : reloadIs t b key d out ≡ Bits (record { 0 = n })) (k : IsArchive b) (h : Held) (x : Holds b key k h) where
     done : Success t b key d out
-    done = succeeded t b key d out (ap (λ (x : Restored). restoredRefusal x .number) e)
+    done = succeeded t b key d out (ap (λ (x : Reloaded). reloadedRefusal x .number) e)
 
     found-as : lookup key (reading b .held) ≡ some h
     found-as = holds b key (done .ranged) k h x
@@ -94,7 +94,7 @@ module _ (t : Target) (b : List ℕ) (key : Key) (d : Definition) (out : List �
     back : readIs (take (bytesFor n) (reloadOut t b key d out)) n ≡ acceptedAs define
     back =
         let y = defined t b key d (done .held) in
-        let size : lengthOf y ≡ n = ap (λ (a : Restored). restoredLength a 0) (sym (done .is) ∙ e) in
+        let size : lengthOf y ≡ n = ap (λ (a : Reloaded). reloadedLength a 0) (sym (done .is) ∙ e) in
         let left : outIs y out ≡ reloadOut t b key d out =
         writing.promise .success y out (ap writtenNumber (done .wrote)) .1
         ∙ ap (λ (m : ℕ). pack (pdu .print y) ++ drop m out) (sym (length-pack (pdu .print y))) ∙ sym (done .left) in
@@ -117,7 +117,7 @@ module _ (t : Target) (b : List ℕ) (key : Key) (d : Definition) (out : List �
     not-lost s e =
         let w = defined t b key d h in
         let twelve : writes.number w out ≡ 12 =
-        ap (λ (f : Refusal). f .number) (sym (wrote-number t b key d out r a k h x (is-standing t _ _ s)) ∙ ap restoredRefusal e) in
+        ap (λ (f : Refusal). f .number) (sym (wrote-number t b key d out r a k h x (is-standing t _ _ s)) ∙ ap reloadedRefusal e) in
         differ (sym (subst (OneOf (0 ∷ 3 ∷ 4 ∷ 8 ∷ [])) twelve (writing.promise .table w out .listed)))
 
     lost-exactly : (reloadIs t b key d out ≡ Refused (plain 12)) ↔ ((y : Record) → Puttable t d (recordOf h) y → ⊥)

@@ -19,12 +19,12 @@ use Rattle.barring.specs.declared.Decision.the-variants as decided
 use Rattle.rules.specs.declared.request.Request.{Request}
 use Rattle.archive.specs.Model.{inRange}
 use Rattle.archive.specs.Reading.{reading}
-use Rattle.archive.specs.Filing.{names}
+use Rattle.archive.specs.Filing.{sameKey}
 use Rattle.archive.specs.Refusals.{plain}
 use Rattle.archive.specs.Checking.{checkIs, ifArchive}
 use Rattle.archive.specs.Keeping.{storedRefusal, over, emptyIs, emptyOut, captureOut}
-use Rattle.archive.specs.Restoring.{restores, restoreOut}
-use Rattle.archive.specs.History.{Offer, keptOf, answerTo, after, afterAll, entryOf, latest, lastAccepted}
+use Rattle.archive.specs.Restoring.{restoreOut}
+use Rattle.archive.specs.History.{Offer, keptOf, answerTo, after, afterAll, offeredFor, latest, lastAccepted}
 use Rattle.archive.specs.declared.contents.Key.{Key}
 use Rattle.archive.specs.declared.refusal.Refusal.{Refusal}
 use Rattle.archive.specs.declared.Stored.{Stored}
@@ -32,13 +32,15 @@ use Rattle.archive.specs.declared.Stored.the-variants.{Bytes, Refused}
 use Rattle.archive.specs.declared.Restored.{Restored}
 use Rattle.archive.proofs.Model.Keys.{in-range}
 use Rattle.reload.specs.Define.{defineOf}
-use Rattle.reload.specs.Reload.{redefined, reloadIs, reloadOut}
+use Rattle.reload.specs.Reload.{redefined, reloadIs, reloads, reloadOut}
 use Rattle.reload.specs.declared.Definition.{Definition}
+use Rattle.reload.specs.declared.Reloaded.{Reloaded}
 use Rattle.reload.specs.declared.Target.{Target}
 use Rattle.words.specs.RequestWords.{requestFrom}
 use Rattle.barring.specs.Decide.{keyFor, partIn, judgedBy, decideIs}
 use Rattle.barring.specs.Decision.{decisionOf, verdictOf}
-use Rattle.boc.specs.Calls.{storedNumber, storedLength, emptyNumber, restoredNumber, restoredLength, keyOf, restoreAnswer}
+use Rattle.boc.specs.Calls.{storedNumber, storedLength, emptyNumber, restoredNumber, restoredLength, restoredDay, keyOf, restoreAnswer}
+use Rattle.boc.specs.Calls.{reloadedNumber, reloadedLength}
 use Rattle.boc.specs.Calls.{decidedNumber, decidedVerdict, decideAnswer}
 use Rattle.promises.specs.Sequences.{Call, returned, goneOn, goneOnAll, lastZero, begun, Promise}
 use Rattle.promises.specs.Demand1.Decision.{Verdict, outside-group, restricted-service, restricted-address, allowed, not-held}
@@ -61,7 +63,7 @@ archives = archive-kept.promise
 -- no capture is refused with 0
 zero-taken : (b : List ℕ) (o : Offer) (f : Refusal) → answerTo b o ≡ Refused f → f .number ≡ 0 → ⊥
 zero-taken b o f e z =
-    let w = capture.promise .success b (o .pdu) (o .bits) (o .lent) (ap (λ (a : Stored). storedRefusal a .number) e ∙ z) .0 in
+    let w = capture.promise .success b (o .pdu) (o .bits) (o .day) (o .lent) (ap (λ (a : Stored). storedRefusal a .number) e ∙ z) .0 in
     never cc
 
 goes : (a : Stored) (b out : List ℕ) (old : ℕ) → ((f : Refusal) → a ≡ Refused f → f .number ≡ 0 → ⊥)
@@ -81,7 +83,7 @@ offers (c ∷ cs) = c .offer ∷ offers cs
 
 gone-on : (b : List ℕ) (c : Call) → goneOn b c ≡ after b (c .offer)
 unfolding goneOn after
-gone-on b c = let o = c .offer in goes (answerTo b o) b (captureOut b (o .pdu) (o .bits) (o .lent)) (c .old) (zero-taken b o)
+gone-on b c = let o = c .offer in goes (answerTo b o) b (captureOut b (o .pdu) (o .bits) (o .day) (o .lent)) (c .old) (zero-taken b o)
 
 gone-on-all : (b : List ℕ) (cs : List Call) → goneOnAll b cs ≡ afterAll b (offers cs)
 unfolding goneOnAll afterAll offers
@@ -94,9 +96,9 @@ module _ (k : Key) where
   last-zero b last [] = refl
   last-zero b last (c ∷ cs) =
       let o = c .offer in
-      last-zero (goneOn b c) (pick (eqb (returned b c) 0 && names (entryOf b o) k) (some o) last) cs
+      last-zero (goneOn b c) (pick (eqb (returned b c) 0 && sameKey (offeredFor b o) k) (some o) last) cs
       ∙ ap₂ (λ (x : List ℕ) (l : Option Offer). lastAccepted k x l (offers cs)) (gone-on b c)
-      (counts (answerTo b o) (names (entryOf b o) k) o last (zero-taken b o))
+      (counts (answerTo b o) (sameKey (offeredFor b o) k) o last (zero-taken b o))
 
 -- ---- restore and decide
 
@@ -153,39 +155,41 @@ module _ (home : ℕ) (lent : List ℕ) (old : ℕ) (calls : List Call) (e : emp
       sym
       (last-zero k (begun home lent old) none calls ∙ ap (λ (x : List ℕ). lastAccepted k x none (offers calls)) begun-is)
 
-  module _ (network ssi part : ℕ) (r : inRange (keyOf network ssi part) ≡ true) (out : List ℕ) (bits : ℕ) where
-    abbrev Gives : ℕ → ℕ → List ℕ → List ℕ → Type 0
-    Gives k n left b =
-        (restoredNumber (restoreAnswer b network ssi part out) ≡ k) × (restoredLength (restoreAnswer b network ssi part out) bits ≡ n)
+  module _ (network ssi part : ℕ) (r : inRange (keyOf network ssi part) ≡ true) (out : List ℕ) (bits day : ℕ) where
+    abbrev Gives : ℕ → ℕ → ℕ → List ℕ → List ℕ → Type 0
+    Gives k n taken left b = let answer = restoreAnswer b network ssi part out in
+        (restoredNumber answer ≡ k) × (restoredLength answer bits ≡ n) × (restoredDay answer day ≡ taken)
         × (restoreOut b (keyOf network ssi part) out ≡ left)
 
-    restored : (o : Offer) → last (keyOf network ssi part) ≡ some o → bytesFor (o .bits) ≤ length out → Gives 0 (o .bits) (over (o .pdu) out) b
+    restored : (o : Offer) → last (keyOf network ssi part) ≡ some o → bytesFor (o .bits) ≤ length out
+        → Gives 0 (o .bits) (o .day) (over (o .pdu) out) b
     restored o l h =
         let p = demand3.restores-the-last home lent m written (offers calls) (keyOf network ssi part) r out o (last-is (keyOf network ssi part) ∙ l) h in
-        subst (Gives 0 (o .bits) (over (o .pdu) out)) archive-is
-        (ap restoredNumber (p .0), ap (λ (x : Restored). restoredLength x bits) (p .0), p .1)
+        subst (Gives 0 (o .bits) (o .day) (over (o .pdu) out)) archive-is
+        (ap restoredNumber (p .0), ap (λ (x : Restored). restoredLength x bits) (p .0), ap (λ (x : Restored). restoredDay x day) (p .0), p .1)
 
-    none-held : last (keyOf network ssi part) ≡ none → Gives 11 bits out b
+    none-held : last (keyOf network ssi part) ≡ none → Gives 11 bits day out b
     none-held l =
         let p = demand3.restores-nothing-else home lent m written (offers calls) (keyOf network ssi part) r out (last-is (keyOf network ssi part) ∙ l) in
-        subst (Gives 11 bits out) archive-is (ap restoredNumber (p .0), ap (λ (x : Restored). restoredLength x bits) (p .0), p .1)
+        subst (Gives 11 bits day out) archive-is
+        (ap restoredNumber (p .0), ap (λ (x : Restored). restoredLength x bits) (p .0), ap (λ (x : Restored). restoredDay x day) (p .0), p .1)
 
   module _ (t : Target) (k : Key) (d : Definition) (r : Ranged k) (a : Asked d) (out : List ℕ) where
-    abbrev Answers : Restored → List ℕ → List ℕ → Type 0
+    abbrev Answers : Reloaded → List ℕ → List ℕ → Type 0
     Answers x left b = (reloadIs t b k d out ≡ x) × (reloadOut t b k d out ≡ left)
 
     reloaded : (o : Offer) → last k ≡ some o → let part = readIs (o .pdu) (o .bits) .found in
-        Answers (redefined t d part out) (restores (redefined t d part out) (pack (pdu .print (defineOf t d part))) out) b
+        Answers (redefined t d part out) (reloads (redefined t d part out) (pack (pdu .print (defineOf t d part))) out) b
     reloaded o l =
         subst (Answers _ _) archive-is
         (demand3.reloads-the-last home lent m written (offers calls) t k (archives.in-range k .1 r) d (asked-is d a) out o (last-is k ∙ l))
 
     none-reloaded : (bits : ℕ) → last k ≡ none
-        → (restoredNumber (reloadIs t b k d out) ≡ 11) × (restoredLength (reloadIs t b k d out) bits ≡ bits) × (reloadOut t b k d out ≡ out)
+        → (reloadedNumber (reloadIs t b k d out) ≡ 11) × (reloadedLength (reloadIs t b k d out) bits ≡ bits) × (reloadOut t b k d out ≡ out)
     none-reloaded bits l =
         let p = subst (Answers _ _) archive-is
         (demand3.reloads-nothing-else home lent m written (offers calls) t k (archives.in-range k .1 r) d (asked-is d a) out (last-is k ∙ l)) in
-        (ap restoredNumber (p .0), ap (λ (x : Restored). restoredLength x bits) (p .0), p .1)
+        (ap reloadedNumber (p .0), ap (λ (x : Reloaded). reloadedLength x bits) (p .0), p .1)
 
   module _ (w : List ℕ) (before : ℕ) (d : decidedNumber (decideAnswer b w) ≡ 0) where
     abbrev q : Request

@@ -26,7 +26,6 @@ use Rattle.archive.specs.declared.checking.Checked.the-variants as checked
 use Rattle.archive.proofs.Model.Checked.{checked-archive}
 use Rattle.archive.proofs.Model.Rules.{kept, archive-formed}
 use Rattle.archive.proofs.Model.Bodies as bodies
-use Rattle.archive.specs.declared.contents.Entry.{Entry}
 use Rattle.archive.specs.declared.contents.Key.{Key}
 use Rattle.barring.specs.Decide.{partFor, keyFor, judgedBy, partIn, decideIs}
 use Rattle.barring.specs.Decision.{decisionOf}
@@ -95,7 +94,7 @@ module _ (b : List ℕ) (q : Request) where
         let a = bodies.agrees-says home h (among-agrees home 0 h (reading b .held) (archive-formed b ok .rules) (d .among)) in
         let r = readIs (h .body) (h .entry .bits .0) .found in
         let n : missingIn home r ≡ q .user .network =
-        sym (ap (λ (x : Entry). x .key .network) (a .entry)) ∙ ap (λ (k : Key). k .network) (d .for) in
+        sym (ap (λ (k : Key). k .network) (a .key)) ∙ ap (λ (k : Key). k .network) (d .for) in
         ap decisionOf (read-with home r q (q .user .network) n)
 
   -- the answer, after the two tests

@@ -69,6 +69,7 @@ pub record WellFormed (a : Archive) : Type 0 where
   pub home : a .home < 16777216
   pub few : length (a .held) ≤ 512
   pub rising : Rising (a .held)
+  pub days : Each (λ h. h .entry .day < 65536) (a .held)
   pub bodies : Each (λ h. (r : Record) × Agrees (a .home) h r) (a .held)
   pub small : length (bytesOf a) ≤ 65536
 
@@ -80,12 +81,13 @@ twoBytes b at = getD b at 0 * 256 + getD b (at + 1) 0
 abbrev pub threeBytes : List ℕ → ℕ → ℕ
 threeBytes b at = getD b at 0 * 65536 + getD b (at + 1) 0 * 256 + getD b (at + 2) 0
 
--- "Contents, 9 bytes an entry: network (3), SSI (3), part (1), bit length (2)"
+-- "Contents, 11 bytes an entry: network (3), SSI (3), part (1), bit length (2)", and document 02's day (2)
 pub record EntryAt (b : List ℕ) (at : ℕ) (e : Entry) : Type 0 where
   pub network : e .key .network ≡ threeBytes b at
   pub ssi : e .key .ssi ≡ threeBytes b (at + 3)
   pub part : e .key .part ≡ getD b (at + 6) 0
   pub bits : e .bits .0 ≡ twoBytes b (at + 7)
+  pub day : e .day ≡ twoBytes b (at + 9)
 
 -- "Bodies, in contents order, each in its rounded-up bytes, nothing between or after": entries from one place on, bodies from another
 abbrev pub Laid : List ℕ → ℕ → ℕ → List Held → Type 0
@@ -93,7 +95,7 @@ Laid b at off [] = off ≡ length b
 Laid b at off (h ∷ hs) =
     EntryAt b at (h .entry)
     × (h .body ≡ take ((h .entry .bits .0 + 7) / 8) (drop off b))
-    × Laid b (at + 9) (off + (h .entry .bits .0 + 7) / 8) hs
+    × Laid b (at + 11) (off + (h .entry .bits .0 + 7) / 8) hs
 
 -- "Header, 5 bytes: home network (3), entry count (2)", then contents and bodies
 pub record IsArchive (b : List ℕ) : Type 0 where
@@ -101,7 +103,7 @@ pub record IsArchive (b : List ℕ) : Type 0 where
   pub formed : WellFormed archive
   pub home : archive .home ≡ threeBytes b 0
   pub count : length (archive .held) ≡ twoBytes b 3
-  pub laid : Laid b 5 (5 + 9 * length (archive .held)) (archive .held)
+  pub laid : Laid b 5 (5 + 11 * length (archive .held)) (archive .held)
 
 -- ---- a user and part
 

@@ -25,7 +25,7 @@ abbrev pub numberOf : Refusal → ℕ
 numberOf f = f .number
 
 -- header, contents and file length are right, whatever the bodies: 5 bytes and at most 65,536, at most 512 entries, all there, their keys in range
--- (so every part is 1 or 2) and rising, and nothing after the bodies
+-- (so every part is 1 or 2) and rising, their days in two bytes, and nothing after the bodies
 pub record HasShape (b : List ℕ) : Type 0 where
   pub archive : Archive
   pub network : archive .home < 16777216
@@ -33,9 +33,10 @@ pub record HasShape (b : List ℕ) : Type 0 where
   pub small : length b ≤ 65536
   pub keys : Each (λ h. Ranged (h .entry .key)) (archive .held)
   pub rising : Rising (archive .held)
+  pub days : Each (λ h. h .entry .day < 65536) (archive .held)
   pub home : archive .home ≡ threeBytes b 0
   pub count : length (archive .held) ≡ twoBytes b 3
-  pub laid : Laid b 5 (5 + 9 * length (archive .held)) (archive .held)
+  pub laid : Laid b 5 (5 + 11 * length (archive .held)) (archive .held)
 
 -- a body at fault is refused in reading, with that refusal's place; or it is a legal PDU that does not agree with its entry, which has no place
 pub data AtFault (home : ℕ) (h : Held) : BitPlace → Type 0 where

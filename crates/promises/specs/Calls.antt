@@ -1,6 +1,6 @@
--- Demand 1 as C meets it, about the eight calls of include/boc.h: each returns 0 or a number of its list, exactly then. If it is not 0, the
--- lent memory and the length or decision behind the pointer are what they were, and the pointers to entry and place hold those of the refusal,
--- or BOC_NOWHERE; if it is 0, the pointer holds exactly the length or the decision, and entry and place are what they were.
+-- Demand 1 as C meets it, about the nine calls of include/boc.h: each returns 0 or a number of its list, exactly then. If it is not 0, the
+-- lent memory and the length, day or decision behind its pointer are what they were, and the pointers to entry and place hold those of the refusal,
+-- or BOC_NOWHERE; if it is 0, its pointer holds exactly the length, the day or the decision, and entry and place are what they were.
 use mathlib.Core.Path.{_≡_}
 use mathlib.Core.List.{List, [], _∷_, _++_}
 use mathlib.Core.Option.{none}
@@ -21,7 +21,7 @@ use Rattle.archive.specs.Listing.{listOut}
 use Rattle.archive.specs.Listing as lists
 use Rattle.archive.specs.declared.contents.Key.{Key}
 use Rattle.reload.specs.Define.{defineOf}
-use Rattle.reload.specs.Reload.{recordOf, reloadIs, reloadOut}
+use Rattle.reload.specs.Reload.{recordOf, reloadedRefusal, reloadIs, reloadOut}
 use Rattle.reload.specs.declared.Definition.{Definition}
 use Rattle.reload.specs.declared.Target.{Target}
 use Rattle.reload.specs.declared.Target.the-variants.{Define, DefineExternal}
@@ -31,7 +31,8 @@ use Rattle.barring.specs.Decide.{partIn, decideIs}
 use Rattle.barring.specs.Decision.{decidedRefusal}
 use Rattle.boc.specs.Calls.{placeWord, entryWord, readNumber, readPlace, writeNumber, writeOut, writeBits, emptyNumber, emptyLength}
 use Rattle.boc.specs.Calls.{storedNumber, storedLength, storedEntry, storedPlace, captureAnswer, contentsAnswer}
-use Rattle.boc.specs.Calls.{restoredNumber, restoredLength, restoredEntry, restoredPlace, keyOf, restoreAnswer, definitionOf}
+use Rattle.boc.specs.Calls.{restoredNumber, restoredLength, restoredDay, restoredEntry, restoredPlace, keyOf, restoreAnswer}
+use Rattle.boc.specs.Calls.{reloadedNumber, reloadedLength, reloadedEntry, reloadedPlace, definitionOf}
 use Rattle.boc.specs.Calls.{decidedNumber, decidedVerdict, decidedEntry, decidedPlace, decideAnswer}
 use Rattle.promises.specs.Answers.{Exactly}
 use Rattle.promises.specs.Archive.{IsArchive, HeldFor}
@@ -99,46 +100,47 @@ pub record Empty (home : ℕ) (out : List ℕ) (old : ℕ) : Type 0 where
   pub refusal : (emptyNumber home out ≡ 0 → ⊥) → (emptyOut home out ≡ out) × (emptyLength home out old ≡ old)
 
 -- boc_capture
-pub record Capture (archive pdu′ : List ℕ) (bits : ℕ) (out : List ℕ) (old entry place : ℕ) : Type 0 where
-  pub table : let answer = captureAnswer archive pdu′ bits out in
-      Exactly numberOf (storedRefusal answer) (reading.numbers ++ (7 ∷ 6 ∷ 8 ∷ [])) (capture.Given archive pdu′ bits (length out))
-  pub success : let answer = captureAnswer archive pdu′ bits out in
-      storedNumber answer ≡ 0 → let b = bytesOf (captured archive pdu′ bits) in
-      (captureOut archive pdu′ bits out ≡ over b out) × (storedLength answer old ≡ length b)
+pub record Capture (archive pdu′ : List ℕ) (bits day : ℕ) (out : List ℕ) (old entry place : ℕ) : Type 0 where
+  pub table : let answer = captureAnswer archive pdu′ bits day out in
+      Exactly numberOf (storedRefusal answer) (reading.numbers ++ (9 ∷ 7 ∷ 6 ∷ 8 ∷ [])) (capture.Given archive pdu′ bits day (length out))
+  pub success : let answer = captureAnswer archive pdu′ bits day out in
+      storedNumber answer ≡ 0 → let b = bytesOf (captured archive pdu′ bits day) in
+      (captureOut archive pdu′ bits day out ≡ over b out) × (storedLength answer old ≡ length b)
       × (storedEntry answer entry ≡ entry) × (storedPlace answer place ≡ place)
-  pub refusal : let answer = captureAnswer archive pdu′ bits out in
+  pub refusal : let answer = captureAnswer archive pdu′ bits day out in
       (storedNumber answer ≡ 0 → ⊥) → let f = storedRefusal answer in
-      (captureOut archive pdu′ bits out ≡ out) × (storedLength answer old ≡ old)
+      (captureOut archive pdu′ bits day out ≡ out) × (storedLength answer old ≡ old)
       × (storedEntry answer entry ≡ entryWord (f .entry)) × (storedPlace answer place ≡ placeWord (f .place))
 
 -- boc_restore
-pub record Restore (archive : List ℕ) (network ssi part : ℕ) (out : List ℕ) (old entry place : ℕ) : Type 0 where
+pub record Restore (archive : List ℕ) (network ssi part : ℕ) (out : List ℕ) (old oldDay entry place : ℕ) : Type 0 where
   pub table : let answer = restoreAnswer archive network ssi part out in
       Exactly numberOf (restoredRefusal answer) (0 ∷ 9 ∷ 7 ∷ 11 ∷ 8 ∷ []) (restore.Given archive (keyOf network ssi part) (length out))
-  -- the PDU that is held for that user and part, and its bits
+  -- the PDU that is held for that user and part, its bits and its day
   pub success : let answer = restoreAnswer archive network ssi part out in
       restoredNumber answer ≡ 0
       → (k : IsArchive archive) × (h : Held) × HeldFor (k .archive .held) (keyOf network ssi part) h
       × (restoreOut archive (keyOf network ssi part) out ≡ over (h .body) out) × (restoredLength answer old ≡ h .entry .bits .0)
+      × (restoredDay answer oldDay ≡ h .entry .day)
       × (restoredEntry answer entry ≡ entry) × (restoredPlace answer place ≡ place)
   pub refusal : let answer = restoreAnswer archive network ssi part out in
       (restoredNumber answer ≡ 0 → ⊥) → let f = restoredRefusal answer in
-      (restoreOut archive (keyOf network ssi part) out ≡ out) × (restoredLength answer old ≡ old)
+      (restoreOut archive (keyOf network ssi part) out ≡ out) × (restoredLength answer old ≡ old) × (restoredDay answer oldDay ≡ oldDay)
       × (restoredEntry answer entry ≡ entryWord (f .entry)) × (restoredPlace answer place ≡ placeWord (f .place))
 
 -- a part put back by a call: what it answers is reloadIs, what it leaves reloadOut
 pub record Reloads (t : Target) (archive : List ℕ) (key : Key) (d : Definition) (out : List ℕ) (old entry place : ℕ) : Type 0 where
-  pub table : Exactly numberOf (restoredRefusal (reloadIs t archive key d out)) (0 ∷ 9 ∷ 7 ∷ 11 ∷ 12 ∷ 8 ∷ []) (reload.Given t archive key d (length out))
+  pub table : Exactly numberOf (reloadedRefusal (reloadIs t archive key d out)) (0 ∷ 9 ∷ 7 ∷ 11 ∷ 12 ∷ 8 ∷ []) (reload.Given t archive key d (length out))
   -- the PDU that puts back the one held for that user and part, and its bits
   pub success : let answer = reloadIs t archive key d out in
-      restoredNumber answer ≡ 0 → (k : IsArchive archive) × (h : Held) × HeldFor (k .archive .held) key h
+      reloadedNumber answer ≡ 0 → (k : IsArchive archive) × (h : Held) × HeldFor (k .archive .held) key h
       × (reloadOut t archive key d out ≡ over (pack (pdu .print (defineOf t d (recordOf h)))) out)
-      × (restoredLength answer old ≡ lengthOf (defineOf t d (recordOf h)))
-      × (restoredEntry answer entry ≡ entry) × (restoredPlace answer place ≡ place)
+      × (reloadedLength answer old ≡ lengthOf (defineOf t d (recordOf h)))
+      × (reloadedEntry answer entry ≡ entry) × (reloadedPlace answer place ≡ place)
   pub refusal : let answer = reloadIs t archive key d out in
-      (restoredNumber answer ≡ 0 → ⊥) → let f = restoredRefusal answer in
-      (reloadOut t archive key d out ≡ out) × (restoredLength answer old ≡ old)
-      × (restoredEntry answer entry ≡ entryWord (f .entry)) × (restoredPlace answer place ≡ placeWord (f .place))
+      (reloadedNumber answer ≡ 0 → ⊥) → let f = reloadedRefusal answer in
+      (reloadOut t archive key d out ≡ out) × (reloadedLength answer old ≡ old)
+      × (reloadedEntry answer entry ≡ entryWord (f .entry)) × (reloadedPlace answer place ≡ placeWord (f .place))
 
 -- boc_reload: a DEFINE of either part
 abbrev pub Reload : List ℕ → ℕ → ℕ → ℕ → ℕ → ℕ → ℕ → List ℕ → ℕ → ℕ → ℕ → Type 0

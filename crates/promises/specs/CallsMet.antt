@@ -18,6 +18,7 @@ use Rattle.archive.specs.Restoring.{restoreIs}
 use Rattle.archive.specs.Listing.{digits, decimal, item, twoItems, firstLine, lines, listing, listIs}
 use Rattle.archive.specs.declared.Stored.{Stored}
 use Rattle.archive.specs.declared.Restored.{Restored}
+use Rattle.reload.specs.declared.Reloaded.{Reloaded}
 use Rattle.archive.specs.Examples.{calls, profileA, bytesA}
 use Rattle.words.specs.RecordWords.{recordWords, records}
 use Rattle.words.specs.RequestWords as request
@@ -27,7 +28,8 @@ use Rattle.boc.specs.Calls.{nowhere, readNumber, readPlace, writeNumber, writeB
 use Rattle.boc.specs.Calls.{storedNumber, storedLength, storedEntry, storedPlace, captureAnswer, contentsAnswer}
 use Rattle.reload.specs.Define.{isDefinition, defineOf, standsIn}
 use Rattle.reload.specs.Reload.{reloadIs}
-use Rattle.boc.specs.Calls.{restoredNumber, restoredLength, restoredEntry, restoredPlace, restoreAnswer, reloadAnswer, externalAnswer}
+use Rattle.boc.specs.Calls.{restoredNumber, restoredLength, restoredDay, restoredEntry, restoredPlace, restoreAnswer}
+use Rattle.boc.specs.Calls.{reloadedNumber, reloadedLength, reloadedEntry, reloadedPlace, reloadAnswer, externalAnswer}
 use Rattle.boc.specs.Calls.{decidedNumber, decidedVerdict, decidedEntry, decidedPlace, decideAnswer}
 
 -- the PDU of an INTERROGATE, one for the users 200 to 199, and so many zeros: 5 of them are an archive that holds nothing
@@ -82,33 +84,37 @@ stored a = storedNumber a ∷ storedEntry a 77 ∷ storedPlace a 77 ∷ []
 abbrev restored : Restored → List ℕ
 restored a = restoredNumber a ∷ restoredEntry a 77 ∷ restoredPlace a 77 ∷ []
 
+abbrev reloaded : Reloaded → List ℕ
+reloaded a = reloadedNumber a ∷ reloadedEntry a 77 ∷ reloadedPlace a 77 ∷ []
+
 abbrev decided : Decision → List ℕ
 decided d = decidedNumber d ∷ decidedEntry d 77 ∷ decidedPlace d 77 ∷ []
 
 -- profile A's archive with a bit of A's PDU type flipped, which is then 4, and with the entry of another user
 abbrev damagedA : List ℕ
-damagedA = take 14 bytesA ++ (0x48 ∷ drop 15 bytesA)
+damagedA = take 16 bytesA ++ (0x48 ∷ drop 17 bytesA)
 
 abbrev anotherA : List ℕ
 anotherA = take 10 bytesA ++ (0x06 ∷ drop 11 bytesA)
 
-capture-met : (stored (captureAnswer (lent 5) profileA 138 (lent 32)) ≡ 0 ∷ 77 ∷ 77 ∷ [])
-    × (stored (captureAnswer [] [] 0 []) ≡ 7 ∷ nowhere ∷ nowhere ∷ [])
-    × (stored (captureAnswer damagedA [] 0 []) ≡ 7 ∷ 0 ∷ 6 ∷ [])
-    × (stored (captureAnswer anotherA [] 0 []) ≡ 7 ∷ 0 ∷ nowhere ∷ [])
-    × (stored (captureAnswer (lent 5) [] 1 []) ≡ 1 ∷ nowhere ∷ nowhere ∷ [])
-    × (stored (captureAnswer (lent 5) [] 0 []) ≡ 2 ∷ nowhere ∷ 0 ∷ [])
-    × (stored (captureAnswer (lent 5) (0x00 ∷ []) 6 []) ≡ 3 ∷ nowhere ∷ 0 ∷ [])
-    × (stored (captureAnswer (lent 5) reversed 65 []) ≡ 4 ∷ nowhere ∷ 40 ∷ [])
-    × (stored (captureAnswer (lent 5) asked 43 []) ≡ 5 ∷ nowhere ∷ 42 ∷ [])
-    × (stored (captureAnswer (lent 5) (0x48 ∷ 0x80 ∷ []) 11 []) ≡ 3 ∷ nowhere ∷ 6 ∷ [])
-    × (stored (captureAnswer (lent 5) asked 42 []) ≡ 6 ∷ nowhere ∷ nowhere ∷ [])
-    × (stored (captureAnswer (lent 5) profileA 138 (lent 31)) ≡ 8 ∷ nowhere ∷ nowhere ∷ [])
+capture-met : (stored (captureAnswer (lent 5) profileA 138 300 (lent 34)) ≡ 0 ∷ 77 ∷ 77 ∷ [])
+    × (stored (captureAnswer [] [] 0 65536 []) ≡ 9 ∷ nowhere ∷ nowhere ∷ [])
+    × (stored (captureAnswer [] [] 0 300 []) ≡ 7 ∷ nowhere ∷ nowhere ∷ [])
+    × (stored (captureAnswer damagedA [] 0 300 []) ≡ 7 ∷ 0 ∷ 6 ∷ [])
+    × (stored (captureAnswer anotherA [] 0 300 []) ≡ 7 ∷ 0 ∷ nowhere ∷ [])
+    × (stored (captureAnswer (lent 5) [] 1 300 []) ≡ 1 ∷ nowhere ∷ nowhere ∷ [])
+    × (stored (captureAnswer (lent 5) [] 0 300 []) ≡ 2 ∷ nowhere ∷ 0 ∷ [])
+    × (stored (captureAnswer (lent 5) (0x00 ∷ []) 6 300 []) ≡ 3 ∷ nowhere ∷ 0 ∷ [])
+    × (stored (captureAnswer (lent 5) reversed 65 300 []) ≡ 4 ∷ nowhere ∷ 40 ∷ [])
+    × (stored (captureAnswer (lent 5) asked 43 300 []) ≡ 5 ∷ nowhere ∷ 42 ∷ [])
+    × (stored (captureAnswer (lent 5) (0x48 ∷ 0x80 ∷ []) 11 300 []) ≡ 3 ∷ nowhere ∷ 6 ∷ [])
+    × (stored (captureAnswer (lent 5) asked 42 300 []) ≡ 6 ∷ nowhere ∷ nowhere ∷ [])
+    × (stored (captureAnswer (lent 5) profileA 138 300 (lent 33)) ≡ 8 ∷ nowhere ∷ nowhere ∷ [])
 unfolding calls bodyAgrees filingOf
-capture-met = (refl, refl, refl, refl, refl, refl, refl, refl, refl, refl, refl, refl)
+capture-met = (refl, refl, refl, refl, refl, refl, refl, refl, refl, refl, refl, refl, refl)
 
-capture-length : storedLength (captureAnswer (lent 5) profileA 138 (lent 32)) 77 ∷ storedLength (captureAnswer (lent 5) profileA 138 (lent 31)) 77 ∷ []
-    ≡ 32 ∷ 77 ∷ []
+capture-length : storedLength (captureAnswer (lent 5) profileA 138 300 (lent 34)) 77 ∷ storedLength (captureAnswer (lent 5) profileA 138 300 (lent 33)) 77 ∷ []
+    ≡ 34 ∷ 77 ∷ []
 unfolding calls
 capture-length = refl
 
@@ -125,20 +131,24 @@ restore-bits : restoredLength (restoreAnswer bytesA 1 5 1 (lent 18)) 77 ∷ rest
 unfolding calls bodyAgrees filingOf restoreIs inRange
 restore-bits = refl
 
+restore-day : restoredDay (restoreAnswer bytesA 1 5 1 (lent 18)) 77 ∷ restoredDay (restoreAnswer bytesA 1 5 2 (lent 18)) 77 ∷ [] ≡ 300 ∷ 77 ∷ []
+unfolding calls bodyAgrees filingOf restoreIs inRange
+restore-day = refl
+
 -- 9: part 3, a reserved definition type, an acknowledgement without delivery; 12: profile A's lists under removal
-reload-met : (restored (reloadAnswer bytesA 1 5 1 1 1 1 (lent 18)) ≡ 0 ∷ 77 ∷ 77 ∷ [])
-    × (restored (reloadAnswer bytesA 1 5 3 1 1 1 (lent 18)) ≡ 9 ∷ nowhere ∷ nowhere ∷ [])
-    × (restored (reloadAnswer bytesA 1 5 1 3 1 1 (lent 18)) ≡ 9 ∷ nowhere ∷ nowhere ∷ [])
-    × (restored (reloadAnswer bytesA 1 5 1 1 0 1 (lent 18)) ≡ 9 ∷ nowhere ∷ nowhere ∷ [])
-    × (restored (reloadAnswer [] 1 5 1 1 1 1 (lent 18)) ≡ 7 ∷ nowhere ∷ nowhere ∷ [])
-    × (restored (reloadAnswer damagedA 1 5 1 1 1 1 (lent 18)) ≡ 7 ∷ 0 ∷ 6 ∷ [])
-    × (restored (reloadAnswer bytesA 1 5 2 1 1 1 (lent 18)) ≡ 11 ∷ nowhere ∷ nowhere ∷ [])
-    × (restored (reloadAnswer bytesA 1 5 1 2 1 1 (lent 18)) ≡ 12 ∷ nowhere ∷ nowhere ∷ [])
-    × (restored (reloadAnswer bytesA 1 5 1 1 1 1 (lent 17)) ≡ 8 ∷ nowhere ∷ nowhere ∷ [])
+reload-met : (reloaded (reloadAnswer bytesA 1 5 1 1 1 1 (lent 18)) ≡ 0 ∷ 77 ∷ 77 ∷ [])
+    × (reloaded (reloadAnswer bytesA 1 5 3 1 1 1 (lent 18)) ≡ 9 ∷ nowhere ∷ nowhere ∷ [])
+    × (reloaded (reloadAnswer bytesA 1 5 1 3 1 1 (lent 18)) ≡ 9 ∷ nowhere ∷ nowhere ∷ [])
+    × (reloaded (reloadAnswer bytesA 1 5 1 1 0 1 (lent 18)) ≡ 9 ∷ nowhere ∷ nowhere ∷ [])
+    × (reloaded (reloadAnswer [] 1 5 1 1 1 1 (lent 18)) ≡ 7 ∷ nowhere ∷ nowhere ∷ [])
+    × (reloaded (reloadAnswer damagedA 1 5 1 1 1 1 (lent 18)) ≡ 7 ∷ 0 ∷ 6 ∷ [])
+    × (reloaded (reloadAnswer bytesA 1 5 2 1 1 1 (lent 18)) ≡ 11 ∷ nowhere ∷ nowhere ∷ [])
+    × (reloaded (reloadAnswer bytesA 1 5 1 2 1 1 (lent 18)) ≡ 12 ∷ nowhere ∷ nowhere ∷ [])
+    × (reloaded (reloadAnswer bytesA 1 5 1 1 1 1 (lent 17)) ≡ 8 ∷ nowhere ∷ nowhere ∷ [])
 unfolding calls bodyAgrees filingOf inRange writeIs writeRefusal recordRefusal isDefinition defineOf standsIn reloadIs
 reload-met = (refl, refl, refl, refl, refl, refl, refl, refl, refl)
 
-reload-bits : restoredLength (reloadAnswer bytesA 1 5 1 1 1 1 (lent 18)) 77 ∷ restoredLength (reloadAnswer bytesA 1 5 1 2 1 1 (lent 18)) 77 ∷ []
+reload-bits : reloadedLength (reloadAnswer bytesA 1 5 1 1 1 1 (lent 18)) 77 ∷ reloadedLength (reloadAnswer bytesA 1 5 1 2 1 1 (lent 18)) 77 ∷ []
     ≡ 137 ∷ 77 ∷ []
 unfolding calls bodyAgrees filingOf inRange writeIs writeRefusal recordRefusal isDefinition defineOf standsIn reloadIs
 reload-bits = refl
@@ -146,23 +156,23 @@ reload-bits = refl
 -- an archive with the number part of user 1/5 that restricts 112
 abbrev numbered : List ℕ
 numbered =
-    0x00 ∷ 0x00 ∷ 0x01 ∷ 0x00 ∷ 0x01 ∷ 0x00 ∷ 0x00 ∷ 0x01 ∷ 0x00 ∷ 0x00 ∷ 0x05 ∷ 0x02 ∷ 0x00 ∷ 0x50
+    0x00 ∷ 0x00 ∷ 0x01 ∷ 0x00 ∷ 0x01 ∷ 0x00 ∷ 0x00 ∷ 0x01 ∷ 0x00 ∷ 0x00 ∷ 0x05 ∷ 0x02 ∷ 0x00 ∷ 0x50 ∷ 0x01 ∷ 0x2c
     ∷ 0x49 ∷ 0x82 ∷ 0x00 ∷ 0x00 ∷ 0x0a ∷ 0x41 ∷ 0x20 ∷ 0x23 ∷ 0x11 ∷ 0x20 ∷ []
 
 -- 9: a network, a reserved definition type, an acknowledgement without delivery; 11: an identity part alone; 12: the number under removal
-external-met : (restored (externalAnswer numbered 1 5 1 1 1 (lent 10)) ≡ 0 ∷ 77 ∷ 77 ∷ [])
-    × (restored (externalAnswer numbered 16777216 5 1 1 1 (lent 10)) ≡ 9 ∷ nowhere ∷ nowhere ∷ [])
-    × (restored (externalAnswer numbered 1 5 3 1 1 (lent 10)) ≡ 9 ∷ nowhere ∷ nowhere ∷ [])
-    × (restored (externalAnswer numbered 1 5 1 0 1 (lent 10)) ≡ 9 ∷ nowhere ∷ nowhere ∷ [])
-    × (restored (externalAnswer [] 1 5 1 1 1 (lent 10)) ≡ 7 ∷ nowhere ∷ nowhere ∷ [])
-    × (restored (externalAnswer damagedA 1 5 1 1 1 (lent 10)) ≡ 7 ∷ 0 ∷ 6 ∷ [])
-    × (restored (externalAnswer bytesA 1 5 1 1 1 (lent 10)) ≡ 11 ∷ nowhere ∷ nowhere ∷ [])
-    × (restored (externalAnswer numbered 1 5 2 1 1 (lent 10)) ≡ 12 ∷ nowhere ∷ nowhere ∷ [])
-    × (restored (externalAnswer numbered 1 5 1 1 1 (lent 9)) ≡ 8 ∷ nowhere ∷ nowhere ∷ [])
+external-met : (reloaded (externalAnswer numbered 1 5 1 1 1 (lent 10)) ≡ 0 ∷ 77 ∷ 77 ∷ [])
+    × (reloaded (externalAnswer numbered 16777216 5 1 1 1 (lent 10)) ≡ 9 ∷ nowhere ∷ nowhere ∷ [])
+    × (reloaded (externalAnswer numbered 1 5 3 1 1 (lent 10)) ≡ 9 ∷ nowhere ∷ nowhere ∷ [])
+    × (reloaded (externalAnswer numbered 1 5 1 0 1 (lent 10)) ≡ 9 ∷ nowhere ∷ nowhere ∷ [])
+    × (reloaded (externalAnswer [] 1 5 1 1 1 (lent 10)) ≡ 7 ∷ nowhere ∷ nowhere ∷ [])
+    × (reloaded (externalAnswer damagedA 1 5 1 1 1 (lent 10)) ≡ 7 ∷ 0 ∷ 6 ∷ [])
+    × (reloaded (externalAnswer bytesA 1 5 1 1 1 (lent 10)) ≡ 11 ∷ nowhere ∷ nowhere ∷ [])
+    × (reloaded (externalAnswer numbered 1 5 2 1 1 (lent 10)) ≡ 12 ∷ nowhere ∷ nowhere ∷ [])
+    × (reloaded (externalAnswer numbered 1 5 1 1 1 (lent 9)) ≡ 8 ∷ nowhere ∷ nowhere ∷ [])
 unfolding calls bodyAgrees filingOf inRange writeIs writeRefusal recordRefusal isDefinition defineOf standsIn reloadIs
 external-met = (refl, refl, refl, refl, refl, refl, refl, refl, refl)
 
-external-bits : restoredLength (externalAnswer numbered 1 5 1 1 1 (lent 10)) 77 ∷ restoredLength (externalAnswer numbered 1 5 2 1 1 (lent 10)) 77 ∷ []
+external-bits : reloadedLength (externalAnswer numbered 1 5 1 1 1 (lent 10)) 77 ∷ reloadedLength (externalAnswer numbered 1 5 2 1 1 (lent 10)) 77 ∷ []
     ≡ 79 ∷ 77 ∷ []
 unfolding calls bodyAgrees filingOf inRange writeIs writeRefusal recordRefusal isDefinition defineOf standsIn reloadIs
 external-bits = refl

@@ -1,5 +1,5 @@
--- Demand 3: after any sequence of offered PDUs, restoring gives exactly the last one accepted for that user and part, or "not held", every
--- decision is the barring rule applied to that same PDU, and a reload puts that same PDU's part back.
+-- Demand 3: after any sequence of offered PDUs, restoring gives exactly the last one accepted for that user and part and its day, or "not held",
+-- every decision is the barring rule applied to that same PDU, and a reload puts that same PDU's part back.
 use mathlib.Core.Path.{_≡_, ap, _∙_}
 use mathlib.Core.Bool.{true}
 use mathlib.Core.List.{List}
@@ -15,7 +15,7 @@ use Rattle.rules.specs.declared.request.Request.{Request}
 use Rattle.archive.specs.Model.{inRange}
 use Rattle.archive.specs.Refusals.{plain}
 use Rattle.archive.specs.Keeping.{over, emptyIs, emptyOut}
-use Rattle.archive.specs.Restoring.{restores, restoreIs, restoreOut}
+use Rattle.archive.specs.Restoring.{restoreIs, restoreOut}
 use Rattle.archive.specs.History.{Offer, afterAll, lastAccepted}
 use Rattle.archive.specs.declared.contents.Key.{Key}
 use Rattle.archive.specs.declared.Stored.the-variants.{Bytes}
@@ -26,8 +26,9 @@ use Rattle.barring.specs.Decide.{keyFor, partIn, decideIs}
 use Rattle.barring.specs.declared.Decision.the-variants.{Allowed, NotHeld}
 use Rattle.barring.proofs.History as deciding
 use Rattle.reload.specs.Define.{isDefinition, defineOf}
-use Rattle.reload.specs.Reload.{redefined, reloadIs, reloadOut}
+use Rattle.reload.specs.Reload.{redefined, reloadIs, reloads, reloadOut}
 use Rattle.reload.specs.declared.Definition.{Definition}
+use Rattle.reload.specs.declared.Reloaded.the-variants as reloaded
 use Rattle.reload.specs.declared.Target.{Target}
 use Rattle.reload.proofs.History as reloading
 
@@ -42,9 +43,9 @@ module _ (home : ℕ) (lent : List ℕ) (m : ℕ) (e : emptyIs home (length lent
   last k = lastAccepted k (take m (emptyOut home lent)) none offers
 
   module _ (k : Key) (r : inRange k ≡ true) (out : List ℕ) where
-    -- Restoring gives exactly its bits, if the buffer has room for them,
+    -- Restoring gives exactly its bits and its day, if the buffer has room for them,
     pub restores-the-last : (o : Offer) → last k ≡ some o → bytesFor (o .bits) ≤ length out
-        → (restoreIs archive k (length out) ≡ Bits (record { 0 = o .bits })) × (restoreOut archive k out ≡ over (o .pdu) out)
+        → (restoreIs archive k (length out) ≡ Bits (record { 0 = o .bits }) (o .day)) × (restoreOut archive k out ≡ over (o .pdu) out)
     restores-the-last = history.always home lent m e offers k r out
 
     -- or "not held", and no byte changed.
@@ -56,13 +57,13 @@ module _ (home : ℕ) (lent : List ℕ) (m : ℕ) (e : emptyIs home (length lent
     -- A reload answers by the record of that same PDU, and writes the DEFINE or DEFINE EXTERNAL that puts it back,
     pub reloads-the-last : (o : Offer) → last k ≡ some o → let part = readIs (o .pdu) (o .bits) .found in
         (reloadIs t archive k d out ≡ redefined t d part out)
-        × (reloadOut t archive k d out ≡ restores (redefined t d part out) (pack (pdu .print (defineOf t d part))) out)
+        × (reloadOut t archive k d out ≡ reloads (redefined t d part out) (pack (pdu .print (defineOf t d part))) out)
     reloads-the-last o l =
         let h = reloading.reload-history t home lent m e offers k r d f out in
         rw l at h
 
     -- or says "not held", and no byte changed.
-    pub reloads-nothing-else : last k ≡ none → (reloadIs t archive k d out ≡ Refused (plain 11)) × (reloadOut t archive k d out ≡ out)
+    pub reloads-nothing-else : last k ≡ none → (reloadIs t archive k d out ≡ reloaded.Refused (plain 11)) × (reloadOut t archive k d out ≡ out)
     reloads-nothing-else l =
         let h = reloading.reload-history t home lent m e offers k r d f out in
         rw l at h

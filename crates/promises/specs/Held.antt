@@ -3,11 +3,11 @@ use mathlib.Core.Path.{_≡_, refl, sym, ap, _∙_}
 use mathlib.Core.Logic.{_↔_, _⊎_, inl, inr}
 use mathlib.Core.Bool.{Bool, true, false, _&&_}
 use mathlib.Core.List.{List, [], _∷_}
-use Prim.Native.Nat.{ℕ, _≤_}
+use Prim.Native.Nat.{ℕ, _≤_, _<_}
 use native.Mathlib.Omega.{arith}
 use lib.ListN.{length, take, drop, replicate}
 use lib.Dec.{leb, eqb}
-use borrow.Author.Tests.{leb-true, leb-false, eqb-true, le-leb, eq-eqb}
+use borrow.Author.Tests.{leb-true, leb-false, eqb-true, le-leb, lt-ltb, eq-eqb}
 use Rattle.bits.specs.Bits.{pick}
 use Rattle.bits.proofs.Tests.{false-unless, both, both⁻¹, by-test}
 use Rattle.grammar.specs.declared.record.Record.{Record}
@@ -58,21 +58,21 @@ pub may-be-held : (r : Record) → (mayHold r ≡ true) ↔ Holdable r
 may-be-held r = (says r, is r)
 
 -- Captured into an archive, a legal PDU gives 6 exactly if it is not such a one.
-module _ (b s : List ℕ) (n room : ℕ) (archive : isArchive b ≡ true) (legal : readIs s n .answer ≡ reader.Accepted) where
+module _ (b s : List ℕ) (n day room : ℕ) (dated : day < 65536) (archive : isArchive b ≡ true) (legal : readIs s n .answer ≡ reader.Accepted) where
   abbrev fits : Bool
-  fits = withinLimits (length (captured b s n .held)) (lengthOf (captured b s n)) && leb (lengthOf (captured b s n)) room
+  fits = withinLimits (length (captured b s n day .held)) (lengthOf (captured b s n day)) && leb (lengthOf (captured b s n day)) room
 
   answer : (t : Bool) → mayHold (readIs s n .found) ≡ t
-      → captureIs b s n room ≡ pick t (pick fits (Bytes (lengthOf (captured b s n))) (Refused (plain 8))) (Refused (plain 6))
+      → captureIs b s n day room ≡ pick t (pick fits (Bytes (lengthOf (captured b s n day))) (Refused (plain 8))) (Refused (plain 6))
   unfolding captureIs placed
-  answer t e = rw (archive-checked b archive, legal, e)
+  answer t e = rw (lt-ltb _ _ dated, archive-checked b archive, legal, e)
 
-  not-6 : mayHold (readIs s n .found) ≡ true → captureIs b s n room ≡ Refused (plain 6) → ⊥
+  not-6 : mayHold (readIs s n .found) ≡ true → captureIs b s n day room ≡ Refused (plain 6) → ⊥
   not-6 m e =
       let refused : Stored → ℕ = λ a. storedRefusal a .number in
       by-test (λ (a : Stored). refused a ≡ 6 → ⊥) fits (λ x. omega (arith, x)) (λ x. omega (arith, x)) (ap refused (sym (answer true m) ∙ e))
 
-  pub gives-6 : (captureIs b s n room ≡ Refused (plain 6)) ↔ (Holdable (readIs s n .found) → ⊥)
+  pub gives-6 : (captureIs b s n day room ≡ Refused (plain 6)) ↔ (Holdable (readIs s n .found) → ⊥)
   gives-6 = (
     λ e h. not-6 (is (readIs s n .found) h) e,
     λ none. answer false (false-unless _ (λ m. none (says (readIs s n .found) m))),
@@ -83,9 +83,9 @@ module _ (b s : List ℕ) (n room : ℕ) (archive : isArchive b ≡ true) (legal
 abbrev nothing : List ℕ
 nothing = 0x00 ∷ 0x00 ∷ 0x01 ∷ 0x00 ∷ 0x00 ∷ []
 
--- the number of the answer to a PDU of n bits
+-- the number of the answer to a PDU of n bits, of day 300
 abbrev number : List ℕ → ℕ → ℕ
-number s n = storedRefusal (captureIs nothing s n 100) .number
+number s n = storedRefusal (captureIs nothing s n 300 100) .number
 
 -- results 1 and 2, with three empty lists: held
 accepting : (number (0x49 ∷ 0x82 ∷ 0x00 ∷ 0x00 ∷ 0x0a ∷ 0x21 ∷ 0x20 ∷ 0x00 ∷ []) 63 ≡ 0)
@@ -119,25 +119,25 @@ defining : number (0x48 ∷ 0xa2 ∷ 0x00 ∷ 0x00 ∷ 0x0a ∷ 0xa2 ∷ 0x80 �
 unfolding calls
 defining = refl
 
--- ---- the entry under which a PDU is filed: nine bytes, network (3), SSI (3), part (1), bit length (2)
+-- ---- the entry under which a PDU is filed: eleven bytes, network (3), SSI (3), part (1), bit length (2), day (2)
 
 abbrev filed : List ℕ → ℕ → List ℕ
-filed s n = take 9 (drop 5 (captureOut nothing s n (replicate 30 0)))
+filed s n = take 11 (drop 5 (captureOut nothing s n 300 (replicate 30 0)))
 
 -- no extension: the home network 1; result 1 is part 1
 home-meant : filed (0x49 ∷ 0x82 ∷ 0x00 ∷ 0x00 ∷ 0x0a ∷ 0x21 ∷ 0x20 ∷ 0x00 ∷ []) 63
-    ≡ 0x00 ∷ 0x00 ∷ 0x01 ∷ 0x00 ∷ 0x00 ∷ 0x05 ∷ 0x01 ∷ 0x00 ∷ 0x3f ∷ []
+    ≡ 0x00 ∷ 0x00 ∷ 0x01 ∷ 0x00 ∷ 0x00 ∷ 0x05 ∷ 0x01 ∷ 0x00 ∷ 0x3f ∷ 0x01 ∷ 0x2c ∷ []
 unfolding calls
 home-meant = refl
 
 -- the extension 1, which spells the home network out: the same user
 home-spelt : filed (0x49 ∷ 0x82 ∷ 0x00 ∷ 0x00 ∷ 0x0b ∷ 0x00 ∷ 0x00 ∷ 0x01 ∷ 0x21 ∷ 0x20 ∷ 0x00 ∷ []) 87
-    ≡ 0x00 ∷ 0x00 ∷ 0x01 ∷ 0x00 ∷ 0x00 ∷ 0x05 ∷ 0x01 ∷ 0x00 ∷ 0x57 ∷ []
+    ≡ 0x00 ∷ 0x00 ∷ 0x01 ∷ 0x00 ∷ 0x00 ∷ 0x05 ∷ 0x01 ∷ 0x00 ∷ 0x57 ∷ 0x01 ∷ 0x2c ∷ []
 unfolding calls
 home-spelt = refl
 
 -- the extension 7: network 7; result 2 is part 2
 visiting : filed (0x49 ∷ 0x82 ∷ 0x00 ∷ 0x00 ∷ 0x0b ∷ 0x00 ∷ 0x00 ∷ 0x07 ∷ 0x41 ∷ 0x20 ∷ 0x00 ∷ []) 87
-    ≡ 0x00 ∷ 0x00 ∷ 0x07 ∷ 0x00 ∷ 0x00 ∷ 0x05 ∷ 0x02 ∷ 0x00 ∷ 0x57 ∷ []
+    ≡ 0x00 ∷ 0x00 ∷ 0x07 ∷ 0x00 ∷ 0x00 ∷ 0x05 ∷ 0x02 ∷ 0x00 ∷ 0x57 ∷ 0x01 ∷ 0x2c ∷ []
 unfolding calls
 visiting = refl

@@ -16,3 +16,4 @@ pub mod CallsMet
 pub mod Retired
 pub mod Sequences
 pub mod Determined
+pub mod Days

@@ -16,10 +16,10 @@ use Rattle.rules.specs.declared.request.Request.{Request}
 use Rattle.archive.specs.Model.{Held}
 use Rattle.archive.specs.Refusals.{plain}
 use Rattle.archive.specs.declared.contents.Key.{Key}
-use Rattle.archive.specs.declared.Restored.the-variants.{Bits, Refused}
 use Rattle.reload.specs.Define.{kindOf, defineOf}
 use Rattle.reload.specs.Reload.{recordOf, reloadIs, reloadOut}
 use Rattle.reload.specs.declared.Definition.{Definition}
+use Rattle.reload.specs.declared.Reloaded.the-variants.{Bits, Refused}
 use Rattle.reload.specs.declared.Target.{Target}
 use Rattle.promises.specs.Held.{Holdable}
 use Rattle.promises.specs.Archive.{IsArchive, Ranged}

@@ -13,25 +13,24 @@ use Rattle.reader.specs.Read.{readIs}
 use Rattle.archive.specs.Model.{Held, inRange}
 use Rattle.archive.specs.Refusals.{plain}
 use Rattle.archive.specs.Keeping.{emptyIs, emptyOut}
-use Rattle.archive.specs.Restoring.{restores}
 use Rattle.archive.specs.History.{Offer, afterAll, lastAccepted}
 use Rattle.archive.specs.declared.contents.Key.{Key}
 use Rattle.archive.specs.declared.Stored.the-variants.{Bytes}
-use Rattle.archive.specs.declared.Restored.{Restored}
-use Rattle.archive.specs.declared.Restored.the-variants.{Refused}
+use Rattle.reload.specs.declared.Reloaded.{Reloaded}
+use Rattle.reload.specs.declared.Reloaded.the-variants.{Refused}
 use Rattle.archive.proofs.History.{Matches, kept}
 use Rattle.reload.specs.Define.{isDefinition, defineOf}
-use Rattle.reload.specs.Reload.{redefined, reloaded, reloadIs, defineBytes, reloadOut}
+use Rattle.reload.specs.Reload.{redefined, reloaded, reloadIs, defineBytes, reloads, reloadOut}
 use Rattle.reload.specs.declared.Definition.{Definition}
 use Rattle.reload.specs.declared.Target.{Target}
-use Rattle.reload.proofs.Reloaded.{heldFor, reload-held, reload-leaves}
+use Rattle.reload.proofs.Reloading.{heldFor, reload-held, reload-leaves}
 
 -- the record of an offered PDU
 abbrev pub recordIn : Offer → Record
 recordIn o = readIs (o .pdu) (o .bits) .found
 
 -- what reload says of the last PDU accepted, and the bytes of the PDU that puts it back
-abbrev pub saidOf : Target → Definition → Option Offer → List ℕ → Restored
+abbrev pub saidOf : Target → Definition → Option Offer → List ℕ → Reloaded
 saidOf t d none out = Refused (plain 11)
 saidOf t d (some o) out = redefined t d (recordIn o) out
 
@@ -58,9 +57,9 @@ module _ (t : Target) (home : ℕ) (lent : List ℕ) (m : ℕ) (e : emptyIs home
   last = lastAccepted k (take m (emptyOut home lent)) none os
 
   pub reload-history : (reloadIs t b k d out ≡ saidOf t d last out)
-      × (reloadOut t b k d out ≡ restores (saidOf t d last out) (bytesFrom t d last) out)
+      × (reloadOut t b k d out ≡ reloads (saidOf t d last out) (bytesFrom t d last) out)
   reload-history =
       let h = kept home lent m e os k r in
       let s = matched t d out (heldFor t b k d out) last (h .held) in
       let x = reload-held t b k d out r f (h .archive) ∙ s .0 in
-      (x, reload-leaves t b k d out x ∙ ap (λ (w : List ℕ). restores (saidOf t d last out) w out) (s .1))
+      (x, reload-leaves t b k d out x ∙ ap (λ (w : List ℕ). reloads (saidOf t d last out) w out) (s .1))

@@ -1,6 +1,6 @@
 pub mod Lists
 pub mod Parts
 pub mod Standing
-pub mod Reloaded
+pub mod Reloading
 pub mod Held
 pub mod History

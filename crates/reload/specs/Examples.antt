@@ -8,15 +8,14 @@ use Rattle.bits.specs.Frame.{pack, bytesOf}
 use Rattle.archive.specs.Refusals.{plain, ofBody}
 use Rattle.archive.specs.Model.{inRange}
 use Rattle.archive.specs.Filing.{filingOf, bodyAgrees}
-use Rattle.archive.specs.Restoring.{restoredRefusal}
 use Rattle.archive.specs.Examples.{calls, partOf5, bytesA}
 use Rattle.archive.specs.declared.contents.Key.{Key}
 use Rattle.archive.specs.declared.refusal.Refusal.{Refusal}
-use Rattle.archive.specs.declared.Restored.the-variants.{Bits}
+use Rattle.reload.specs.declared.Reloaded.the-variants.{Bits}
 use Rattle.walk.specs.declared.BitPlace.the-variants.{At}
 use Rattle.writer.specs.Write.{recordRefusal, writeRefusal, writeIs}
 use Rattle.reload.specs.Define.{isDefinition, defineOf, standsIn}
-use Rattle.reload.specs.Reload.{reloadIs, reloadOut}
+use Rattle.reload.specs.Reload.{reloadedRefusal, reloadIs, reloadOut}
 use Rattle.reload.specs.declared.Definition.{Definition}
 use Rattle.reload.specs.declared.Target.{Target}
 use Rattle.reload.specs.declared.Target.the-variants.{Define, DefineExternal}
@@ -54,7 +53,8 @@ put-back = (refl, refl)
 -- ---- other parts of user 5, each the only PDU of an archive of home network 1
 
 abbrev holding : ℕ → ℕ → List ℕ → List ℕ
-holding part length body = 0x00 ∷ 0x00 ∷ 0x01 ∷ 0x00 ∷ 0x01 ∷ 0x00 ∷ 0x00 ∷ 0x01 ∷ 0x00 ∷ 0x00 ∷ 0x05 ∷ part ∷ 0x00 ∷ length ∷ body
+holding part length body =
+    0x00 ∷ 0x00 ∷ 0x01 ∷ 0x00 ∷ 0x01 ∷ 0x00 ∷ 0x00 ∷ 0x01 ∷ 0x00 ∷ 0x00 ∷ 0x05 ∷ part ∷ 0x00 ∷ length ∷ 0x01 ∷ 0x2c ∷ body
 
 -- a number part: group 500 of network 2, the numbers 112 and 0, the exception +
 abbrev full : List ℕ
@@ -115,7 +115,7 @@ removed = (refl, refl, refl, refl)
 -- ---- 12: a list that is not empty has no place: any under removal, those of the other part under each definition type
 
 abbrev refusal : Target → List ℕ → Key → Definition → ℕ → Refusal
-refusal t b k d room = restoredRefusal (reloadIs t b k d (lent room))
+refusal t b k d room = reloadedRefusal (reloadIs t b k d (lent room))
 
 lost : (refusal Define bytesA (partOf5 1) (asked 2 0 0) 20 ≡ plain 12) × (refusal Define grouped (partOf5 2) (asked 2 0 0) 20 ≡ plain 12)
     × (refusal Define numbered (partOf5 2) (asked 0 0 0) 20 ≡ plain 12) × (refusal Define numbered (partOf5 2) (asked 1 0 0) 20 ≡ plain 12)
@@ -136,7 +136,7 @@ lost-external = (refl, refl, refl, refl, refl, refl)
 
 -- an archive with a bit of the PDU type of its first body flipped
 abbrev damaged : List ℕ → List ℕ
-damaged b = take 14 b ++ (0x48 ∷ drop 15 b)
+damaged b = take 16 b ++ (0x48 ∷ drop 17 b)
 
 in-order : (refusal Define (damaged bytesA) (partOf5 3) (asked 2 0 0) 0 ≡ plain 9)
     × (refusal Define (damaged bytesA) (partOf5 2) (asked 3 0 0) 0 ≡ plain 9)

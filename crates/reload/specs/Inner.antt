@@ -6,10 +6,9 @@ use Rattle.bits.specs.Frame.{bytesFor, pack}
 use Rattle.grammar.specs.Grammar.{pdu}
 use Rattle.grammar.specs.declared.record.Record.{Record}
 use Rattle.reader.specs.Read.{readIs}
-use Rattle.archive.specs.Restoring.{restores}
-use Rattle.archive.specs.declared.Restored.{Restored}
+use Rattle.reload.specs.declared.Reloaded.{Reloaded}
 use Rattle.reload.specs.Define.{defineOf}
-use Rattle.reload.specs.Reload.{redefined}
+use Rattle.reload.specs.Reload.{redefined, reloads}
 use Rattle.reload.specs.declared.Definition.{Definition}
 use Rattle.reload.specs.declared.Target.{Target}
 
@@ -17,8 +16,8 @@ use Rattle.reload.specs.declared.Target.{Target}
 abbrev pub partAt : List ℕ → ℕ → ℕ → Record
 partAt b at n = readIs (take (bytesFor n) (drop at b)) n .found
 
-abbrev pub reloadedFrom : Target → List ℕ → ℕ → ℕ → Definition → List ℕ → Restored
+abbrev pub reloadedFrom : Target → List ℕ → ℕ → ℕ → Definition → List ℕ → Reloaded
 reloadedFrom t b at n d out = redefined t d (partAt b at n) out
 
 abbrev pub reloadedOut : Target → List ℕ → ℕ → ℕ → Definition → List ℕ → List ℕ
-reloadedOut t b at n d out = restores (reloadedFrom t b at n d out) (pack (pdu .print (defineOf t d (partAt b at n)))) out
+reloadedOut t b at n d out = reloads (reloadedFrom t b at n d out) (pack (pdu .print (defineOf t d (partAt b at n)))) out

@@ -3,7 +3,6 @@ use archive::EntryPlace;
 use archive::Fetched;
 use archive::Key;
 use archive::Refusal;
-use archive::Restored;
 use bits::BitCount;
 use grammar::record::Figures;
 use grammar::record::Lists;
@@ -31,6 +30,12 @@ pub struct Definition {
     pub definition: u32,
     pub delivery: u32,
     pub acknowledgement: u32,
+}
+
+// The length in bits of the PDU that was written, or a refusal.
+pub enum Reloaded {
+    Bits(BitCount),
+    Refused(Refusal),
 }
 
 // Whether a definition may be asked for.
@@ -130,10 +135,10 @@ fn define_of(target: Target, wanted: Definition, part: Record) -> Record
 }
 
 // A refusal without entry and place.
-fn refused(number: u32) -> Restored
-    ensures { λ r. ⌜ r ≡ Restored.Refused (plain number) ⌝ }
+fn refused(number: u32) -> Reloaded
+    ensures { λ r. ⌜ r ≡ Reloaded.Refused (plain number) ⌝ }
 {
-    Restored::Refused(Refusal {
+    Reloaded::Refused(Refusal {
         number,
         entry: EntryPlace::Nowhere,
         place: BitPlace::Nowhere,
@@ -148,7 +153,7 @@ fn reload_body(
     target: Target,
     wanted: Definition,
     out: &mut [u8],
-) -> Restored
+) -> Reloaded
     requires { ⌜ at + bytesFor (n .0) ≤ length (now archive) ⌝ }
     ensures { λ r. ⌜ r ≡ reloadedFrom target (now (archive .entry)) at (n .0) wanted (now (out .entry)) ⌝ }
     ensures { λ _. ⌜ now (out .exit) ≡ reloadedOut target (now (archive .entry)) at (n .0) wanted (now (out .entry)) ⌝ }
@@ -162,7 +167,7 @@ fn reload_body(
         return refused(12);
     }
     match pdu::write(define_of(target, wanted, part), out) {
-        Written::Bits(length) => Restored::Bits(length),
+        Written::Bits(length) => Reloaded::Bits(length),
         Written::Refused(number) => refused(number),
     }
 }
@@ -174,7 +179,7 @@ pub fn reload(
     key: Key,
     wanted: Definition,
     out: &mut [u8],
-) -> Restored
+) -> Reloaded
     ensures { λ r. ⌜ r ≡ reloadIs target (now (archive .entry)) key wanted (now (out .entry)) ⌝ }
     ensures { λ _. ⌜ now (out .exit) ≡ reloadOut target (now (archive .entry)) key wanted (now (out .entry)) ⌝ }
 {
@@ -186,8 +191,8 @@ pub fn reload(
     }
     let found = archive::fetch(archive, key);
     match found {
-        Fetched::Refused(refusal) => Restored::Refused(refusal),
+        Fetched::Refused(refusal) => Reloaded::Refused(refusal),
         Fetched::NotHeld => refused(11),
-        Fetched::Body(at, n) => reload_body(archive, at, n, target, wanted, out),
+        Fetched::Body(at, n, _) => reload_body(archive, at, n, target, wanted, out),
     }
 }

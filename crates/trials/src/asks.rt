@@ -46,6 +46,7 @@ fn restore(line: &[u8], archive: &[u8]) {
 fn restore_to(archive: &[u8], network: u32, ssi: u32, part: u32, room: usize) {
     let mut out = show::full();
     let mut count: usize = 0;
+    let mut day: u32 = 0;
     let mut entry = show::FULL_PLACE;
     let mut place = show::FULL_PLACE;
     let end = bits::least(room, 70000);
@@ -56,10 +57,15 @@ fn restore_to(archive: &[u8], network: u32, ssi: u32, part: u32, room: usize) {
         part,
         &mut out[0..end],
         &mut count,
+        &mut day,
         &mut entry,
         &mut place,
     );
-    restored(
+    if number == 0 {
+        show::labelled(b"bits ", count as u64);
+        show::labelled(b" day ", day as u64);
+    }
+    pdu_or_refusal(
         Answer {
             number,
             entry,
@@ -74,29 +80,66 @@ fn restore_to(archive: &[u8], network: u32, ssi: u32, part: u32, room: usize) {
 fn reload(line: &[u8], archive: &[u8]) {
     let mut asked = [0u32; 7];
     input::numbers_at(line, 7, &mut asked);
-    reload_to(archive, asked);
+    reload_to(false, archive, asked);
 }
 
-fn reload_to(archive: &[u8], asked: [u32; 7]) {
+// The same without the part, which is that of numbers.
+fn reload_external(line: &[u8], archive: &[u8]) {
+    let mut asked = [0u32; 6];
+    input::numbers_at(line, 16, &mut asked);
+    reload_to(
+        true,
+        archive,
+        [
+            asked[0],
+            asked[1],
+            2,
+            asked[2],
+            asked[3],
+            asked[4],
+            asked[5],
+        ],
+    );
+}
+
+fn reload_to(external: bool, archive: &[u8], asked: [u32; 7]) {
     let mut out = show::full();
     let mut count: usize = 0;
     let mut entry = show::FULL_PLACE;
     let mut place = show::FULL_PLACE;
     let end = bits::least(asked[6] as usize, 70000);
-    let number = boc::boc_reload(
-        archive,
-        asked[0],
-        asked[1],
-        asked[2],
-        asked[3],
-        asked[4],
-        asked[5],
-        &mut out[0..end],
-        &mut count,
-        &mut entry,
-        &mut place,
-    );
-    restored(
+    let number = if external {
+        boc::boc_reload_external(
+            archive,
+            asked[0],
+            asked[1],
+            asked[3],
+            asked[4],
+            asked[5],
+            &mut out[0..end],
+            &mut count,
+            &mut entry,
+            &mut place,
+        )
+    } else {
+        boc::boc_reload(
+            archive,
+            asked[0],
+            asked[1],
+            asked[2],
+            asked[3],
+            asked[4],
+            asked[5],
+            &mut out[0..end],
+            &mut count,
+            &mut entry,
+            &mut place,
+        )
+    };
+    if number == 0 {
+        show::labelled(b"bits ", count as u64);
+    }
+    pdu_or_refusal(
         Answer {
             number,
             entry,
@@ -107,45 +150,9 @@ fn reload_to(archive: &[u8], asked: [u32; 7]) {
     );
 }
 
-// Network, SSI, definition type, delivery, acknowledgement and room stand in this order.
-fn reload_external(line: &[u8], archive: &[u8]) {
-    let mut asked = [0u32; 6];
-    input::numbers_at(line, 16, &mut asked);
-    reload_external_to(archive, asked);
-}
-
-fn reload_external_to(archive: &[u8], asked: [u32; 6]) {
-    let mut out = show::full();
-    let mut count: usize = 0;
-    let mut entry = show::FULL_PLACE;
-    let mut place = show::FULL_PLACE;
-    let end = bits::least(asked[5] as usize, 70000);
-    let number = boc::boc_reload_external(
-        archive,
-        asked[0],
-        asked[1],
-        asked[2],
-        asked[3],
-        asked[4],
-        &mut out[0..end],
-        &mut count,
-        &mut entry,
-        &mut place,
-    );
-    restored(
-        Answer {
-            number,
-            entry,
-            place,
-        },
-        BitCount(count),
-        out,
-    );
-}
-
-fn restored(answer: Answer, n: BitCount, out: [u8; 70000]) {
+// Prints the bytes of a PDU that was written, or the refusal.
+fn pdu_or_refusal(answer: Answer, n: BitCount, out: [u8; 70000]) {
     if answer.number == 0 {
-        show::labelled(b"bits ", n.0 as u64);
         io::write_all(1, b" ");
         show::span(&out, 0, n.bytes());
     } else {

@@ -53,19 +53,22 @@ fn empty(line: &[u8], held: Held) -> Held {
     answered(answer, size, out, held)
 }
 
-// The PDU given at a place of a line: its bit length in decimal, its bytes in hexadecimal.
+// The PDU given at a place of a line: its bit length and its day in decimal, its bytes in hexadecimal.
 struct Pdu {
     bits: usize,
+    day: u32,
     count: usize,
     bytes: [u8; 520],
 }
 
 fn pdu_at(line: &[u8], at: usize) -> Pdu {
     let length = input::number_at(line, at);
+    let day = input::number_at(line, length.next);
     let mut bytes = [0u8; 520];
-    let count = input::bytes_at(line, length.next, &mut bytes);
+    let count = input::bytes_at(line, day.next, &mut bytes);
     Pdu {
         bits: length.value as usize,
+        day: day.value,
         count,
         bytes,
     }
@@ -88,6 +91,7 @@ fn capture_in(held: Held, pdu: Pdu, room: usize) -> Held {
         input::first(&archive, held.length),
         input::first(&bytes, pdu.count),
         pdu.bits,
+        pdu.day,
         &mut out[0..end],
         &mut size,
         &mut entry,
@@ -126,6 +130,7 @@ fn with_ssi(pdu: Pdu, ssi: u32) -> Pdu {
     bits::put(&mut bytes, 15, 24, ssi as u64);
     Pdu {
         bits: pdu.bits,
+        day: pdu.day,
         count: pdu.count,
         bytes,
     }

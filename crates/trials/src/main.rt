@@ -1,4 +1,4 @@
-// Runs cases through the eight calls, a line of standard input each, and prints a line for each.
+// Runs cases through the nine calls, a line of standard input each, and prints a line for each.
 //
 // `BITS HEX` is the PDU of so many bits in these bytes: its refusal; or its record, each word that is not zero as `INDEX:VALUE`, and the PDU that
 // is written of it. These speak of the PDU given last and of its record, which is zero after a refusal:
@@ -11,11 +11,13 @@
 //
 // These speak of the archive that was written last: its length and its sum are printed.
 //   empty HOME ROOM                  the empty archive, written to ROOM lent bytes
-//   capture ROOM BITS HEX            the archive with this PDU, written to ROOM lent bytes
-//   many FROM TO BITS HEX            the same under each SSI from FROM up to TO: a line for each, and an empty one
-//   restore NETWORK SSI PART ROOM    a held PDU, written to ROOM lent bytes
+//   capture ROOM BITS DAY HEX        the archive with this PDU, taken on this day, written to ROOM lent bytes
+//   many FROM TO BITS DAY HEX        the same under each SSI from FROM up to TO: a line for each, and an empty one
+//   restore NETWORK SSI PART ROOM    a held PDU and its day, written to ROOM lent bytes
 //   reload NETWORK SSI PART DEFINITION DELIVERY ACKNOWLEDGEMENT ROOM
 //                                    the same as a DEFINE with this definition type and these two bits
+//   reload_external NETWORK SSI DEFINITION DELIVERY ACKNOWLEDGEMENT ROOM
+//                                    a held number part as a DEFINE EXTERNAL
 //   decide WORD,WORD,..              the decision on the request in these words; no digits are 0, and so are words left out
 //   verify                           the listing of the held archive, its length and sum
 //   print FROM TO                    the bytes of the held archive's buffer from FROM up to TO

@@ -135,19 +135,25 @@ fn read_and_write(rng: &mut Rng) {
 fn on_archive(archive: &Archive) -> Vec<(&'static str, Times)> {
     let held = archive.bytes();
     let held = held.as_slice();
-    let Entry { user: [network, ssi], part, pdu } = archive.entries.last().expect("it has entries");
-    let (bytes, bits) = (pdu.bytes.as_slice(), pdu.bits);
+    let Entry { user: [network, ssi], part, day, pdu } = archive.entries.last().expect("it has entries");
+    let (bytes, bits, day) = (pdu.bytes.as_slice(), pdu.bits, u32::from(*day));
     let capture = Times::of(
         ROOM,
-        |out| through(|length, spot| boc::ffi::capture(black_box(held), bytes, bits, out, length, spot)),
-        |out| answer(reference::capture(black_box(held), bytes, bits, out)),
+        |out| through(|length, spot| boc::ffi::capture(black_box(held), bytes, bits, day, out, length, spot)),
+        |out| answer(reference::capture(black_box(held), bytes, bits, day, out)),
     );
     let restore = Times::of(
         ROOM,
         |out| {
-            through(|bits, spot| boc::ffi::restore(black_box(held), *network, *ssi, *part, out, bits, spot))
+            let (number, (bits, _)) = through(|(bits, day), spot| {
+                boc::ffi::restore(black_box(held), *network, *ssi, *part, out, bits, day, spot)
+            });
+            (number, bits)
         },
-        |out| answer(reference::restore(black_box(held), *network, *ssi, *part, out)),
+        |out| {
+            let restored = reference::restore(black_box(held), *network, *ssi, *part, out);
+            answer(restored.map(|restored| restored.bits))
+        },
     );
     let contents = Times::of(
         ROOM,

@@ -30,6 +30,7 @@ mod c {
             pdu: *const u8,
             pdu_len: usize,
             bits: usize,
+            day: u32,
             out: *mut u8,
             out_len: usize,
             length: *mut usize,
@@ -45,6 +46,7 @@ mod c {
             out: *mut u8,
             out_len: usize,
             bits: *mut usize,
+            day: *mut u32,
             entry: *mut usize,
             place: *mut usize,
         ) -> u32;
@@ -139,6 +141,7 @@ pub fn capture(
     archive: &[u8],
     pdu: &[u8],
     bits: usize,
+    day: u32,
     out: &mut [u8],
     length: &mut usize,
     Spot { entry, place }: &mut Spot,
@@ -147,11 +150,12 @@ pub fn capture(
     let (out, out_len) = (out.as_mut_ptr(), out.len());
     // SAFETY: slices and references, as above.
     unsafe {
-        c::boc_capture(held, held_len, pdu.as_ptr(), pdu.len(), bits, out, out_len, length, entry, place)
+        c::boc_capture(held, held_len, pdu.as_ptr(), pdu.len(), bits, day, out, out_len, length, entry, place)
     }
 }
 
 /// `boc_restore`.
+#[allow(clippy::too_many_arguments)]
 pub fn restore(
     archive: &[u8],
     network: u32,
@@ -159,12 +163,13 @@ pub fn restore(
     part: u32,
     out: &mut [u8],
     bits: &mut usize,
+    day: &mut u32,
     Spot { entry, place }: &mut Spot,
 ) -> u32 {
     let (held, held_len) = (archive.as_ptr(), archive.len());
     let (out, out_len) = (out.as_mut_ptr(), out.len());
     // SAFETY: slices and references, as above.
-    unsafe { c::boc_restore(held, held_len, network, ssi, part, out, out_len, bits, entry, place) }
+    unsafe { c::boc_restore(held, held_len, network, ssi, part, out, out_len, bits, day, entry, place) }
 }
 
 /// `boc_reload`.

@@ -8,7 +8,8 @@
 //!
 //! A PDU is a number of bits, most significant first, in exactly the bytes that hold them, with zero bits
 //! after them. An archive is exactly the slice that was written: the first N bytes of the buffer, where N is
-//! what [`empty`] or [`capture`] gave.
+//! what [`empty`] or [`capture`] gave. A day is a number that the caller gives with a PDU and gets back with
+//! it; what it counts from is the caller's business, days since 1970-01-01 are recommended.
 //!
 //! ```
 //! use boc::*;
@@ -29,7 +30,8 @@
 //!
 //! let (mut old, mut new) = ([0; 64], [0; 64]);
 //! let length = empty(1, &mut old)?;
-//! let length = capture(&old[..length], pdu, bits, &mut new)?;
+//! let day = 300;
+//! let length = capture(&old[..length], pdu, bits, day, &mut new)?;
 //! let archive = &new[..length];
 //!
 //! let user = Party { network: 1, ssi: 5 };
@@ -43,7 +45,7 @@
 //! assert_eq!(decide(archive, &call(150))?, Decision::Allowed);
 //!
 //! let mut back = [0; PDU_BYTES];
-//! assert_eq!(restore(archive, user, Part::Identity, &mut back), Ok(bits));
+//! assert_eq!(restore(archive, user, Part::Identity, &mut back), Ok(Restored { bits, day }));
 //! assert_eq!(&back[..pdu.len()], pdu);
 //!
 //! let definition = Definition { definition_type: DefinitionType::Replacement, ..Definition::default() };
@@ -85,8 +87,17 @@ use ffi::Spot;
 pub const PDU_BYTES: usize = 307;
 /// Bytes of the longest archive.
 pub const ARCHIVE_BYTES: usize = 65_536;
-/// No listing is longer than this many bytes: 26, and 35 for each of 512 entries.
-pub const CONTENTS_BYTES: usize = 26 + 35 * 512;
+/// No listing is longer than this many bytes: 26, and 45 for each of 512 entries.
+pub const CONTENTS_BYTES: usize = 26 + 45 * 512;
+
+/// What [`restore`] answers of the PDU that it wrote.
+#[derive(Clone, Copy, Debug, PartialEq, Eq, Hash)]
+pub struct Restored {
+    /// Its length in bits.
+    pub bits: usize,
+    /// The day that was given when it was captured.
+    pub day: u16,
+}
 
 /// The record of the PDU of `bits` bits.
 ///
@@ -118,21 +129,24 @@ pub fn empty(home: u32, out: &mut [u8]) -> Result<usize, Refusal> {
     Refusal::check(ffi::empty(home, out, &mut length)).map(|()| length)
 }
 
-/// Writes to the front of `out` the archive that holds the PDU of `bits` bits too, in place of one for the
-/// same user and part; answers its length in bytes.
+/// Writes to the front of `out` the archive that holds the PDU of `bits` bits too, under this day, in place of
+/// one for the same user and part, whatever day that has; answers its length in bytes.
 ///
 /// Refuses with [`Archive`](Refusal::Archive), then as [`read`] does, then with [`Unfit`](Refusal::Unfit),
 /// then with [`Room`](Refusal::Room).
-pub fn capture(archive: &[u8], pdu: &[u8], bits: usize, out: &mut [u8]) -> Result<usize, Refused> {
-    answer(|length, spot| ffi::capture(archive, pdu, bits, out, length, spot))
+pub fn capture(archive: &[u8], pdu: &[u8], bits: usize, day: u16, out: &mut [u8]) -> Result<usize, Refused> {
+    answer(|length, spot| ffi::capture(archive, pdu, bits, day.into(), out, length, spot))
 }
 
-/// Writes the PDU held for a user and part to the front of `out`; answers its length in bits.
+/// Writes the PDU held for a user and part to the front of `out`; answers its length in bits and its day.
 ///
 /// Refuses with [`Range`](Refusal::Range), [`Archive`](Refusal::Archive), [`NotHeld`](Refusal::NotHeld) and
 /// [`Room`](Refusal::Room), in this order.
-pub fn restore(archive: &[u8], user: Party, part: Part, out: &mut [u8]) -> Result<usize, Refused> {
-    answer(|bits, spot| ffi::restore(archive, user.network, user.ssi, part.number(), out, bits, spot))
+pub fn restore(archive: &[u8], user: Party, part: Part, out: &mut [u8]) -> Result<Restored, Refused> {
+    let Party { network, ssi } = user;
+    let (bits, day) =
+        answer(|(bits, day), spot| ffi::restore(archive, network, ssi, part.number(), out, bits, day, spot))?;
+    Ok(Restored { bits, day: u16::try_from(day).expect("a day that is held has 16 bits") })
 }
 
 /// Writes the part held for a user to the front of `out` as a DEFINE, with the affected user, the services
@@ -199,8 +213,8 @@ pub fn contents(archive: &[u8], out: &mut [u8]) -> Result<usize, Refused> {
     answer(|length, spot| ffi::contents(archive, out, length, spot))
 }
 
-/// The number that a call on an archive answers, or its refusal.
+/// The number, or the numbers, that a call on an archive answers, or its refusal.
 fn answer<N: Default>(call: impl FnOnce(&mut N, &mut Spot) -> u32) -> Result<N, Refused> {
-    let (mut number, mut spot) = (N::default(), Spot::NONE);
-    Refused::check(call(&mut number, &mut spot), spot).map(|()| number)
+    let (mut numbers, mut spot) = (N::default(), Spot::NONE);
+    Refused::check(call(&mut numbers, &mut spot), spot).map(|()| numbers)
 }

@@ -24,7 +24,7 @@ pub enum Refusal {
     Archive = 7,
     /// A new key with 512 held, or the result exceeds 65,536 bytes or the lent buffer.
     Room = 8,
-    /// A request, user, part, definition, home network or count of words out of its range.
+    /// A request, user, part, definition, home network, day or count of words out of its range.
     Range = 9,
     /// Restore and reload: not held.
     NotHeld = 11,
@@ -69,7 +69,7 @@ impl Refusal {
             Refusal::Archive => "the archive breaks a rule",
             Refusal::Room => "no room for the result",
             Refusal::Range => {
-                "a request, user, part, definition, home network or count of words out of its range"
+                "a request, user, part, definition, home network, day or count of words out of its range"
             }
             Refusal::NotHeld => "not held",
             Refusal::Loss => "a held list that is not empty has no place in the PDU",

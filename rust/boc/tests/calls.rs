@@ -37,11 +37,18 @@ fn define_a() -> Record {
     }
 }
 
+/// The day that the example's PDU is captured under.
+const DAY: u16 = 300;
+
 fn captured(record: &Record, archive: &[u8]) -> Result<Vec<u8>, Refused> {
+    captured_on(DAY, record, archive)
+}
+
+fn captured_on(day: u16, record: &Record, archive: &[u8]) -> Result<Vec<u8>, Refused> {
     let mut pdu = [0; PDU_BYTES];
     let bits = write(record, &mut pdu)?;
     let mut out = vec![0; ARCHIVE_BYTES];
-    let length = capture(archive, &pdu[..bits.div_ceil(8)], bits, &mut out)?;
+    let length = capture(archive, &pdu[..bits.div_ceil(8)], bits, day, &mut out)?;
     out.truncate(length);
     Ok(out)
 }
@@ -69,7 +76,7 @@ fn a_define_is_written_and_read() {
     assert_eq!(write(&define_a(), &mut out), Ok(137));
     assert_eq!(out[..18], DEFINE_A);
     assert_eq!(read(&DEFINE_A, 137), Ok(define_a()));
-    assert_eq!(capture(&example(), &DEFINE_A, 137, &mut out), refused(Refusal::Unfit, None, None));
+    assert_eq!(capture(&example(), &DEFINE_A, 137, DAY, &mut out), refused(Refusal::Unfit, None, None));
 
     // An acknowledgement without delivery, in writing and, at its place, in reading.
     let undelivered = Definition { delivery: false, ..ACKNOWLEDGED_REPLACEMENT };
@@ -160,7 +167,8 @@ fn each_pdu_is_written_and_read() {
         let pdu = &pdu[..bits.div_ceil(8)];
         assert_eq!(read(pdu, bits), Ok(record));
         if record.pdu_type != PduType::InterrogateAck {
-            assert_eq!(capture(&example(), pdu, bits, &mut [0; 400]), refused(Refusal::Unfit, None, None));
+            let answer = capture(&example(), pdu, bits, DAY, &mut [0; 400]);
+            assert_eq!(answer, refused(Refusal::Unfit, None, None));
         }
     }
     let with_user = Record { pdu_type: PduType::DefineUser, affected: one_user, ..to_user };
@@ -252,7 +260,7 @@ fn refusals_of_a_pdu_have_their_place() {
         assert_eq!(read(&pdu, 11), refused(Refusal::Value, None, Some(6)));
     }
     let mut out = [0; 64];
-    assert_eq!(capture(&example(), &PROFILE_A, 144, &mut out), refused(Refusal::Left, None, Some(138)));
+    assert_eq!(capture(&example(), &PROFILE_A, 144, DAY, &mut out), refused(Refusal::Left, None, Some(138)));
 }
 
 #[test]
@@ -265,16 +273,17 @@ fn refusals_of_an_archive_have_their_entry() {
         archive[place] ^= 1;
         let expected = refused(Refusal::Archive, entry, bit);
         assert_eq!(contents(&archive, &mut [0; 100]), expected);
-        assert_eq!(capture(&archive, &PROFILE_A, 137, &mut [0; 100]), expected);
-        assert_eq!(restore(&archive, USER, Part::Identity, &mut [0; 100]), expected);
+        assert_eq!(capture(&archive, &PROFILE_A, 137, DAY, &mut [0; 100]), expected);
+        let restored = restore(&archive, USER, Part::Identity, &mut [0; 100]);
+        assert_eq!(restored, refused(Refusal::Archive, entry, bit));
         assert_eq!(reload(&archive, USER, Part::Identity, Definition::default(), &mut [0; 100]), expected);
         assert_eq!(reload_external(&archive, USER, Definition::default(), &mut [0; 100]), expected);
     };
     // The count; the first part, which is then number 0; the last unused bit; the second body's PDU type.
     broken(4, None, None);
     broken(11, None, None);
-    broken(58, Some(1), None);
-    broken(41, Some(1), Some(6));
+    broken(62, Some(1), None);
+    broken(45, Some(1), Some(6));
 }
 
 #[test]
@@ -313,9 +322,9 @@ fn an_archive_lists_restores_and_decides() {
     let archive = example();
     let mut text = [0; CONTENTS_BYTES];
     let length = contents(&archive, &mut text).unwrap();
-    assert_eq!(&text[..length], b"home 1 entries 1\n1 5 part 1 bits 138\n");
+    assert_eq!(&text[..length], b"home 1 entries 1\n1 5 part 1 bits 138 day 300\n");
     let mut back = [0; PDU_BYTES];
-    assert_eq!(restore(&archive, USER, Part::Identity, &mut back), Ok(138));
+    assert_eq!(restore(&archive, USER, Part::Identity, &mut back), Ok(Restored { bits: 138, day: DAY }));
     assert_eq!(back[..18], PROFILE_A);
 
     let to_number = Request {
@@ -334,6 +343,38 @@ fn an_archive_lists_restores_and_decides() {
     assert_eq!(Decision::Allowed.cause(), None);
     let all = Request { service: Service::All, ..in_group };
     assert_eq!(decide(&archive, &all), refused(Refusal::Range, None, None));
+}
+
+#[test]
+fn the_last_day_given_is_kept() {
+    let archive = example();
+    let head = [0, 0, 1, 0, 1, 0, 0, 1, 0, 0, 5, 1, 0, 0x8a, 0x01, 0x2c];
+    assert_eq!(archive, [&head[..], &PROFILE_A].concat());
+    let mut back = [0; PDU_BYTES];
+    for day in [299, 0, u16::MAX, 1] {
+        let again = captured_on(day, &profile_a(), &archive).unwrap();
+        let mut expected = archive.clone();
+        expected[14..16].copy_from_slice(&day.to_be_bytes());
+        assert_eq!(again, expected);
+        assert_eq!(restore(&again, USER, Part::Identity, &mut back), Ok(Restored { bits: 138, day }));
+    }
+
+    // Through the C call a day can be out of its range: 9, before 7.
+    for day in [65_536, u32::MAX] {
+        let (mut length, mut spot) = (7, ffi::Spot { entry: 7, place: 7 });
+        assert_eq!(ffi::capture(&[], &PROFILE_A, 138, day, &mut back, &mut length, &mut spot), 9);
+        assert_eq!((length, spot), (7, ffi::Spot::NONE));
+    }
+    // A refused restore leaves the day.
+    let (mut bits, mut day, mut spot) = (7, 7, ffi::Spot::NONE);
+    assert_eq!(ffi::restore(&archive, 1, 5, 2, &mut back, &mut bits, &mut day, &mut spot), 11);
+    assert_eq!((bits, day), (7, 7));
+}
+
+#[test]
+fn the_longest_listing_is_so_long() {
+    let line = "16777215 16777215 part 1 bits 2113 day 65535\n";
+    assert_eq!(CONTENTS_BYTES, "home 16777215 entries 512\n".len() + 512 * line.len());
 }
 
 #[test]

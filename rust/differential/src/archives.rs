@@ -6,13 +6,14 @@ use reference::layout::{record as at, RECORD_WORDS};
 use reference::Refused;
 
 use crate::elements::{Form, FORMS};
-use crate::{network, part, record, ssi, Pdu, Rng, Size};
+use crate::{day, network, part, record, ssi, Pdu, Rng, Size};
 
 /// Most bytes of an archive.
 pub const MAX_BYTES: usize = 65_536;
 /// Most entries of an archive.
 pub const MAX_ENTRIES: usize = 512;
-/// What [`Archive::damaged`] changes, and the two ways in which an archive has too much.
+/// What [`Archive::damaged`] changes so that no archive may be left, and the two ways in which an archive has
+/// too much.
 pub const DAMAGES: [&str; 21] = [
     "home network's bits",
     "count's bits",
@@ -36,8 +37,12 @@ pub const DAMAGES: [&str; 21] = [
     "513 entries",
     "65,537 bytes",
 ];
-const HEADER: usize = 5;
-const LINE: usize = 9;
+/// What [`Archive::damaged`] may also change, which leaves an archive.
+pub const DAYS_BITS: &str = "day's bits";
+/// Bytes of the header: home network, entry count.
+pub const HEADER: usize = 5;
+/// Bytes of a line of the contents: network, SSI, part, bit length, day.
+pub const LINE: usize = 11;
 
 /// An entry: what its line of the contents says, and its body.
 #[derive(Clone)]
@@ -46,6 +51,8 @@ pub struct Entry {
     pub user: [u32; 2],
     /// 1 identity, 2 number.
     pub part: u32,
+    /// The day.
+    pub day: u16,
     /// The body.
     pub pdu: Pdu,
 }
@@ -102,7 +109,7 @@ impl Archive {
     }
 
     fn entry(&self, rng: &mut Rng, (user, kind): ([u32; 2], u32), size: Size) -> Entry {
-        Entry { user, part: kind, pdu: Pdu::of(&part(rng, self.home, user, kind, size)) }
+        Entry { user, part: kind, day: day(rng), pdu: Pdu::of(&part(rng, self.home, user, kind, size)) }
     }
 
     fn length(&self) -> usize {
@@ -121,17 +128,18 @@ impl Archive {
     pub fn bytes(&self) -> Vec<u8> {
         let mut bytes = self.home.to_be_bytes()[1..].to_vec();
         bytes.extend((self.entries.len() as u16).to_be_bytes());
-        for Entry { user: [network, ssi], part, pdu } in &self.entries {
+        for Entry { user: [network, ssi], part, day, pdu } in &self.entries {
             bytes.extend(&network.to_be_bytes()[1..]);
             bytes.extend(&ssi.to_be_bytes()[1..]);
             bytes.push(*part as u8);
             bytes.extend((pdu.bits as u16).to_be_bytes());
+            bytes.extend(day.to_be_bytes());
         }
         self.entries.iter().for_each(|entry| bytes.extend(&entry.pdu.bytes));
         bytes
     }
 
-    /// What a byte of the archive is of, as [`DAMAGES`] names it.
+    /// What a byte of the archive is of, as [`DAMAGES`] or [`DAYS_BITS`] names it.
     pub fn region(&self, byte: usize) -> &'static str {
         let count = self.entries.len();
         match byte {
@@ -142,7 +150,8 @@ impl Archive {
                 0..3 => "network's bits",
                 3..6 => "SSI's bits",
                 6 => "part's bits",
-                _ => "length's bits",
+                7..9 => "length's bits",
+                _ => DAYS_BITS,
             },
         }
     }
@@ -162,7 +171,8 @@ impl Archive {
             line..line + 3,
             line + 3..line + 6,
             line + 6..line + 7,
-            line + 7..line + LINE,
+            line + 7..line + 9,
+            line + 9..line + LINE,
             bodies..bytes.len(),
         ];
         match rng.below(8) {
@@ -315,7 +325,8 @@ pub fn lacking(archive: &[u8], pdu: &Pdu, room: usize) -> Vec<&'static str> {
     let network = if present == 1 { extension } else { home };
     let old = reference::restore(archive, network, ssi, words[at::RESULT], &mut [0; 512]);
     let count = usize::from(u16::from_be_bytes([archive[3], archive[4]]));
-    let length = archive.len() + pdu.bytes.len() + LINE - old.map_or(0, |bits| LINE + bits.div_ceil(8));
+    let old_length = old.map_or(0, |old| LINE + old.bits.div_ceil(8));
+    let length = archive.len() + pdu.bytes.len() + LINE - old_length;
     let lacks = [count == MAX_ENTRIES && old.is_err(), length > MAX_BYTES, length > room];
     LACKS.into_iter().zip(lacks).filter(|(_, lacks)| *lacks).map(|(lack, _)| lack).collect()
 }

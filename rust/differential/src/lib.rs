@@ -1,10 +1,11 @@
-//! Seeded inputs for comparing the library with the reference: PDUs, records, archives, reloads and requests,
-//! legal and damaged. All values come from small sets as often as from whole ranges, so that keys meet and
-//! lists match.
+//! Seeded inputs for comparing the library with the reference: PDUs, records, archives, days, reloads and
+//! requests, legal and damaged. All values come from small sets as often as from whole ranges, so that keys
+//! meet and lists match.
 
 #![forbid(unsafe_code)]
 
 mod archives;
+mod days;
 mod definitions;
 mod elements;
 mod met;
@@ -15,8 +16,10 @@ mod rng;
 pub mod typed;
 
 pub use archives::{
-    all_unfit, fault, lacking, unfit, Archive, Entry, DAMAGES, FAULTS, LACKS, MAX_BYTES, MAX_ENTRIES,
+    all_unfit, fault, lacking, unfit, Archive, Entry, DAMAGES, DAYS_BITS, FAULTS, HEADER, LACKS, LINE,
+    MAX_BYTES, MAX_ENTRIES,
 };
+pub use days::{day, offered_day, NO_DAYS};
 pub use definitions::{definition, Definition, DEFINITIONS};
 pub use elements::{elements, joined, reserved_types, Code, Element, Form, FORMS};
 pub use met::Met;

@@ -135,7 +135,7 @@ impl Reload {
     fn held(&self, archive: &[u8]) -> Record {
         let Reload { user: [network, ssi], part, .. } = *self;
         let (mut pdu, mut words) = ([0; 512], [0; RECORD_WORDS]);
-        let bits = reference::restore(archive, network, ssi, part, &mut pdu).expect("it is held");
+        let bits = reference::restore(archive, network, ssi, part, &mut pdu).expect("it is held").bits;
         reference::read(&pdu[..bits.div_ceil(8)], bits, &mut words).expect("it is legal");
         words
     }

@@ -11,8 +11,8 @@ const MAX_BYTES: usize = 65_536;
 const MAX_ENTRIES: usize = 512;
 /// Bytes of the header: home network, entry count.
 const HEADER: usize = 5;
-/// Bytes of a line of the contents: network, SSI, part, bit length.
-const LINE: usize = 9;
+/// Bytes of a line of the contents: network, SSI, part, bit length, day.
+const LINE: usize = 11;
 /// Networks and SSIs are below this.
 pub const LIMIT: u32 = 1 << 24;
 /// The parts that are held for a user.
@@ -68,22 +68,25 @@ impl Key {
 pub struct Line {
     pub key: Key,
     pub bits: usize,
+    pub day: u16,
 }
 
 impl Line {
     #[inline(always)]
     fn from_bytes(bytes: &[u8; LINE]) -> Self {
-        let [a, b, c, d, e, f, g, high, low] = *bytes;
+        let [a, b, c, d, e, f, g, bits_high, bits_low, day_high, day_low] = *bytes;
         Line {
-            key: Key(u64::from_be_bytes([a, b, c, d, e, f, g, high]) >> 8),
-            bits: u16::from_be_bytes([high, low]).into(),
+            key: Key(u64::from_be_bytes([a, b, c, d, e, f, g, bits_high]) >> 8),
+            bits: u16::from_be_bytes([bits_high, bits_low]).into(),
+            day: u16::from_be_bytes([day_high, day_low]),
         }
     }
 
     fn to_bytes(self) -> [u8; LINE] {
         let [_, a, b, c, d, e, f, g] = self.key.0.to_be_bytes();
-        let [high, low] = (self.bits as u16).to_be_bytes();
-        [a, b, c, d, e, f, g, high, low]
+        let [bits_high, bits_low] = (self.bits as u16).to_be_bytes();
+        let [day_high, day_low] = self.day.to_be_bytes();
+        [a, b, c, d, e, f, g, bits_high, bits_low, day_high, day_low]
     }
 
     /// Bytes of the body.
@@ -105,8 +108,17 @@ struct Place {
     index: usize,
     /// First byte of the body.
     body: usize,
-    /// Bit length, if the key is held.
-    held: Option<usize>,
+    /// Its line, if the key is held.
+    held: Option<Line>,
+}
+
+/// What a restored PDU has besides its bytes.
+#[derive(Clone, Copy, Debug, PartialEq, Eq)]
+pub struct Restored {
+    /// Its length in bits.
+    pub bits: usize,
+    /// The day that was given when it was captured.
+    pub day: u16,
 }
 
 impl<'a> Archive<'a> {
@@ -160,24 +172,24 @@ impl<'a> Archive<'a> {
         let mut body = self.bodies();
         for (index, line) in self.lines().enumerate() {
             if line.key >= key {
-                return Place { index, body, held: (line.key == key).then_some(line.bits) };
+                return Place { index, body, held: (line.key == key).then_some(line) };
             }
             body += line.room();
         }
         Place { index: self.lines.len(), body, held: None }
     }
 
-    /// The bit length and the bytes of the body held under a key.
-    fn body(&self, key: Key) -> Option<(usize, &'a [u8])> {
+    /// The line and the bytes of the body held under a key.
+    fn body(&self, key: Key) -> Option<(Line, &'a [u8])> {
         let place = self.find(key);
-        let bits = place.held?;
-        Some((bits, &self.bytes[place.body..][..bits.div_ceil(8)]))
+        let line = place.held?;
+        Some((line, &self.bytes[place.body..][..line.room()]))
     }
 
     /// A cursor on the body held under a key.
     pub fn cursor(&self, key: Key) -> Option<Cursor<'a>> {
         let place = self.find(key);
-        Some(Cursor::new(&self.bytes[place.body..], place.held?))
+        Some(Cursor::new(&self.bytes[place.body..], place.held?.bits))
     }
 }
 
@@ -204,9 +216,10 @@ pub fn empty(home: u32, out: &mut [u8]) -> Result<usize, Refusal> {
     Ok(HEADER)
 }
 
-/// Writes to `out` the archive that holds a PDU too, in place of one with the same key, and returns its
-/// length in bytes. Refuses with 7, the PDU's 1 to 5, 6, 8.
-pub fn capture(archive: &[u8], pdu: &[u8], bits: usize, out: &mut [u8]) -> Result<usize, Refused> {
+/// Writes to `out` the archive that holds a PDU too, with its day, in place of one with the same key, and
+/// returns its length in bytes. Refuses with 9, 7, the PDU's 1 to 5, 6, 8.
+pub fn capture(archive: &[u8], pdu: &[u8], bits: usize, day: u32, out: &mut [u8]) -> Result<usize, Refused> {
+    let day = u16::try_from(day).map_err(|_| Refusal::Range)?;
     let held = Archive::check(archive)?;
     let head = walk(frame(pdu, bits)?, &mut Judge)?;
     let key = Key::of(&head, held.home).ok_or(Refusal::Unfit)?;
@@ -216,7 +229,7 @@ pub fn capture(archive: &[u8], pdu: &[u8], bits: usize, out: &mut [u8]) -> Resul
     let count = held.lines.len() + usize::from(old.is_none());
     let line = HEADER + LINE * index;
     let next_line = line + if old.is_some() { LINE } else { 0 };
-    let next_body = body + old.map_or(0, |bits| bits.div_ceil(8));
+    let next_body = body + old.map_or(0, Line::room);
     let length = archive.len() - (next_line - line) - (next_body - body) + LINE + pdu.len();
     if count > MAX_ENTRIES || length > MAX_BYTES || length > out.len() {
         return Err(Refusal::Room.into());
@@ -231,19 +244,25 @@ pub fn capture(archive: &[u8], pdu: &[u8], bits: usize, out: &mut [u8]) -> Resul
     append(&archive[..3]);
     append(&(count as u16).to_be_bytes());
     append(&archive[HEADER..line]);
-    append(&Line { key, bits }.to_bytes());
+    append(&Line { key, bits, day }.to_bytes());
     append(&archive[next_line..body]);
     append(pdu);
     append(&archive[next_body..]);
     Ok(length)
 }
 
-/// Writes the PDU held for a user and part to `out` and returns its length in bits.
+/// Writes the PDU held for a user and part to `out` and returns its length in bits and its day.
 /// Refuses with 9, 7, 11, 8.
-pub fn restore(archive: &[u8], network: u32, ssi: u32, part: u32, out: &mut [u8]) -> Result<usize, Refused> {
+pub fn restore(
+    archive: &[u8],
+    network: u32,
+    ssi: u32,
+    part: u32,
+    out: &mut [u8],
+) -> Result<Restored, Refused> {
     let key = Key::asked(network, ssi, part)?;
     let held = Archive::check(archive)?;
-    let (bits, body) = held.body(key).ok_or(Refusal::NotHeld)?;
+    let (Line { bits, day, .. }, body) = held.body(key).ok_or(Refusal::NotHeld)?;
     out.get_mut(..body.len()).ok_or(Refusal::Room)?.copy_from_slice(body);
-    Ok(bits)
+    Ok(Restored { bits, day })
 }

@@ -5,8 +5,8 @@ use crate::refusal::{Refusal, Refused};
 
 /// Writes the listing of an archive to `out` and returns its length in bytes. Refuses with 7, 8.
 ///
-/// The first line has the home network and the count; each other line has network, SSI, part and bit
-/// length. Numbers are decimal, and each line ends in a line feed.
+/// The first line has the home network and the count; each other line has network, SSI, part, bit length and
+/// day. Numbers are decimal, and each line ends in a line feed.
 pub fn contents(archive: &[u8], out: &mut [u8]) -> Result<usize, Refused> {
     let archive = Archive::check(archive)?;
     let mut length = 0;
@@ -29,11 +29,12 @@ fn list(archive: &Archive<'_>, mut piece: impl FnMut(&[u8])) {
     let lines = archive.lines();
     named(b"home ", archive.home);
     named(b" entries ", lines.len() as u32);
-    for Line { key, bits } in lines {
+    for Line { key, bits, day } in lines {
         named(b"\n", key.network());
         named(b" ", key.ssi());
         named(b" part ", key.part());
         named(b" bits ", bits as u32);
+        named(b" day ", day.into());
     }
     piece(b"\n");
 }

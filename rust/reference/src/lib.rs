@@ -14,10 +14,10 @@
 //! | `refusal` | the refusals, and where a call stopped | "Refusal numbers" |
 //! | `pdu` | the grammar of the PDUs, and reading | "The two PDUs", "Site sheet" |
 //! | `write` | which records are legal, and writing | "The two PDUs", "Site sheet" |
-//! | `archive` | check, empty, capture, restore | "The archive" |
+//! | `archive` | check, empty, capture, restore | "The archive"; document 02, 2026-05 |
 //! | `reload` | a held part as a DEFINE or a DEFINE EXTERNAL | document 02, 2026-01 and 2026-06 |
 //! | `barring` | requests and decisions | "The barring rule" |
-//! | `contents` | the listing | "Profiles to try" |
+//! | `contents` | the listing | "Profiles to try"; document 02, 2026-05 |
 
 #![no_std]
 #![forbid(unsafe_code)]
@@ -35,7 +35,7 @@ mod reload;
 mod words;
 mod write;
 
-pub use archive::{capture, empty, restore};
+pub use archive::{capture, empty, restore, Restored};
 pub use barring::{decide, Decision};
 pub use contents::contents;
 pub use pdu::read;

@@ -20,7 +20,7 @@ pub enum Refusal {
     Archive = 7,
     /// A new key with 512 held, or the result exceeds 65,536 bytes or the lent buffer.
     Room = 8,
-    /// A request, user, part, definition, home network or word count out of its range.
+    /// A request, user, part, definition, home network, day or word count out of its range.
     Range = 9,
     /// Restore and reload: not held.
     NotHeld = 11,

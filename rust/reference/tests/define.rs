@@ -79,7 +79,7 @@ fn archive(parts: &[Record]) -> Vec<u8> {
         let mut pdu = [0; 307];
         let bits = write(words, &mut pdu).unwrap();
         let mut next = vec![0; 65_536];
-        let length = capture(&held, &pdu[..bits.div_ceil(8)], bits, &mut next).unwrap();
+        let length = capture(&held, &pdu[..bits.div_ceil(8)], bits, 0, &mut next).unwrap();
         next.truncate(length);
         held = next;
     }
@@ -250,8 +250,8 @@ fn what_is_not_carried_is_zero() {
 #[test]
 fn no_archive_holds_one() {
     let held = archive(&[profile_a()]);
-    assert_eq!(why(capture(&held, &DEFINE_A, 137, &mut [0; 100])), Err(Refusal::Unfit));
-    assert_eq!(why(capture(&held, &REMOVE, 50, &mut [])), Err(Refusal::Unfit));
+    assert_eq!(why(capture(&held, &DEFINE_A, 137, 0, &mut [0; 100])), Err(Refusal::Unfit));
+    assert_eq!(why(capture(&held, &REMOVE, 50, 0, &mut [])), Err(Refusal::Unfit));
 }
 
 #[test]

@@ -177,7 +177,7 @@ fn examples() {
         assert_eq!(words, example.record());
         crosses(&words, bits);
         // No archive holds one.
-        assert_eq!(why(capture(&[0, 0, 1, 0, 0], &pdu, bits, &mut [0; 400])), Err(Refusal::Unfit));
+        assert_eq!(why(capture(&[0, 0, 1, 0, 0], &pdu, bits, 0, &mut [0; 400])), Err(Refusal::Unfit));
     }
 }
 
@@ -349,7 +349,7 @@ fn archive(parts: &[Record]) -> Vec<u8> {
         let mut pdu = [0; 307];
         let bits = write(words, &mut pdu).unwrap();
         let mut next = vec![0; 65_536];
-        let length = capture(&held, &pdu[..bits.div_ceil(8)], bits, &mut next).unwrap();
+        let length = capture(&held, &pdu[..bits.div_ceil(8)], bits, 0, &mut next).unwrap();
         next.truncate(length);
         held = next;
     }

@@ -1,7 +1,9 @@
 //! Where a call stops (document 02, request 2026-03): the bit place in a PDU, the entry of an archive.
 
 use reference::layout::{RECORD_WORDS, REQUEST_WORDS};
-use reference::{capture, contents, decide, read, reload, reload_external, restore, Refusal, Refused};
+use reference::{
+    capture, contents, decide, read, reload, reload_external, restore, Refusal, Refused, Restored,
+};
 
 /// A PDU by its elements, each with its width and value.
 type Elements = Vec<(usize, u32)>;
@@ -257,15 +259,16 @@ fn entries() -> Vec<Entry> {
     entries
 }
 
-/// The archive of home network 1.
+/// The archive of home network 1, each entry under another day.
 fn archive(entries: &[Entry]) -> Vec<u8> {
     let mut bytes = vec![0, 0, 1];
     bytes.extend((entries.len() as u16).to_be_bytes());
-    for (network, ssi, part, bits, _) in entries {
+    for (day, (network, ssi, part, bits, _)) in (65_530_u16..=u16::MAX).cycle().zip(entries) {
         bytes.extend(&network.to_be_bytes()[1..]);
         bytes.extend(&ssi.to_be_bytes()[1..]);
         bytes.push(*part);
         bytes.extend((*bits as u16).to_be_bytes());
+        bytes.extend(day.to_be_bytes());
     }
     entries.iter().for_each(|entry| bytes.extend(&entry.4));
     bytes
@@ -278,7 +281,7 @@ fn breaks(archive: &[u8], entry: Option<usize>, place: Option<usize>) {
     request[..6].copy_from_slice(&[1, 5, 1, 1, 1, 100]);
     let out = &mut [0; 1000];
     // Capture does not get as far as its PDU, which is refused too.
-    assert_eq!(capture(archive, &[], 0, out), Err(expected));
+    assert_eq!(capture(archive, &[], 0, 0, out), Err(expected));
     assert_eq!(restore(archive, 1, 5, 1, out), Err(expected));
     assert_eq!(reload(archive, 1, 5, 1, 1, 0, 0, out), Err(expected));
     assert_eq!(reload_external(archive, 1, 5, 1, 0, 0, out), Err(expected));
@@ -309,7 +312,8 @@ fn a_fault_of_the_shape_has_no_entry() {
     breaks(&changed(0, |entry| entry.0 = 2), None, None);
     let identity_parts =
         |users| -> Vec<Entry> { (0..users).map(|ssi| entry(ssi, 1, with(profile_a(), 3, ssi))).collect() };
-    assert_eq!(restore(&archive(&identity_parts(512)), 1, 5, 1, &mut [0; 18]), Ok(141));
+    let held = restore(&archive(&identity_parts(512)), 1, 5, 1, &mut [0; 18]);
+    assert_eq!(held, Ok(Restored { bits: 141, day: 65_535 }));
     breaks(&archive(&identity_parts(513)), None, None);
 }
 
@@ -402,13 +406,15 @@ fn capture_hands_the_place_on() {
         (with(replacement(), 5, 0), Refusal::Value, 6),
     ] {
         let expected = refused(why, None, Some(place_of(&elements, index)));
-        assert_eq!(capture(&held, &bytes(&elements), length(&elements), out), Err(expected));
+        assert_eq!(capture(&held, &bytes(&elements), length(&elements), 0, out), Err(expected));
     }
     let pdu = bytes(&profile_a());
-    assert_eq!(capture(&held, &pdu, 1, out), Err(refused(Refusal::Frame, None, None)));
+    assert_eq!(capture(&held, &pdu, 1, 0, out), Err(refused(Refusal::Frame, None, None)));
     let legal = bytes(&interrogate());
-    assert_eq!(capture(&held, &legal, length(&interrogate()), out), Err(refused(Refusal::Unfit, None, None)));
-    assert_eq!(capture(&held, &pdu, 141, &mut out[..20]), Err(refused(Refusal::Room, None, None)));
+    let unfit = capture(&held, &legal, length(&interrogate()), 0, out);
+    assert_eq!(unfit, Err(refused(Refusal::Unfit, None, None)));
+    assert_eq!(capture(&held, &pdu, 141, 0, &mut out[..20]), Err(refused(Refusal::Room, None, None)));
+    assert_eq!(capture(&held, &pdu, 1, 65_536, out), Err(refused(Refusal::Range, None, None)));
     assert_eq!(restore(&held, 1, 7, 1, out), Err(refused(Refusal::NotHeld, None, None)));
     assert_eq!(reload(&held, 1, 7, 1, 1, 0, 0, out), Err(refused(Refusal::NotHeld, None, None)));
     assert_eq!(reload(&held, 1, 5, 2, 1, 0, 0, out), Err(refused(Refusal::Loss, None, None)));

@@ -1,13 +1,17 @@
 //! The profiles and examples of the scope (document 01), and the orders of its refusals.
 
 use reference::layout::{record, request, RECORD_WORDS, REQUEST_WORDS};
-use reference::{capture, contents, decide, empty, read, restore, write, Decision, Refusal, Refused};
+use reference::{
+    capture, contents, decide, empty, read, restore, write, Decision, Refusal, Refused, Restored,
+};
 
 /// Profile A as a PDU of 138 bits.
 const A: [u8; 18] = [
     0x49, 0x82, 0x00, 0x00, 0x0a, 0x21, 0x21, 0x20, 0x00, 0x0c, 0x80, 0x00, 0x0c, 0x70, 0x80, 0x00, 0x4b,
     0x00,
 ];
+/// The day that every PDU here is captured under.
+const DAY: u16 = 300;
 /// INTERROGATE for user 5, of 42 bits.
 const INTERROGATE: [u8; 6] = [0x49, 0x62, 0x00, 0x00, 0x0a, 0x40];
 
@@ -64,7 +68,7 @@ fn archive_with(words: &Record) -> Vec<u8> {
     let mut new = vec![0; 600];
     empty(1, &mut old).unwrap();
     let bits = write(words, &mut pdu).unwrap();
-    let length = capture(&old, &pdu[..bits.div_ceil(8)], bits, &mut new).unwrap();
+    let length = capture(&old, &pdu[..bits.div_ceil(8)], bits, DAY.into(), &mut new).unwrap();
     new.truncate(length);
     new
 }
@@ -220,13 +224,14 @@ fn ranges_and_lengths() {
 #[test]
 fn example_archive() {
     let archive = archive_with(&profile_a());
-    let head = [0, 0, 1, 0, 1, 0, 0, 1, 0, 0, 5, 1, 0, 0x8a];
+    let head = [0, 0, 1, 0, 1, 0, 0, 1, 0, 0, 5, 1, 0, 0x8a, 0x01, 0x2c];
     assert_eq!(archive, [&head[..], &A].concat());
+    assert_eq!(archive.len(), 34);
     let mut out = [0; 64];
     let length = contents(&archive, &mut out).unwrap();
-    assert_eq!(&out[..length], b"home 1 entries 1\n1 5 part 1 bits 138\n");
-    assert_eq!(why(contents(&archive, &mut [0; 36])), Err(Refusal::Room));
-    assert_eq!(restore(&archive, 1, 5, 1, &mut out), Ok(138));
+    assert_eq!(&out[..length], b"home 1 entries 1\n1 5 part 1 bits 138 day 300\n");
+    assert_eq!(why(contents(&archive, &mut [0; 44])), Err(Refusal::Room));
+    assert_eq!(restore(&archive, 1, 5, 1, &mut out), Ok(Restored { bits: 138, day: DAY }));
     assert_eq!(out[..18], A);
 }
 
@@ -238,10 +243,10 @@ fn the_home_network_spelt_out_is_the_same_user() {
     let mut pdu = [0; 512];
     let bits = write(&words, &mut pdu).unwrap();
     let mut new = [0; 100];
-    let length = capture(&archive, &pdu[..bits.div_ceil(8)], bits, &mut new).unwrap();
-    assert_eq!(length, 5 + 9 + bits.div_ceil(8));
+    let length = capture(&archive, &pdu[..bits.div_ceil(8)], bits, DAY.into(), &mut new).unwrap();
+    assert_eq!(length, 5 + 11 + bits.div_ceil(8));
     let mut out = [0; 64];
-    assert_eq!(restore(&new[..length], 1, 5, 1, &mut out), Ok(162));
+    assert_eq!(restore(&new[..length], 1, 5, 1, &mut out), Ok(Restored { bits: 162, day: DAY }));
 }
 
 #[test]
@@ -269,11 +274,12 @@ fn orders_of_refusals() {
     assert_eq!(write(&profile(1, &[], (9, &[200, 1 << 24]), &[]), &mut out), Err(Refusal::Value));
 
     let mut archive = archive_with(&profile_a());
-    assert_eq!(why(capture(&archive, &INTERROGATE, 42, &mut out[..0])), Err(Refusal::Unfit));
+    assert_eq!(why(capture(&archive, &INTERROGATE, 42, 0, &mut out[..0])), Err(Refusal::Unfit));
     assert_eq!(why(restore(&archive, 1, 6, 1, &mut out[..0])), Err(Refusal::NotHeld));
     assert_eq!(why(restore(&archive, 1, 5, 1, &mut out[..17])), Err(Refusal::Room));
     archive.push(0);
-    assert_eq!(why(capture(&archive, &A, 137, &mut out)), Err(Refusal::Archive));
+    assert_eq!(why(capture(&archive, &A, 137, 65_536, &mut out)), Err(Refusal::Range));
+    assert_eq!(why(capture(&archive, &A, 137, 65_535, &mut out)), Err(Refusal::Archive));
     assert_eq!(why(restore(&archive, 1, 6, 1, &mut out)), Err(Refusal::Archive));
     assert_eq!(why(restore(&archive, 1, 5, 3, &mut out)), Err(Refusal::Range));
     assert_eq!(why(decide(&archive, &call(1, [1, 100], None))), Err(Refusal::Archive));

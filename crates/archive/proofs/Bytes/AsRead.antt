@@ -50,8 +50,10 @@ entry-read b at y h =
     let n₁ = bytes3-number {x = getD b at 0} (y (at + 1)) (y (at + 2)) in
     let n₂ = bytes3-number {x = getD b (at + 3) 0} (y (at + 3 + 1)) (y (at + 3 + 2)) in
     let n₃ = bytes2-number {x = getD b (at + 7) 0} (y (at + 7 + 1)) in
+    let n₄ = bytes2-number {x = getD b (at + 9) 0} (y (at + 9 + 1)) in
     let r : entryBytes (entryAt b at) ≡ bytesFrom b at 0 entryWidth =
-    (λ i. n₁ i ++ (n₂ i ++ (getD b (at + 6) 0 ∷ n₃ i))) ∙ rw (z, add-assoc at 3 1, add-assoc at 3 2, add-assoc at 7 1)
+    (λ i. n₁ i ++ (n₂ i ++ (getD b (at + 6) 0 ∷ (n₃ i ++ n₄ i))))
+    ∙ rw (z, add-assoc at 3 1, add-assoc at 3 2, add-assoc at 7 1, add-assoc at 9 1)
     in
     r ∙ bytes-from b at entryWidth 0 (omega arith) ∙ ap (λ (j : ℕ). take entryWidth (drop j b)) z
 

@@ -41,10 +41,12 @@ held-back b h at off p q p′ q′ f e l e′ l′ =
     let s : number3 b (at + 3) ≡ x .key .ssi = omega (arith, g 3, s₁, s₂, f .entry .key .ssi) in
     let t₁ : getD b (at + 7 + 1) 0 ≡ getD (entryBytes x ++ q) 8 0 = ap (λ (j : ℕ). getD b j 0) (add-assoc at 7 1) ∙ g 8 in
     let t : number2 b (at + 7) ≡ x .bits .0 = omega (arith, g 7, t₁, f .entry .bits) in
+    let u₁ : getD b (at + 9 + 1) 0 ≡ getD (entryBytes x ++ q) 10 0 = ap (λ (j : ℕ). getD b j 0) (add-assoc at 9 1) ∙ g 10 in
+    let u : number2 b (at + 9) ≡ x .day = omega (arith, g 9, u₁, f .entry .day) in
     let d : take (sizeAt b at) (drop off b) ≡ h .body =
     ap (λ (j : ℕ). take ((j + 7) / 8) (drop off b)) t ∙ part-of b p′ (h .body) q′ off (bodySize h) e′ l′ (f .full)
     in
-    λ i. record { entry = record { key = record { network = n i; ssi = s i; part = g 6 i }; bits = record { 0 = t i } }; body = d i }
+    λ i. record { entry = record { key = record { network = n i; ssi = s i; part = g 6 i }; bits = record { 0 = t i }; day = u i }; body = d i }
 
 length-entry : (e : Entry) → length (entryBytes e) ≡ entryWidth
 unfolding entryBytes

@@ -12,7 +12,7 @@ use Rattle.bits.specs.Bits.{guard, Bytes}
 use Rattle.bits.specs.Frame.{bytesFor}
 use Rattle.walk.specs.declared.BitPlace.{BitPlace}
 use Rattle.bits.proofs.Tests.{differ, false-unless, and-false, both, both⁻¹}
-use Rattle.archive.specs.Model.{Held, rankOf, rank, inRange, headerWidth, entryWidth, sizes, lengthOf, withinLimits}
+use Rattle.archive.specs.Model.{Held, rankOf, rank, inRange, isDay, headerWidth, entryWidth, sizes, lengthOf, withinLimits}
 use Rattle.archive.specs.Filing.{bodyAgrees, keepsRules, wellFormed}
 use Rattle.archive.specs.Reading.{number3, countOf, entryAt, sizeAt, heldAt, heldFrom, bodiesAt, heldIn, reading, isArchive}
 use Rattle.archive.specs.Refusals.{plain}
@@ -42,19 +42,19 @@ module _ (b : List ℕ) (last n at off : ℕ) (h : 0 < n) where
       may : restShape b last n at off ≡ true → mayFollow (entryAt b at) last (length b - off) ≡ true
       may t =
           let k = both (inOrder last (here ∷ rest)) (eqb (off + (sizeAt b at + sizes rest)) (length b)) (rw (heldFrom-next b n at off h) at t) in
-          let p = both (ltb last (rank here)) (inRange (here .entry .key) && inOrder (rank here) rest) (k .0) in
+          let p = both (ltb last (rank here)) (inRange (here .entry .key) && (isDay (here .entry .day) && inOrder (rank here) rest)) (k .0) in
           let whole = eqb-true (off + (sizeAt b at + sizes rest)) (length b) (k .1) in
           both⁻¹ (p .0) (le-leb (sizeAt b at) (length b - off) (omega (arith, whole)))
 
-  -- behind one that may, its key's range and what is left decide
-  pub follows : mayFollow (entryAt b at) last (length b - off) ≡ true
+  -- behind one that may, and whose day is in two bytes, its key's range and what is left decide
+  pub follows : entryAt b at .day < 65536 → mayFollow (entryAt b at) last (length b - off) ≡ true
       → restShape b last n at off
       ≡ inRange (here .entry .key) && restShape b (rank here) (n - 1) (at + entryWidth) (off + sizeAt b at)
   unfolding mayFollow restShape inOrder
-  follows t =
+  follows d t =
       let p = both (ltb last (rank here)) (leb (sizeAt b at) (length b - off)) t in
       let e : off + (sizeAt b at + sizes rest) ≡ off + sizeAt b at + sizes rest = omega arith in
-      rw (heldFrom-next b n at off h, p .0)
+      rw (heldFrom-next b n at off h, p .0, lt-ltb _ _ d)
       (ap (λ (k : ℕ). (inRange (here .entry .key) && inOrder (rank here) rest) && eqb k (length b)) e
       ∙ sym (and-assoc (inRange (here .entry .key)) (inOrder (rank here) rest) (eqb (off + sizeAt b at + sizes rest) (length b))))
 
@@ -86,16 +86,16 @@ module _ (b : List ℕ) (home i last n at off : ℕ) where
       go zero k = refl
       go (suc m) k = absurd (not-suc-le-zero k)
 
-  module _ (h : 0 < n) (m : mayFollow (entryAt b at) last (length b - off) ≡ true) where
+  module _ (h : 0 < n) (d : entryAt b at .day < 65536) (m : mayFollow (entryAt b at) last (length b - off) ≡ true) where
     pub rest-bad : {p : BitPlace} → bodyAgrees home (heldAt b at off) ≡ false → bodyPlace (heldAt b at off) ≡ p
         → restIs b home i last n at off ≡ faultIs b (entryAt b at .key) (n - 1) (at + entryWidth) (off + sizeAt b at) i p
     unfolding restIs bodiesFrom faultIs
-    rest-bad e f = rw (follows b last n at off h m, heldFrom-next b n at off h, e, f)
+    rest-bad e f = rw (follows b last n at off h d m, heldFrom-next b n at off h, e, f)
 
     pub rest-next : home < 16777216 → bodyAgrees home (heldAt b at off) ≡ true
         → restIs b home i last n at off ≡ restIs b home (suc i) (rank (heldAt b at off)) (n - 1) (at + entryWidth) (off + sizeAt b at)
     unfolding restIs bodiesFrom
-    rest-next k e = rw (follows b last n at off h m, agrees-ranged home (heldAt b at off) k e, heldFrom-next b n at off h, e)
+    rest-next k e = rw (follows b last n at off h d m, agrees-ranged home (heldAt b at off) k e, heldFrom-next b n at off h, e)
 
 -- ---- the whole
 

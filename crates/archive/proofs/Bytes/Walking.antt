@@ -10,8 +10,8 @@ use borrow.Author.Tests.{lt-ltb, le-ltb, le-leb, eq-eqb, ne-eqb}
 use Rattle.bits.specs.Bits.{Bytes}
 use Rattle.bits.proofs.Tests.{by-test}
 use Rattle.archive.specs.Model.{rank, headerWidth, entryWidth, sizes}
-use Rattle.archive.specs.Reading.{number2, number3, homeOf, sizeAt, heldAt, heldFrom}
-use Rattle.archive.specs.Inner.{placeOf, seek}
+use Rattle.archive.specs.Reading.{number3, homeOf, entryAt, sizeAt, heldAt, heldFrom}
+use Rattle.archive.specs.Inner.{placeOf, gapAt, seek}
 
 pub number3-small : (b : List ℕ) (at : ℕ) → Bytes b → number3 b at < 16777216
 number3-small b at y = omega (arith, y at, y (at + 1), y (at + 2))
@@ -52,11 +52,11 @@ module _ (b : List ℕ) (key n at off : ℕ) (h : 0 < n) where
   unfolding seek
   seek-past p = rw (heldFrom-next b n at off h, lt-ltb _ _ p)
 
-  pub seek-held : rank (heldAt b at off) ≡ key → seek key at off (heldFrom b n at off) ≡ placeOf at off 1 (number2 b (at + 7))
+  pub seek-held : rank (heldAt b at off) ≡ key → seek key at off (heldFrom b n at off) ≡ placeOf at off (entryAt b at)
   unfolding seek
   seek-held p = rw (heldFrom-next b n at off h, le-ltb (rank (heldAt b at off)) key (omega arith), eq-eqb _ _ p)
 
-  pub seek-gap : key < rank (heldAt b at off) → seek key at off (heldFrom b n at off) ≡ placeOf at off 0 0
+  pub seek-gap : key < rank (heldAt b at off) → seek key at off (heldFrom b n at off) ≡ gapAt at off
   unfolding seek
   seek-gap p = rw (
     heldFrom-next b n at off h,
@@ -65,7 +65,7 @@ module _ (b : List ℕ) (key n at off : ℕ) (h : 0 < n) where
         (λ q. omega arith),
   )
 
-pub seek-none : (b : List ℕ) (key n at off : ℕ) → n ≤ 0 → seek key at off (heldFrom b n at off) ≡ placeOf at off 0 0
+pub seek-none : (b : List ℕ) (key n at off : ℕ) → n ≤ 0 → seek key at off (heldFrom b n at off) ≡ gapAt at off
 unfolding seek heldFrom
 seek-none b key zero at off h = refl
 seek-none b key (suc n) at off h = absurd (not-suc-le-zero h)

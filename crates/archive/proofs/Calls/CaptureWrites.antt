@@ -2,18 +2,18 @@
 use mathlib.Core.Path.{_≡_, refl, sym, ap, _∙_}
 use mathlib.Core.Bool.{true, _&&_}
 use mathlib.Core.List.{List}
-use Prim.Native.Nat.{ℕ, _≤_}
+use Prim.Native.Nat.{ℕ, _≤_, _<_}
 use native.Mathlib.Omega.{arith}
 use lib.ListN.{length, take, drop}
 use lib.Seq.{take-at}
 use lib.Dec.{leb}
-use borrow.Author.Tests.{leb-true}
+use borrow.Author.Tests.{leb-true, ltb-true}
 use Rattle.bits.proofs.Tests.{never, both, picked}
 use Rattle.reader.specs.Read.{readIs}
 use Rattle.reader.specs.declared.Answer.{Answer}
 use Rattle.reader.specs.declared.Answer.the-variants as reader
 use Rattle.judging.specs.Judge.{mayHold}
-use Rattle.archive.specs.Model.{Archive, bytesOf, lengthOf, withinLimits}
+use Rattle.archive.specs.Model.{Archive, isDay, bytesOf, lengthOf, withinLimits}
 use Rattle.archive.specs.Filing.{wellFormed}
 use Rattle.archive.specs.Reading.{reading, isArchive}
 use Rattle.archive.specs.Checking.{checkIs, ifArchive}
@@ -30,13 +30,14 @@ use Rattle.archive.proofs.Model.Put.{rules-put}
 use Rattle.archive.proofs.Calls.Capture.{offered-agrees, capture-leaves}
 
 -- what an accepted capture says
-pub record Taken (b s : List ℕ) (n room m : ℕ) : Type 0 where
+pub record Taken (b s : List ℕ) (n day room m : ℕ) : Type 0 where
+  pub dated : day < 65536
   pub archive : isArchive b ≡ true
   pub accepted : readIs s n .answer ≡ reader.Accepted
   pub may : mayHold (readIs s n .found) ≡ true
-  pub limits : withinLimits (length (captured b s n .held)) (lengthOf (captured b s n)) ≡ true
-  pub fits : lengthOf (captured b s n) ≤ room
-  pub size : m ≡ lengthOf (captured b s n)
+  pub limits : withinLimits (length (captured b s n day .held)) (lengthOf (captured b s n day)) ≡ true
+  pub fits : lengthOf (captured b s n day) ≤ room
+  pub size : m ≡ lengthOf (captured b s n day)
 
 was-placed : (a : Archive) (room m : ℕ) → placed a room ≡ Bytes m
     → (withinLimits (length (a .held)) (lengthOf a) ≡ true) × (lengthOf a ≤ room) × (m ≡ lengthOf a)
@@ -55,44 +56,53 @@ if-archive : (c : Checked) {r : Stored} {m : ℕ} → ifArchive c Refused r ≡ 
 if-archive checked.Archive e = (refl, e)
 if-archive (checked.Refused f) e = never cc
 
-pub taken : (b s : List ℕ) (n room m : ℕ) → captureIs b s n room ≡ Bytes m → Taken b s n room m
+pub taken : (b s : List ℕ) (n day room m : ℕ) → captureIs b s n day room ≡ Bytes m → Taken b s n day room m
 unfolding captureIs
-taken b s n room m e =
-    let p = if-archive (checkIs b) e in
+taken b s n day room m e =
+    let d = picked (isDay day) e (λ x. never cc) in
+    let p = if-archive (checkIs b) (d .1) in
     let a = if-accepted (readIs s n .answer) (p .1) in
     let q = picked (mayHold (readIs s n .found)) (a .1) (λ x. never cc) in
-    let r = was-placed (captured b s n) room m (q .1) in
-    record { archive = checked-archive b (p .0); accepted = a .0; may = q .0; limits = r .0; fits = r .1; size = r .2 }
+    let r = was-placed (captured b s n day) room m (q .1) in
+    record {
+      dated = ltb-true day 65536 (d .0);
+      archive = checked-archive b (p .0);
+      accepted = a .0;
+      may = q .0;
+      limits = r .0;
+      fits = r .1;
+      size = r .2;
+    }
 
-module _ (b s : List ℕ) (n room m : ℕ) (t : Taken b s n room m) where
-  pub captured-formed : wellFormed (captured b s n) ≡ true
+module _ (b s : List ℕ) (n day room m : ℕ) (t : Taken b s n day room m) where
+  pub captured-formed : wellFormed (captured b s n day) ≡ true
   unfolding captured
   captured-formed =
       let home = reading b .home in
-      let h = heldFor home s n in
+      let h = heldFor home s n day in
       let f = archive-formed b (t .archive) in
-      let a = agrees-is home h (offered-agrees home s n (t .accepted) (t .may)) in
-      let l = both (leb (length (captured b s n .held)) 512) (leb (lengthOf (captured b s n)) 65536) (t .limits) in
+      let a = agrees-is home h (offered-agrees home s n day (t .accepted) (t .may)) in
+      let l = both (leb (length (captured b s n day .held)) 512) (leb (lengthOf (captured b s n day)) 65536) (t .limits) in
       let part = part-is (readIs s n .found) (t .may) in
-      is-formed (captured b s n)
+      is-formed (captured b s n day)
       (record {
         home = f .home;
         few = leb-true _ _ (l .0);
         small = leb-true _ _ (l .1);
-        rules = rules-put home 0 h (reading b .held) a (omega (arith, part .0)) (f .rules);
+        rules = rules-put home 0 h (reading b .held) (t .dated) a (omega (arith, part .0)) (f .rules);
       })
 
-  pub captured-archive : isArchive (bytesOf (captured b s n)) ≡ true
-  captured-archive = passes (captured b s n) captured-formed
+  pub captured-archive : isArchive (bytesOf (captured b s n day)) ≡ true
+  captured-archive = passes (captured b s n day) captured-formed
 
-  pub captured-reads : reading (bytesOf (captured b s n)) ≡ captured b s n
-  captured-reads = read-as-written (captured b s n) captured-formed
+  pub captured-reads : reading (bytesOf (captured b s n day)) ≡ captured b s n day
+  captured-reads = read-as-written (captured b s n day) captured-formed
 
 -- the written part of the lent buffer is the archive with the PDU
-pub written : (b s : List ℕ) (n m : ℕ) (out : List ℕ) → captureIs b s n (length out) ≡ Bytes m
-    → take m (captureOut b s n out) ≡ bytesOf (captured b s n)
-written b s n m out e =
-    let t = taken b s n (length out) m e in
-    let w = bytesOf (captured b s n) in
-    ap (take m) (capture-leaves b s n out e)
-    ∙ take-at w (drop (length w) out) m (length-written (captured b s n) (captured-formed b s n (length out) m t) ∙ sym (t .size))
+pub written : (b s : List ℕ) (n day m : ℕ) (out : List ℕ) → captureIs b s n day (length out) ≡ Bytes m
+    → take m (captureOut b s n day out) ≡ bytesOf (captured b s n day)
+written b s n day m out e =
+    let t = taken b s n day (length out) m e in
+    let w = bytesOf (captured b s n day) in
+    ap (take m) (capture-leaves b s n day out e)
+    ∙ take-at w (drop (length w) out) m (length-written (captured b s n day) (captured-formed b s n day (length out) m t) ∙ sym (t .size))

@@ -34,7 +34,7 @@ use Rattle.archive.proofs.Bytes.Spliced.{placeIn}
 
 -- what a place says of its key
 abbrev pub fetchedOf : Place → Fetched
-fetchedOf p = pick (eqb (p .entries) 0) NotHeld (Body (p .off) (p .bits))
+fetchedOf p = pick (eqb (p .entries) 0) NotHeld (Body (p .off) (p .bits) (p .day))
 
 none-above : (home last : ℕ) (key : Key) (off : ℕ) (hs : List Held) → keepsRules home last hs ≡ true → rankOf key ≤ last
     → bodyFrom key off hs ≡ NotHeld
@@ -67,15 +67,16 @@ seek-body home last key at off (x ∷ xs) k = go (ltb (rank x) (rankOf key)) ref
 
 -- ---- the body that is found is that of the PDU held
 
-pub record BodyIs (b : List ℕ) (off : ℕ) (n : BitCount) (o : Option Held) : Type 0 where
+pub record BodyIs (b : List ℕ) (off : ℕ) (n : BitCount) (day : ℕ) (o : Option Held) : Type 0 where
   pub held : Held
   pub is : o ≡ some held
   pub bits : held .entry .bits ≡ n
+  pub day-is : held .entry .day ≡ day
   pub body : held .body ≡ take (bytesFor (n .0)) (drop off b)
   pub inside : off + bytesFor (n .0) ≤ length b
 
 abbrev pub Right : List ℕ → Fetched → Option Held → Type 0
-Right b (Body off n) o = BodyIs b off n o
+Right b (Body off n day) o = BodyIs b off n day o
 Right b NotHeld o = o ≡ none
 Right b (Refused f) o = ⊥
 
@@ -90,7 +91,7 @@ right-from b key (suc n) at off h =
         → Right b (bodyFrom key (off + sizeAt b at) (heldFrom b n (at + entryWidth) (off + sizeAt b at)))
         (lookup key (heldFrom b n (at + entryWidth) (off + sizeAt b at)))
         → Right b (bodyFrom key off (heldFrom b (suc n) at off)) (lookup key (heldFrom b (suc n) at off))
-    go true e r = rw e (record { held = heldAt b at off; is = refl; bits = refl; body = refl; inside = omega arith })
+    go true e r = rw e (record { held = heldAt b at off; is = refl; bits = refl; day-is = refl; body = refl; inside = omega arith })
     go false e r = rw e r
 
 -- ---- fetch
@@ -135,5 +136,6 @@ module _ (b : List ℕ) (k : Key) where
     pub fetch-missing : fetchIs b k ≡ NotHeld → (isArchive b ≡ true) × (lookup k (reading b .held) ≡ none)
     fetch-missing t = found-as t (λ g (x : NotHeld ≡ Refused g). never cc)
 
-    pub fetch-found : {off : ℕ} {n : BitCount} → fetchIs b k ≡ Body off n → (isArchive b ≡ true) × BodyIs b off n (lookup k (reading b .held))
-    fetch-found {off} {n} t = found-as t (λ g (x : Body off n ≡ Refused g). never cc)
+    pub fetch-found : {off : ℕ} {n : BitCount} {day : ℕ} → fetchIs b k ≡ Body off n day
+        → (isArchive b ≡ true) × BodyIs b off n day (lookup k (reading b .held))
+    fetch-found {off} {n} {day} t = found-as t (λ g (x : Body off n day ≡ Refused g). never cc)

@@ -2,7 +2,7 @@
 use mathlib.Core.Path.{_≡_, refl, sym, ap, _∙_}
 use mathlib.Core.Bool.{Bool, true, false, not, _&&_, _||_}
 use mathlib.Core.List.{List, [], _∷_}
-use Prim.Native.Nat.{ℕ, suc, _≤_}
+use Prim.Native.Nat.{ℕ, suc, _≤_, _<_}
 use native.Mathlib.Omega.{arith}
 use lib.ListN.{length}
 use lib.Dec.{ltb, leb, eqb}
@@ -67,19 +67,19 @@ either false true r x y = refl
 either false false true x y = refl
 either false false false x y = refl
 
-pub eight : (b s : List ℕ) (n room : ℕ) → isArchive b ≡ true → readIs s n .answer ≡ reader.Accepted → mayHold (readIs s n .found) ≡ true
-    → captureIs b s n room
-    ≡ pick (fullFor b (heldFor (reading b .home) s n) || (ltb 65536 (lengthOf (captured b s n)) || ltb room (lengthOf (captured b s n)))) (Refused (plain 8))
-    (Bytes (lengthOf (captured b s n)))
+pub eight : (b s : List ℕ) (n day room : ℕ) → day < 65536 → isArchive b ≡ true → readIs s n .answer ≡ reader.Accepted
+    → mayHold (readIs s n .found) ≡ true → let size = lengthOf (captured b s n day) in
+    captureIs b s n day room
+    ≡ pick (fullFor b (heldFor (reading b .home) s n day) || (ltb 65536 size || ltb room size)) (Refused (plain 8)) (Bytes size)
 unfolding placed captured
-eight b s n room ok a m =
-    let h = heldFor (reading b .home) s n in
+eight b s n day room dated ok a m =
+    let h = heldFor (reading b .home) s n day in
     let f = archive-formed b ok in
-    let size = lengthOf (captured b s n) in
+    let size = lengthOf (captured b s n day) in
     let c : leb (length (put h (reading b .held))) 512 ≡ not (fullFor b h) =
     ap (λ (k : ℕ). leb k 512) (length-put (reading b .home) 0 h (reading b .held) (f .rules))
     ∙ one-too-many (length (reading b .held)) (isNone (lookup (h .entry .key) (reading b .held))) (f .few)
     in
-    as-placed b s n room ok a m
+    as-placed b s n day room dated ok a m
     ∙ (λ i. pick ((c i && over-not size 65536 i) && over-not size room i) (Bytes size) (Refused (plain 8)))
     ∙ either (fullFor b h) (ltb 65536 size) (ltb room size) (Bytes size) (Refused (plain 8))

@@ -54,13 +54,14 @@ module _ (b : List ℕ) (k : Key) where
         let r = fetch-missing b k e t in
         as-delivered room e (r .0) ∙ ap (λ (o : Option Held). delivered o room) (r .1)
 
-    pub found-body : {off : ℕ} {n : BitCount} (room : ℕ) → fetchIs b k ≡ fetched.Body off n
-        → (restoreIs b k room ≡ pick (leb (bytesFor (n .0)) room) (Bits n) (Refused (plain 8))) × (bodyOf heldFor ≡ take (bytesFor (n .0)) (drop off b))
+    pub found-body : {off : ℕ} {n : BitCount} {day : ℕ} (room : ℕ) → fetchIs b k ≡ fetched.Body off n day
+        → (restoreIs b k room ≡ pick (leb (bytesFor (n .0)) room) (Bits n day) (Refused (plain 8)))
+        × (bodyOf heldFor ≡ take (bytesFor (n .0)) (drop off b))
     found-body room t =
         let r = fetch-found b k e t in
         let x = r .1 in (
           as-delivered room e (r .0)
               ∙ ap (λ (o : Option Held). delivered o room) (x .is)
-              ∙ ap (λ (m : BitCount). pick (leb (bytesFor (m .0)) room) (Bits m) (Refused (plain 8))) (x .bits),
+              ∙ (λ i. pick (leb (bytesFor (x .bits i .0)) room) (Bits (x .bits i) (x .day-is i)) (Refused (plain 8))),
           ap bodyOf (x .is) ∙ x .body,
         )

@@ -24,19 +24,18 @@ use Rattle.pdu.proofs.Accepted.{accepted-framed, accepted-small}
 use Rattle.judging.specs.Judge.{holdable, mayHold, judgedIs}
 use Rattle.judging.specs.declared.Judged.the-variants.{Part, Other}
 use Rattle.archive.specs.Model.{Held, bodySize}
-use Rattle.archive.specs.Filing.{entryFor, filingOf, agrees, bodyAgrees}
-use Rattle.archive.specs.Inner.{EntryFits, filingUnder}
+use Rattle.archive.specs.Filing.{filedKey, filingOf, agrees, bodyAgrees}
+use Rattle.archive.specs.Inner.{KeyFits, EntryFits, filingUnder}
 use Rattle.archive.specs.declared.contents.Key.{Key}
-use Rattle.archive.specs.declared.contents.Entry.{Entry}
 use Rattle.archive.specs.declared.filing.Filing.{Filing}
 use Rattle.archive.specs.declared.filing.Filing.the-variants.{Under, Nowhere}
-use Rattle.archive.proofs.Model.Keys.{named, is-named}
+use Rattle.archive.proofs.Model.Keys.{same-key, is-same-key}
 
 -- ---- a body and its entry
 
 -- what judging a head says decides its filing
-module _ (home : ℕ) (x : Head) (n : ℕ) where
-  pub filing-other : judgedIs x ≡ Other → filingUnder home x n ≡ Nowhere
+module _ (home : ℕ) (x : Head) where
+  pub filing-other : judgedIs x ≡ Other → filingUnder home x ≡ Nowhere
   unfolding filingUnder judgedIs
   filing-other = go (holdable x) _
     where
@@ -45,7 +44,7 @@ module _ (home : ℕ) (x : Head) (n : ℕ) where
       go false f e = refl
 
   pub filing-part : {user : Identity} {part network : ℕ} → judgedIs x ≡ Part user part → network ≡ networkOf home user
-      → filingUnder home x n ≡ Under (record { key = record { network = network; ssi = user .ssi; part = part }; bits = record { 0 = n } })
+      → filingUnder home x ≡ Under (record { network = network; ssi = user .ssi; part = part })
   unfolding filingUnder judgedIs
   filing-part {user} {part} e f =
       let k = picked (holdable x) e (λ y. never cc) in
@@ -58,11 +57,11 @@ module _ (s : List ℕ) (n : ℕ) {x : Head} (w : walkIs s n ≡ walked.Accepted
   pub walk-accepted : readIs s n .answer ≡ Accepted
   walk-accepted = same-answer s n ∙ ap answerOf w
 
-  pub filed-by-head : (home : ℕ) → filingUnder home x n ≡ filingOf home (readIs s n .found) n
+  pub filed-by-head : (home : ℕ) → filingUnder home x ≡ filingOf home (readIs s n .found)
   unfolding filingUnder filingOf
-  filed-by-head home = ap (λ (y : Head). filingUnder home y n) (same-head s n w)
+  filed-by-head home = ap (filingUnder home) (same-head s n w)
 
--- a body agrees with its entry if the walk accepts it and that is the entry it is filed under
+-- a body agrees with its entry if the walk accepts it and that has the key it is filed under
 module _ (home : ℕ) (h : Held) where
   pub body-refused : {f : Refusal} → walkIs (h .body) (h .entry .bits .0) ≡ walked.Refused f → bodyAgrees home h ≡ false
   unfolding bodyAgrees
@@ -71,43 +70,38 @@ module _ (home : ℕ) (h : Held) where
       rw e
 
   pub body-filed : {x : Head} → walkIs (h .body) (h .entry .bits .0) ≡ walked.Accepted x
-      → bodyAgrees home h ≡ agrees (filingUnder home x (h .entry .bits .0)) (h .entry .key)
+      → bodyAgrees home h ≡ agrees (filingUnder home x) (h .entry .key)
   unfolding bodyAgrees
   body-filed w = rw (walk-accepted (h .body) (h .entry .bits .0) w, filed-by-head (h .body) (h .entry .bits .0) w home)
 
--- the body is a legal PDU that may be held, and its entry is the one that it is filed under
+-- the body is a legal PDU that may be held, and its entry has the key that it is filed under
 pub record Agrees (home : ℕ) (h : Held) : Type 0 where
   pub accepted : readIs (h .body) (h .entry .bits .0) .answer ≡ Accepted
   pub may : mayHold (readIs (h .body) (h .entry .bits .0) .found) ≡ true
-  pub entry : h .entry ≡ entryFor home (readIs (h .body) (h .entry .bits .0) .found) (h .entry .bits .0)
+  pub key : h .entry .key ≡ filedKey home (readIs (h .body) (h .entry .bits .0) .found)
 
 pub was-accepted : (a : Answer) → isAccepted a ≡ true → a ≡ Accepted
 was-accepted Accepted e = refl
 was-accepted (Refused k) e = differ (sym e)
 
-agreed : (home : ℕ) (r : Record) (n : ℕ) (k : Key) (p : Bool) → mayHold r ≡ p
-    → agrees (pick p (Under (entryFor home r n)) Nowhere) k ≡ true → (mayHold r ≡ true) × (k ≡ entryFor home r n .key)
-agreed home r n k false m a = differ (sym a)
-agreed home r n k true m a = (m, sym (named (entryFor home r n) k a))
+agreed : (home : ℕ) (r : Record) (k : Key) (p : Bool) → mayHold r ≡ p
+    → agrees (pick p (Under (filedKey home r)) Nowhere) k ≡ true → (mayHold r ≡ true) × (k ≡ filedKey home r)
+agreed home r k false m a = differ (sym a)
+agreed home r k true m a = (m, sym (same-key (filedKey home r) k a))
 
 pub agrees-says : (home : ℕ) (h : Held) → bodyAgrees home h ≡ true → Agrees home h
 unfolding bodyAgrees filingOf
 agrees-says home h e =
     let n = h .entry .bits .0 in
     let r = readIs (h .body) n .found in
-    let p = both (isAccepted (readIs (h .body) n .answer)) (agrees (filingOf home r n) (h .entry .key)) e in
-    let q = agreed home r n (h .entry .key) (mayHold r) refl (p .1) in
-    record {
-      accepted = was-accepted (readIs (h .body) n .answer) (p .0);
-      may = q .0;
-      entry = λ i. record { key = q .1 i; bits = h .entry .bits };
-    }
+    let p = both (isAccepted (readIs (h .body) n .answer)) (agrees (filingOf home r) (h .entry .key)) e in
+    let q = agreed home r (h .entry .key) (mayHold r) refl (p .1) in
+    record { accepted = was-accepted (readIs (h .body) n .answer) (p .0); may = q .0; key = q .1 }
 
 pub agrees-is : (home : ℕ) (h : Held) → Agrees home h → bodyAgrees home h ≡ true
 unfolding bodyAgrees filingOf
 agrees-is home h a =
-    let n = h .entry .bits .0 in
-    rw (a .accepted, a .may) (is-named (entryFor home (readIs (h .body) n .found) n) (h .entry .key) (sym (ap (λ (y : Entry). y .key) (a .entry))))
+    rw (a .accepted, a .may) (is-same-key (filedKey home (readIs (h .body) (h .entry .bits .0) .found)) (h .entry .key) (sym (a .key)))
 
 -- ---- numbers fit their bytes
 
@@ -127,15 +121,15 @@ network-small : (home : ℕ) (u : Identity) → home < 16777216 → u .extension
 unfolding networkOf
 network-small home u h k = by-test (λ (x : ℕ). x < 16777216) (eqb (u .present) 1) k h
 
-pub fits : (home : ℕ) (h : Held) → home < 16777216 → Agrees home h → Fits h
-fits home h k a =
-    let n = h .entry .bits .0 in
-    let r = readIs (h .body) n .found in
-    let f = accepted-framed (h .body) n (a .accepted) in
-    let s = accepted-small (h .body) n (a .accepted) in
-    let p = part-is r (a .may) in
-    let e : EntryFits (entryFor home r n) = record {
-      key = record { network = network-small home _ k (s .1); ssi = s .0; part = omega (arith, p .1) };
-      bits = omega (arith, f .short);
-    } in
-    record { entry = subst EntryFits (sym (a .entry)) e; full = f .count }
+module _ (home : ℕ) (h : Held) (k : home < 16777216) (a : Agrees home h) where
+  pub key-fits : KeyFits (h .entry .key)
+  key-fits =
+      let n = h .entry .bits .0 in
+      let s = accepted-small (h .body) n (a .accepted) in
+      let p = part-is (readIs (h .body) n .found) (a .may) in
+      subst KeyFits (sym (a .key)) (record { network = network-small home _ k (s .1); ssi = s .0; part = omega (arith, p .1) })
+
+  pub fits : h .entry .day < 65536 → Fits h
+  fits day =
+      let f = accepted-framed (h .body) (h .entry .bits .0) (a .accepted) in
+      record { entry = record { key = key-fits; bits = omega (arith, f .short); day = day }; full = f .count }

@@ -18,17 +18,17 @@ use Rattle.walk.specs.declared.Walked.the-variants as walked
 use Rattle.reader.specs.Read.{refusalOf, readIs}
 use Rattle.reader.specs.declared.Answer.{Answer}
 use Rattle.reader.proofs.Walked.{answerOf, same-answer}
-use Rattle.archive.specs.Model.{Held, rank, inRange, lengthOf, withinLimits}
+use Rattle.archive.specs.Model.{Held, rank, inRange, isDay, lengthOf, withinLimits}
 use Rattle.archive.specs.Filing.{agrees, bodyAgrees, keepsRules, wellFormed}
 use Rattle.archive.specs.Reading.{reading, isArchive}
 use Rattle.archive.specs.Refusals.{plain, ofBody}
 use Rattle.archive.specs.Checking.{inOrder, hasShape, bodyPlace, bodiesFrom, checkIs}
 use Rattle.archive.specs.Inner.{filingUnder, agreementIs}
-use Rattle.archive.specs.declared.contents.Entry.{Entry}
+use Rattle.archive.specs.declared.contents.Key.{Key}
 use Rattle.archive.specs.declared.checking.Checked.{Checked}
 use Rattle.archive.specs.declared.checking.Checked.the-variants.{Archive, Refused}
 use Rattle.archive.specs.declared.filing.Agreement.the-variants.{Agrees, Fault}
-use Rattle.archive.proofs.Model.Bodies.{walk-accepted, body-refused, body-filed, agrees-says, part-is, fits}
+use Rattle.archive.proofs.Model.Bodies.{walk-accepted, body-refused, body-filed, agrees-says, part-is, key-fits}
 use Rattle.archive.proofs.Model.Keys.{in-range}
 
 abbrev isYes : Checked → Bool
@@ -61,7 +61,7 @@ module _ (home : ℕ) (h : Held) where
       rw (body-refused home h w, ap (λ (a : Answer). refusalOf a .place) (same-answer (h .body) (h .entry .bits .0) ∙ ap answerOf w))
 
   pub agreement-filed : {x : Head} → walkIs (h .body) (h .entry .bits .0) ≡ walked.Accepted x
-      → agreementIs home h ≡ pick (agrees (filingUnder home x (h .entry .bits .0)) (h .entry .key)) Agrees (Fault Nowhere)
+      → agreementIs home h ≡ pick (agrees (filingUnder home x) (h .entry .key)) Agrees (Fault Nowhere)
   unfolding agreementIs
   agreement-filed w = rw (body-filed home h w, ap (λ (a : Answer). refusalOf a .place) (walk-accepted (h .body) (h .entry .bits .0) w))
 
@@ -69,9 +69,9 @@ module _ (home : ℕ) (h : Held) where
   pub agrees-ranged : home < 16777216 → bodyAgrees home h ≡ true → inRange (h .entry .key) ≡ true
   agrees-ranged k e =
       let a = agrees-says home h e in
-      let f = fits home h k a .entry .key in
+      let f = key-fits home h k a in
       let p = part-is (readIs (h .body) (h .entry .bits .0) .found) (a .may) in
-      let part = ap (λ (y : Entry). y .key .part) (a .entry) in
+      let part = ap (λ (y : Key). y .part) (a .key) in
       in-range (h .entry .key) (f .network) (f .ssi) (omega (arith, p .0, part)) (omega (arith, p .1, part))
 
 -- ---- all of them
@@ -86,15 +86,17 @@ rules-are home last i [] k = refl
 rules-are home last i (h ∷ hs) k = go (bodyAgrees home h) refl (rules-are home (rank h) (suc i) hs k)
   where
     go : (t : Bool) → bodyAgrees home h ≡ t → keepsRules home (rank h) hs ≡ inOrder (rank h) hs && isYes (bodiesFrom home (suc i) hs)
-        → ltb last (rank h) && (bodyAgrees home h && keepsRules home (rank h) hs)
-        ≡ (ltb last (rank h) && (inRange (h .entry .key) && inOrder (rank h) hs))
+        → ltb last (rank h) && (isDay (h .entry .day) && (bodyAgrees home h && keepsRules home (rank h) hs))
+        ≡ (ltb last (rank h) && (inRange (h .entry .key) && (isDay (h .entry .day) && inOrder (rank h) hs)))
         && isYes (pick (bodyAgrees home h) (bodiesFrom home (suc i) hs) (Refused (ofBody i (bodyPlace h))))
     go true e rest =
         rw (e, agrees-ranged home h k e, rest)
-        (and-assoc (ltb last (rank h)) (inOrder (rank h) hs) (isYes (bodiesFrom home (suc i) hs)))
+        (ap (λ (x : Bool). ltb last (rank h) && x)
+        (and-assoc (isDay (h .entry .day)) (inOrder (rank h) hs) (isYes (bodiesFrom home (suc i) hs)))
+        ∙ and-assoc (ltb last (rank h)) (isDay (h .entry .day) && inOrder (rank h) hs) (isYes (bodiesFrom home (suc i) hs)))
     go false e rest = rw e
-        (and-false (ltb last (rank h)) refl
-        ∙ sym (and-false (ltb last (rank h) && (inRange (h .entry .key) && inOrder (rank h) hs)) refl))
+        (and-false (ltb last (rank h)) (and-false (isDay (h .entry .day)) refl)
+        ∙ sym (and-false (ltb last (rank h) && (inRange (h .entry .key) && (isDay (h .entry .day) && inOrder (rank h) hs))) refl))
 
 module _ (b : List ℕ) where
   -- the bytes are an archive exactly if the check says so

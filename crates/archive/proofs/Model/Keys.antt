@@ -1,4 +1,4 @@
--- Keys: an entry of a key, keys in range, and that the number by which entries rise is by network, then SSI, then part, and names one user and
+-- Keys: one key twice, keys in range, and that the number by which entries rise is by network, then SSI, then part, and names one user and
 -- part. Assumes nothing.
 use mathlib.Core.Path.{_≡_, refl, sym, ap, _∙_}
 use mathlib.Core.Bool.{Bool, true, false, _&&_}
@@ -9,23 +9,22 @@ use borrow.Author.Tests.{ltb-true, leb-true, eqb-true, eq-eqb, ne-eqb, lt-ltb, l
 use Rattle.bits.proofs.Tests.{differ, both, both⁻¹}
 use Rattle.archive.specs.Model.{rankOf, inRange}
 use Rattle.archive.specs.Inner.{KeyFits}
-use Rattle.archive.specs.Filing.{names}
+use Rattle.archive.specs.Filing.{sameKey}
 use Rattle.archive.specs.declared.contents.Key.{Key}
-use Rattle.archive.specs.declared.contents.Entry.{Entry}
 
--- ---- an entry of a key
+-- ---- one key
 
-pub named : (e : Entry) (k : Key) → names e k ≡ true → e .key ≡ k
-named e k h =
-    let p = both (eqb (e .key .network) (k .network)) (eqb (e .key .ssi) (k .ssi) && eqb (e .key .part) (k .part)) h in
-    let q = both (eqb (e .key .ssi) (k .ssi)) (eqb (e .key .part) (k .part)) (p .1) in
-    let network = eqb-true (e .key .network) (k .network) (p .0) in
-    let ssi = eqb-true (e .key .ssi) (k .ssi) (q .0) in
-    let part = eqb-true (e .key .part) (k .part) (q .1) in
+pub same-key : (a k : Key) → sameKey a k ≡ true → a ≡ k
+same-key a k h =
+    let p = both (eqb (a .network) (k .network)) (eqb (a .ssi) (k .ssi) && eqb (a .part) (k .part)) h in
+    let q = both (eqb (a .ssi) (k .ssi)) (eqb (a .part) (k .part)) (p .1) in
+    let network = eqb-true (a .network) (k .network) (p .0) in
+    let ssi = eqb-true (a .ssi) (k .ssi) (q .0) in
+    let part = eqb-true (a .part) (k .part) (q .1) in
     λ i. record { network = network i; ssi = ssi i; part = part i }
 
-pub is-named : (e : Entry) (k : Key) → e .key ≡ k → names e k ≡ true
-is-named e k h =
+pub is-same-key : (a k : Key) → a ≡ k → sameKey a k ≡ true
+is-same-key a k h =
     both⁻¹ (eq-eqb _ _ (λ i. h i .network)) (both⁻¹ (eq-eqb _ _ (λ i. h i .ssi)) (eq-eqb _ _ (λ i. h i .part)))
 
 -- ---- in range
@@ -60,15 +59,15 @@ pub by-part : (k l : Key) → k .network ≡ l .network → k .ssi ≡ l .ssi �
 by-part k l n s p = omega arith
 
 -- a rank is one user's and part's
-pub rank-names : (e : Entry) (k : Key) → KeyFits (e .key) → Ranged k → eqb (rankOf (e .key)) (rankOf k) ≡ names e k
-rank-names e k h r = go (names e k) refl
+pub rank-names : (a k : Key) → KeyFits a → Ranged k → eqb (rankOf a) (rankOf k) ≡ sameKey a k
+rank-names a k h r = go (sameKey a k) refl
   where
-    go : (p : Bool) → names e k ≡ p → eqb (rankOf (e .key)) (rankOf k) ≡ p
-    go true t = eq-eqb _ _ (ap rankOf (named e k t))
+    go : (p : Bool) → sameKey a k ≡ p → eqb (rankOf a) (rankOf k) ≡ p
+    go true t = eq-eqb _ _ (ap rankOf (same-key a k t))
     go false f =
         ne-eqb _ _
-        (λ (q : rankOf (e .key) ≡ rankOf k).
-        let x : e .key .network ≡ k .network = omega (arith, q, h .ssi, h .part, r .ssi, r .high) in
-        let y : e .key .ssi ≡ k .ssi = omega (arith, q, h .ssi, h .part, r .ssi, r .high) in
-        let z : e .key .part ≡ k .part = omega (arith, q, h .ssi, h .part, r .ssi, r .high) in
-        differ (sym (is-named e k (λ i. record { network = x i; ssi = y i; part = z i })) ∙ f))
+        (λ (q : rankOf a ≡ rankOf k).
+        let x : a .network ≡ k .network = omega (arith, q, h .ssi, h .part, r .ssi, r .high) in
+        let y : a .ssi ≡ k .ssi = omega (arith, q, h .ssi, h .part, r .ssi, r .high) in
+        let z : a .part ≡ k .part = omega (arith, q, h .ssi, h .part, r .ssi, r .high) in
+        differ (sym (is-same-key a k (λ i. record { network = x i; ssi = y i; part = z i })) ∙ f))

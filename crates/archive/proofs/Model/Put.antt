@@ -42,11 +42,11 @@ lookup-put key h (x ∷ xs) = go (ltb (rank x) (rank h)) refl (eqb (rank x) (ran
 
 -- ---- in an archive that keeps the rules
 
-pub rules-put : (home last : ℕ) (h : Held) (hs : List Held) → bodyAgrees home h ≡ true → last < rank h → keepsRules home last hs ≡ true
-    → keepsRules home last (put h hs) ≡ true
+pub rules-put : (home last : ℕ) (h : Held) (hs : List Held) → h .entry .day < 65536 → bodyAgrees home h ≡ true → last < rank h
+    → keepsRules home last hs ≡ true → keepsRules home last (put h hs) ≡ true
 unfolding keepsRules
-rules-put home last h [] a r k = is-kept home last h [] (record { rises = r; agrees = a; others = refl })
-rules-put home last h (x ∷ xs) a r k = go (ltb (rank x) (rank h)) refl (eqb (rank x) (rank h)) refl (rules-put home (rank x) h xs a)
+rules-put home last h [] d a r k = is-kept home last h [] (record { rises = r; day = d; agrees = a; others = refl })
+rules-put home last h (x ∷ xs) d a r k = go (ltb (rank x) (rank h)) refl (eqb (rank x) (rank h)) refl (rules-put home (rank x) h xs d a)
   where
     u : Kept home last x xs
     u = kept home last x xs k
@@ -56,9 +56,9 @@ rules-put home last h (x ∷ xs) a r k = go (ltb (rank x) (rank h)) refl (eqb (r
         → keepsRules home last (put h (x ∷ xs)) ≡ true
     go true hp q hq ih =
         rw hp (is-kept home last x (put h xs)
-        (record { rises = u .rises; agrees = u .agrees; others = ih (ltb-true (rank x) (rank h) hp) (u .others) }))
+        (record { rises = u .rises; day = u .day; agrees = u .agrees; others = ih (ltb-true (rank x) (rank h) hp) (u .others) }))
     go false hp true hq ih =
-        rw (hp, hq) (is-kept home last h xs (record { rises = r; agrees = a; others = rw (eqb-true (rank x) (rank h) hq) at (u .others) }))
+        rw (hp, hq) (is-kept home last h xs (record { rises = r; day = d; agrees = a; others = rw (eqb-true (rank x) (rank h) hq) at (u .others) }))
     go false hp false hq ih =
         let m : rank h ≤ rank x = ltb-false (rank x) (rank h) hp in
         let n : rank x ≡ rank h → ⊥ = eqb-false (rank x) (rank h) hq in
@@ -66,9 +66,10 @@ rules-put home last h (x ∷ xs) a r k = go (ltb (rank x) (rank h)) refl (eqb (r
         (is-kept home last h (x ∷ xs)
         (record {
           rises = r;
+          day = d;
           agrees = a;
           others =
-              is-kept home (rank h) x xs (record { rises = omega (arith, m, n); agrees = u .agrees; others = u .others });
+              is-kept home (rank h) x xs (record { rises = omega (arith, m, n); day = u .day; agrees = u .agrees; others = u .others });
         }))
 
 -- whether nothing is held

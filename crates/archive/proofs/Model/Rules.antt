@@ -7,7 +7,7 @@ use lib.ListN.{length}
 use lib.Dec.{ltb, leb, eqb}
 use borrow.Author.Tests.{ltb-true, leb-true, lt-ltb, le-leb}
 use Rattle.bits.proofs.Tests.{both, both⁻¹}
-use Rattle.archive.specs.Model.{Held, Archive, rank, lengthOf, withinLimits}
+use Rattle.archive.specs.Model.{Held, Archive, rank, isDay, lengthOf, withinLimits}
 use Rattle.archive.specs.Filing.{bodyAgrees, keepsRules, wellFormed}
 use Rattle.archive.specs.Reading.{reading, isArchive}
 use Rattle.archive.proofs.Model.Bodies.{agrees-says, Fits, fits}
@@ -20,25 +20,27 @@ pub data AllFit : List Held → Type 0 where
 
 pub record Kept (home last : ℕ) (h : Held) (hs : List Held) : Type 0 where
   pub rises : last < rank h
+  pub day : h .entry .day < 65536
   pub agrees : bodyAgrees home h ≡ true
   pub others : keepsRules home (rank h) hs ≡ true
 
 pub kept : (home last : ℕ) (h : Held) (hs : List Held) → keepsRules home last (h ∷ hs) ≡ true → Kept home last h hs
 unfolding keepsRules
 kept home last h hs e =
-    let p = both (ltb last (rank h)) (bodyAgrees home h && keepsRules home (rank h) hs) e in
-    let q = both (bodyAgrees home h) (keepsRules home (rank h) hs) (p .1) in
-    record { rises = ltb-true _ _ (p .0); agrees = q .0; others = q .1 }
+    let p = both (ltb last (rank h)) (isDay (h .entry .day) && (bodyAgrees home h && keepsRules home (rank h) hs)) e in
+    let d = both (isDay (h .entry .day)) (bodyAgrees home h && keepsRules home (rank h) hs) (p .1) in
+    let q = both (bodyAgrees home h) (keepsRules home (rank h) hs) (d .1) in
+    record { rises = ltb-true _ _ (p .0); day = ltb-true _ _ (d .0); agrees = q .0; others = q .1 }
 
 pub is-kept : (home last : ℕ) (h : Held) (hs : List Held) → Kept home last h hs → keepsRules home last (h ∷ hs) ≡ true
 unfolding keepsRules
-is-kept home last h hs k = both⁻¹ (lt-ltb _ _ (k .rises)) (both⁻¹ (k .agrees) (k .others))
+is-kept home last h hs k = both⁻¹ (lt-ltb _ _ (k .rises)) (both⁻¹ (lt-ltb _ _ (k .day)) (both⁻¹ (k .agrees) (k .others)))
 
 pub all-fit : (home last : ℕ) (hs : List Held) → home < 16777216 → keepsRules home last hs ≡ true → AllFit hs
 all-fit home last [] h e = no-more
 all-fit home last (x ∷ xs) h e =
     let k = kept home last x xs e in
-    and-fit (fits home x h (agrees-says home x (k .agrees))) (all-fit home (rank x) xs h (k .others))
+    and-fit (fits home x h (agrees-says home x (k .agrees)) (k .day)) (all-fit home (rank x) xs h (k .others))
 
 pub record Formed (a : Archive) : Type 0 where
   pub home : a .home < 16777216

@@ -15,7 +15,8 @@ use Rattle.archive.proofs.Bytes.Walking.{home-is, length-heldFrom}
 -- ---- lengths
 
 pub length-line : (e : Entry) → length (line e)
-    ≡ length (decimal (e .key .network)) + length (decimal (e .key .ssi)) + length (decimal (e .key .part)) + length (decimal (e .bits .0)) + 14
+    ≡ length (decimal (e .key .network)) + length (decimal (e .key .ssi)) + length (decimal (e .key .part)) + length (decimal (e .bits .0))
+    + length (decimal (e .day)) + 19
 unfolding line item
 length-line e = simp length-append (omega arith)
 

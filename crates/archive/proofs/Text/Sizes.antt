@@ -1,4 +1,4 @@
--- No listing has more than 17,946 bytes: 26 for the first line, and 35 for each of at most 512 entries. Assumes nothing.
+-- No listing has more than 23,066 bytes: 26 for the first line, and 45 for each of at most 512 entries. Assumes nothing.
 use mathlib.Core.Path.{_≡_, refl, ap}
 use mathlib.Core.Bool.{Bool, true, false}
 use mathlib.Core.List.{List, [], _∷_}
@@ -23,35 +23,37 @@ use Rattle.archive.specs.declared.refusal.EntryPlace.{EntryPlace}
 use Rattle.archive.specs.declared.refusal.EntryPlace.the-variants as entry
 use Rattle.archive.specs.declared.checking.Checked.{Checked}
 use Rattle.archive.specs.declared.checking.Checked.the-variants.{Archive, Refused}
-use Rattle.archive.specs.declared.contents.Entry.{Entry}
-use Rattle.archive.proofs.Model.Bodies.{Agrees, agrees-says, part-is, fits}
+use Rattle.archive.specs.declared.contents.Key.{Key}
+use Rattle.archive.proofs.Model.Bodies.{Agrees, agrees-says, part-is, key-fits}
 use Rattle.archive.proofs.Model.Rules.{kept, archive-formed}
 use Rattle.archive.proofs.Model.Checked.{checked-archive}
 use Rattle.archive.proofs.Text.Decimal.{within, decimal-size}
 use Rattle.archive.proofs.Text.Lines.{length-line, length-two, length-first}
 
--- network and SSI have at most 8 digits, the part 1, the bit length 4
-line-size : (home : ℕ) (h : Held) → home < 16777216 → Agrees home h → length (line (h .entry)) ≤ 35
-line-size home h k a =
+-- network and SSI have at most 8 digits, the part 1, the bit length 4, the day 5
+line-size : (home : ℕ) (h : Held) → home < 16777216 → Agrees home h → h .entry .day < 65536 → length (line (h .entry)) ≤ 45
+line-size home h k a d =
     let e = h .entry in
     let n = e .bits .0 in
-    let f = fits home h k a .entry .key in
+    let f = key-fits home h k a in
     let network : e .key .network < 100000000 = omega (arith, f .network) in
     let ssi : e .key .ssi < 100000000 = omega (arith, f .ssi) in
-    let part : e .key .part < 10 = omega (arith, ap (λ (y : Entry). y .key .part) (a .entry), part-is (readIs (h .body) n .found) (a .may) .1) in
+    let part : e .key .part < 10 = omega (arith, ap (λ (y : Key). y .part) (a .key), part-is (readIs (h .body) n .found) (a .may) .1) in
     let bits : n < 10000 = omega (arith, accepted-framed (h .body) n (a .accepted) .short) in
-    omega (arith, length-line e, within 7 (e .key .network) network, within 7 (e .key .ssi) ssi, within 0 (e .key .part) part, within 3 n bits)
+    let day : e .day < 100000 = omega arith in
+    omega (arith, length-line e, within 7 (e .key .network) network, within 7 (e .key .ssi) ssi, within 0 (e .key .part) part, within 3 n bits,
+    within 4 (e .day) day)
 
-lines-size : (home last : ℕ) (hs : List Held) → home < 16777216 → keepsRules home last hs ≡ true → length (lines hs) ≤ 35 * length hs
+lines-size : (home last : ℕ) (hs : List Held) → home < 16777216 → keepsRules home last hs ≡ true → length (lines hs) ≤ 45 * length hs
 unfolding lines
 lines-size home last [] k e = omega arith
 lines-size home last (h ∷ hs) k e =
     let u = kept home last h hs e in
-    let l = line-size home h k (agrees-says home h (u .agrees)) in
+    let l = line-size home h k (agrees-says home h (u .agrees)) (u .day) in
     let rest = lines-size home (rank h) hs k (u .others) in
     omega (arith, length-append (line (h .entry)) (lines hs), l, rest)
 
-pub listing-size : (b : List ℕ) → isArchive b ≡ true → length (listing (reading b)) ≤ 17946
+pub listing-size : (b : List ℕ) → isArchive b ≡ true → length (listing (reading b)) ≤ 23066
 unfolding listing
 listing-size b ok =
     let a = reading b in
@@ -85,11 +87,11 @@ pub report-fits : (b : List ℕ) (room more : ℕ) → (reportIs b room more .pr
 unfolding reportIs
 report-fits b room more = (no-longer (reportOf b) room, no-longer (toldOf b) more)
 
-report-size : (b : List ℕ) → length (reportOf b) ≤ 17946
+report-size : (b : List ℕ) → length (reportOf b) ≤ 23066
 unfolding reportOf
 report-size b = go (checkIs b) refl
   where
-    go : (c : Checked) → checkIs b ≡ c → length (ifArchive c (λ f. refusedLine) (listing (reading b))) ≤ 17946
+    go : (c : Checked) → checkIs b ≡ c → length (ifArchive c (λ f. refusedLine) (listing (reading b))) ≤ 23066
     go Archive e = listing-size b (checked-archive b e)
     go (Refused f) e = omega arith
 
@@ -108,8 +110,8 @@ told-size b = go (checkIs b)
     go Archive = omega arith
     go (Refused f) = fault-size (f .entry) (f .place)
 
--- buffers of 17,946 and of 52 bytes hold every report
-pub report-whole : (b out told : List ℕ) → 17946 ≤ length out → 52 ≤ length told
+-- buffers of 23,066 and of 52 bytes hold every report
+pub report-whole : (b out told : List ℕ) → 23066 ≤ length out → 52 ≤ length told
     → (reportIs b (length out) (length told) ≡ record { printed = length (reportOf b); told = length (toldOf b) })
     × (reportOut b out ≡ over (reportOf b) out) × (toldOut b told ≡ over (toldOf b) told)
 unfolding reportIs reportOut toldOut

@@ -16,7 +16,7 @@ at-most :
     (b : List ℕ) (room more : ℕ) {r : Reported} → r ≡ reportIs b room more → (r .printed ≤ room) × (r .told ≤ more)
 at-most b room more e = subst (λ (x : Reported). (x .printed ≤ room) × (x .told ≤ more)) (sym e) (report-fits b room more)
 
-fits : (c : tie.After-report) → (c .report .result .printed ≤ 17946) × (c .report .result .told ≤ 52)
+fits : (c : tie.After-report) → (c .report .result .printed ≤ 23066) × (c .report .result .told ≤ 52)
 fits c = let h = at-most _ _ _ (c .report .ensures .0) in (omega (arith, h .0), omega (arith, h .1))
 
 -- no more is looked at than came

@@ -1,4 +1,4 @@
--- A legal PDU is the framed writing of a legal record; a body agrees with its entry if that is the one it is filed under. Assumes nothing.
+-- A legal PDU is the framed writing of a legal record; a body agrees with its entry if that has the key it is filed under. Assumes nothing.
 use mathlib.Core.Path.{_≡_, refl, sym, ap, _∙_, subst}
 use mathlib.Core.Logic.{_↔_}
 use mathlib.Core.Bool.{Bool, true, false}
@@ -20,9 +20,9 @@ use Rattle.pdu.specs.Accepted.{acceptedAs}
 use Rattle.pdu.proofs.Accepted.{accepted-framed, accepted-legal}
 use Rattle.judging.specs.Judge.{mayHold}
 use Rattle.archive.specs.Model.{Held}
-use Rattle.archive.specs.Filing.{entryFor, bodyAgrees}
+use Rattle.archive.specs.Filing.{filedKey, bodyAgrees}
 use Rattle.archive.specs.Keeping.{heldFor}
-use Rattle.archive.specs.declared.contents.Entry.{Entry}
+use Rattle.archive.specs.declared.contents.Key.{Key}
 use Rattle.archive.proofs.Model.Bodies as bodies
 use Rattle.promises.specs.Held.{Holdable, may-be-held}
 use Rattle.promises.specs.Archive.{LegalPdu, NetworkOf, affectedUser, Agrees}
@@ -72,22 +72,22 @@ agrees-says home h e =
       record {
         body = read-legal (h .body) (h .entry .bits .0) (g .accepted);
         accepting = may-be-held r .0 (g .may);
-        part = ap (λ (x : Entry). x .key .part) (g .entry);
-        ssi = ap (λ (x : Entry). x .key .ssi) (g .entry);
-        network = network-says home (affectedUser r) (ap (λ (x : Entry). x .key .network) (g .entry));
+        part = ap (λ (x : Key). x .part) (g .key);
+        ssi = ap (λ (x : Key). x .ssi) (g .key);
+        network = network-says home (affectedUser r) (ap (λ (x : Key). x .network) (g .key));
       },
     )
 
--- the entry with which a body agrees is the one that it is filed under
-pub agreed-entry : (home : ℕ) (h : Held) (r : Record) → Agrees home h r → h .entry ≡ entryFor home r (h .entry .bits .0)
-agreed-entry home h r g =
+-- the entry with which a body agrees has the key that it is filed under
+pub agreed-key : (home : ℕ) (h : Held) (r : Record) → Agrees home h r → h .entry .key ≡ filedKey home r
+agreed-key home h r g =
     let w = network-is home (affectedUser r) (h .entry .key .network) (g .network) in
-    λ i. record { key = record { network = w i; ssi = g .ssi i; part = g .part i }; bits = h .entry .bits }
+    λ i. record { network = w i; ssi = g .ssi i; part = g .part i }
 
 -- and a legal PDU that may be held agrees with that
-pub filed-agrees : (home : ℕ) (s : List ℕ) (n : ℕ) → readIs s n .answer ≡ Accepted → Holdable (readIs s n .found)
-    → Agrees home (heldFor home s n) (readIs s n .found)
-filed-agrees home s n a m = record {
+pub filed-agrees : (home : ℕ) (s : List ℕ) (n day : ℕ) → readIs s n .answer ≡ Accepted → Holdable (readIs s n .found)
+    → Agrees home (heldFor home s n day) (readIs s n .found)
+filed-agrees home s n day a m = record {
   body = read-legal s n a;
   accepting = m;
   part = refl;
@@ -103,5 +103,5 @@ agrees-is home h (r, g) =
     bodies.agrees-is home h (record {
       accepted = ap (λ (x : Reading). x .answer) e;
       may = subst (λ (x : Record). mayHold x ≡ true) f (may-be-held r .1 (g .accepting));
-      entry = subst (λ (x : Record). h .entry ≡ entryFor home x n) f (agreed-entry home h r g);
+      key = subst (λ (x : Record). h .entry .key ≡ filedKey home x) f (agreed-key home h r g);
     })

@@ -60,7 +60,7 @@ module _ (k : Key) where
           → (lookup k xs ≡ some h → HeldFor xs k h) → HeldFor (x ∷ xs) k h
       go true q s ih =
           let same : x ≡ h = cc in
-          let n = keys.named (x .entry) k (sym (keys.rank-names (x .entry) k (fx .entry .key) (keys.ranged k (ranged-is k r))) ∙ q) in
+          let n = keys.same-key (x .entry .key) k (sym (keys.rank-names (x .entry .key) k (fx .entry .key) (keys.ranged k (ranged-is k r))) ∙ q) in
           record { among = List·Memᴰ·head (sym same); for = ap (λ (y : Held). y .entry .key) (sym same) ∙ n }
       go false q s ih = let d = ih s in record { among = List·Memᴰ·tail (d .among); for = d .for }
 

@@ -45,12 +45,16 @@ module _ (e f : Key) (he : KeyFits e) (hf : KeyFits f) where
   above (archive.by-ssi n s) = by-ssi e f he n s
   above (archive.by-part n s p) = by-part e f n s p
 
+-- every entry has a day
+abbrev pub Dated : List Held → Type 0
+Dated hs = Each (λ h. h .entry .day < 65536) hs
+
 module _ (home : ℕ) (small : home < 16777216) where
   abbrev Bodies : List Held → Type 0
   Bodies hs = Each (λ h. (r : Record) × Agrees home h r) hs
 
   key-fits : (h : Held) → bodyAgrees home h ≡ true → KeyFits (h .entry .key)
-  key-fits h a = bodies.fits home h small (bodies.agrees-says home h a) .entry .key
+  key-fits h a = bodies.key-fits home h small (bodies.agrees-says home h a)
 
   rises : (last : ℕ) (hs : List Held) → keepsRules home last hs ≡ true → Rising hs
   rises last [] k = tt
@@ -66,19 +70,23 @@ module _ (home : ℕ) (small : home < 16777216) where
       let u = kept home last h hs k in
       (agrees-says home h (u .agrees), each-agrees (rank h) hs (u .others))
 
+  each-dated : (last : ℕ) (hs : List Held) → keepsRules home last hs ≡ true → Dated hs
+  each-dated last [] k = tt
+  each-dated last (h ∷ hs) k = let u = kept home last h hs k in (u .day, each-dated (rank h) hs (u .others))
+
   abbrev Above : ℕ → List Held → Type 0
   Above last [] = Unit
   Above last (h ∷ hs) = last < rank h
 
-  keeps : (last : ℕ) (hs : List Held) → Rising hs → Bodies hs → Above last hs → keepsRules home last hs ≡ true
+  keeps : (last : ℕ) (hs : List Held) → Rising hs → Dated hs → Bodies hs → Above last hs → keepsRules home last hs ≡ true
   unfolding keepsRules
-  keeps last [] r b a = refl
-  keeps last (h ∷ []) r b a = is-kept home last h [] (record { rises = a; agrees = agrees-is home h (b .0); others = refl })
-  keeps last (h ∷ g ∷ hs) r b a =
+  keeps last [] r d b a = refl
+  keeps last (h ∷ []) r d b a = is-kept home last h [] (record { rises = a; day = d .0; agrees = agrees-is home h (b .0); others = refl })
+  keeps last (h ∷ g ∷ hs) r d b a =
       let x = agrees-is home h (b .0) in
       let y = agrees-is home g (b .1 .0) in
       let l = above (h .entry .key) (g .entry .key) (key-fits h x) (key-fits g y) (r .0) in
-      is-kept home last h (g ∷ hs) (record { rises = a; agrees = x; others = keeps (rank h) (g ∷ hs) (r .1) (b .1) l })
+      is-kept home last h (g ∷ hs) (record { rises = a; day = d .0; agrees = x; others = keeps (rank h) (g ∷ hs) (r .1) (d .1) (b .1) l })
 
   -- a part is 1 or 2, so every key is above 0
   above-zero : (hs : List Held) → Bodies hs → Above 0 hs
@@ -87,9 +95,10 @@ module _ (home : ℕ) (small : home < 16777216) where
       let g = b .0 .1 in
       ⊎-elim (λ e. omega (arith, g .part, e)) (λ e. omega (arith, g .part, e)) (g .accepting .result)
 
-  all-agree : (hs : List Held) → Bodies hs → AllFit hs
-  all-agree [] b = no-more
-  all-agree (h ∷ hs) b = and-fit (bodies.fits home h small (bodies.agrees-says home h (agrees-is home h (b .0)))) (all-agree hs (b .1))
+  all-agree : (hs : List Held) → Dated hs → Bodies hs → AllFit hs
+  all-agree [] d b = no-more
+  all-agree (h ∷ hs) d b =
+      and-fit (bodies.fits home h small (bodies.agrees-says home h (agrees-is home h (b .0))) (d .0)) (all-agree hs (d .1) (b .1))
 
 -- ---- the whole
 
@@ -105,6 +114,7 @@ formed-says a w =
       home = f .home;
       few = f .few;
       rising = rises (a .home) (f .home) 0 (a .held) (f .rules);
+      days = each-dated (a .home) (f .home) 0 (a .held) (f .rules);
       bodies = each-agrees (a .home) (f .home) 0 (a .held) (f .rules);
       small = omega (arith, writing.length-written a w, f .small);
     }
@@ -113,6 +123,6 @@ pub formed-is : (a : Archive) → WellFormed a → wellFormed a ≡ true
 formed-is a f = is-formed a (record {
   home = f .home;
   few = f .few;
-  small = omega (arith, length-bytes a (all-agree (a .home) (f .home) (a .held) (f .bodies)), f .small);
-  rules = keeps (a .home) (f .home) 0 (a .held) (f .rising) (f .bodies) (above-zero (a .home) (f .home) (a .held) (f .bodies));
+  small = omega (arith, length-bytes a (all-agree (a .home) (f .home) (a .held) (f .days) (f .bodies)), f .small);
+  rules = keeps (a .home) (f .home) 0 (a .held) (f .rising) (f .days) (f .bodies) (above-zero (a .home) (f .home) (a .held) (f .bodies));
 })

@@ -32,21 +32,22 @@ laid-reads b at off (h ∷ hs) (e, body, more) =
       entry = record {
         key = record { network = sym (e .network) i; ssi = sym (e .ssi) i; part = sym (e .part) i };
         bits = record { 0 = sym (e .bits) i };
+        day = sym (e .day) i;
       };
       body = (ap (λ (n : ℕ). take n (drop off b)) size ∙ sym body) i;
     } in
-    let there = laid-reads b (at + 9) (off + (h .entry .bits .0 + 7) / 8) hs more in
-    λ i. here i ∷ (ap (λ (n : ℕ). heldFrom b (length hs) (at + 9) (off + n)) size ∙ there) i
+    let there = laid-reads b (at + 11) (off + (h .entry .bits .0 + 7) / 8) hs more in
+    λ i. here i ∷ (ap (λ (n : ℕ). heldFrom b (length hs) (at + 11) (off + n)) size ∙ there) i
 
 pub laid-size : (b : List ℕ) (at off : ℕ) (hs : List Held) → Laid b at off hs → off + sizes hs ≡ length b
 laid-size b at off [] l = omega (arith, l)
-laid-size b at off (h ∷ hs) (e, body, more) = omega (arith, laid-size b (at + 9) (off + (h .entry .bits .0 + 7) / 8) hs more)
+laid-size b at off (h ∷ hs) (e, body, more) = omega (arith, laid-size b (at + 11) (off + (h .entry .bits .0 + 7) / 8) hs more)
 
 pub reads-laid : (b : List ℕ) (n at off : ℕ) → off + sizes (heldFrom b n at off) ≡ length b → Laid b at off (heldFrom b n at off)
 unfolding heldFrom
 reads-laid b zero at off e = omega (arith, e)
 reads-laid b (suc n) at off e =
-    (record { network = refl; ssi = refl; part = refl; bits = refl }, refl, reads-laid b n (at + 9) (off + sizeAt b at) (omega (arith, e)))
+    (record { network = refl; ssi = refl; part = refl; bits = refl; day = refl }, refl, reads-laid b n (at + 11) (off + sizeAt b at) (omega (arith, e)))
 
 pub archive-says : (b : List ℕ) → isArchive b ≡ true → IsArchive b
 unfolding isArchive reading
@@ -58,16 +59,16 @@ archive-says b ok =
       formed = formed-says (reading b) (both (wellFormed (reading b)) (eqb (lengthOf (reading b)) (length b)) ok .0);
       home = refl;
       count = n;
-      laid = subst (λ (k : ℕ). Laid b 5 (5 + 9 * k) (heldIn b)) (sym n) (reads-laid b (countOf b) 5 (bodiesAt b) (o .whole));
+      laid = subst (λ (k : ℕ). Laid b 5 (5 + 11 * k) (heldIn b)) (sym n) (reads-laid b (countOf b) 5 (bodiesAt b) (o .whole));
     }
 
 -- an archive that is laid so is the one that is read
 pub read-as : (b : List ℕ) (a : Archive) → a .home ≡ archive.threeBytes b 0 → length (a .held) ≡ archive.twoBytes b 3
-    → Laid b 5 (5 + 9 * length (a .held)) (a .held) → a ≡ reading b
+    → Laid b 5 (5 + 11 * length (a .held)) (a .held) → a ≡ reading b
 unfolding reading
 read-as b a home count laid =
     let hs = a .held in
-    let e : heldIn b ≡ hs = ap (λ (n : ℕ). heldFrom b n 5 (5 + 9 * n)) (sym count) ∙ laid-reads b 5 (5 + 9 * length hs) hs laid in
+    let e : heldIn b ≡ hs = ap (λ (n : ℕ). heldFrom b n 5 (5 + 11 * n)) (sym count) ∙ laid-reads b 5 (5 + 11 * length hs) hs laid in
     λ i. record { home = home i; held = sym e i }
 
 pub archive-read : (b : List ℕ) (k : IsArchive b) → k .archive ≡ reading b
@@ -77,7 +78,7 @@ pub archive-is : (b : List ℕ) → IsArchive b → isArchive b ≡ true
 unfolding isArchive
 archive-is b k =
     rw (sym (archive-read b k), formed-is (k .archive) (k .formed))
-    (eq-eqb _ _ (laid-size b 5 (5 + 9 * length (k .archive .held)) (k .archive .held) (k .laid)))
+    (eq-eqb _ _ (laid-size b 5 (5 + 11 * length (k .archive .held)) (k .archive .held) (k .laid)))
 
 pub archive-bytes : (b : List ℕ) → Bytes b → IsArchive b ↔ ((a : Archive) × WellFormed a × (bytesOf a ≡ b))
 archive-bytes b y = (

@@ -20,17 +20,17 @@ use Rattle.archive.specs.Reading.{reading}
 use Rattle.archive.specs.Refusals.{plain}
 use Rattle.archive.specs.Checking.{checkIs}
 use Rattle.archive.specs.Keeping.{over}
-use Rattle.archive.specs.Restoring.{restoredRefusal, lookup}
+use Rattle.archive.specs.Restoring.{lookup}
 use Rattle.archive.specs.declared.contents.Key.{Key}
 use Rattle.archive.specs.declared.refusal.Refusal.{Refusal}
 use Rattle.archive.specs.declared.checking.Checked.{Checked}
 use Rattle.archive.specs.declared.checking.Checked.the-variants as checked
-use Rattle.archive.specs.declared.Restored.the-variants.{Bits, Refused}
+use Rattle.reload.specs.declared.Reloaded.the-variants.{Bits, Refused}
 use Rattle.reload.specs.Define.{isDefinition, stands}
-use Rattle.reload.specs.Reload.{recordOf, asWritten, reloaded, reloadIs, defineBytes, reloadOut}
+use Rattle.reload.specs.Reload.{reloadedRefusal, recordOf, asWritten, reloaded, reloadIs, defineBytes, reloadOut}
 use Rattle.reload.specs.declared.Definition.{Definition}
 use Rattle.reload.specs.declared.Target.{Target}
-use Rattle.reload.proofs.Reloaded.{out-of-range, no-archive, reload-held, reload-leaves}
+use Rattle.reload.proofs.Reloading.{out-of-range, no-archive, reload-held, reload-leaves}
 use Rattle.reload.proofs.Held.{held-defined}
 use Rattle.promises.specs.Answers.{OneOf}
 use Rattle.promises.specs.Archive as archive
@@ -58,7 +58,7 @@ abbrev numbers : List ℕ
 numbers = 0 ∷ 9 ∷ 7 ∷ 11 ∷ 12 ∷ 8 ∷ []
 
 -- the refusal of what writing answers
-as-number : (w : Written) → restoredRefusal (asWritten w) ≡ plain (writtenNumber w)
+as-number : (w : Written) → reloadedRefusal (asWritten w) ≡ plain (writtenNumber w)
 as-number (written.Bits n) = refl
 as-number (written.Refused k) = refl
 
@@ -87,7 +87,7 @@ module _ (t : Target) (b : List ℕ) (key : Key) (d : Definition) (out : List �
       wrote s = found (some h) is-held ∙ rw (stands-is t (d .definition) (recordOf h .lists) (a .definition) s)
 
       pub wrote-number : Standing t b key d h → answer t b key d out ≡ plain (writes.number (defined t b key d h) out)
-      wrote-number s = ap restoredRefusal (wrote s) ∙ as-number (writeIs (defined t b key d h) out)
+      wrote-number s = ap reloadedRefusal (wrote s) ∙ as-number (writeIs (defined t b key d h) out)
 
       fits : Standing t b key d h → bytesFor (lengthOf (defined t b key d h)) ≤ length out → writes.number (defined t b key d h) out ≡ 0
       fits s l = writing.promise .table (defined t b key d h) out .exactly 0 .1 (writes.success (legal s) l)
@@ -108,23 +108,23 @@ module _ (t : Target) (b : List ℕ) (key : Key) (d : Definition) (out : List �
           let full = writing.promise .table (defined t b key d h) out .exactly 8 .1 (writes.no-room (legal r a k h x s) (leb-false _ _ f)) in
           to (wrote-number r a k h x s ∙ ap plain full) (no-room r a k h x s (leb-false _ _ f), refl)
       by r a k h x false e u f =
-          to (ap restoredRefusal (found r a k (some h) (is-held r a k h x)) ∙ rw e)
+          to (ap reloadedRefusal (found r a k (some h) (is-held r a k h x)) ∙ rw e)
           (lost r a k h x (λ s. differ (sym (stands-is t _ _ (a .definition) s) ∙ e)), refl)
 
       go : (p : Bool) → inRange key ≡ p → (q : Bool) → isDefinition d ≡ q → (c : Checked) → checkIs b ≡ c
           → (l : Option Held) → lookup key (reading b .held) ≡ l → Both (answer t b key d out)
       go false e q f c g l i =
-          to (ap restoredRefusal (out-of-range t b key d out (rw e refl))) (unranged (λ x. differ (sym (ranged b key (x .0)) ∙ e)), refl)
+          to (ap reloadedRefusal (out-of-range t b key d out (rw e refl))) (unranged (λ x. differ (sym (ranged b key (x .0)) ∙ e)), refl)
       go true e false f c g l i =
-          to (ap restoredRefusal (out-of-range t b key d out (rw (e, f) refl))) (unranged (λ x. differ (sym (asked-is d (x .1)) ∙ f)), refl)
+          to (ap reloadedRefusal (out-of-range t b key d out (rw (e, f) refl))) (unranged (λ x. differ (sym (asked-is d (x .1)) ∙ f)), refl)
       go true e true f (checked.Refused x) g l i =
           let k = broken.refuses b x .0 g in
-          to (ap restoredRefusal (no-archive t b key d out e f g))
+          to (ap reloadedRefusal (no-archive t b key d out e f g))
           (damaged x (archives.in-range key .0 e) (is-asked d f) k, subst (OneOf numbers) (sym (seven k)) refl)
       go true e true f checked.Archive g none i =
           let r = archives.in-range key .0 e in
           let k = broken.passes b .0 g in
-          to (ap restoredRefusal (found r (is-asked d f) k none i)) (not-held r (is-asked d f) k (none-by b key r k i), refl)
+          to (ap reloadedRefusal (found r (is-asked d f) k none i)) (not-held r (is-asked d f) k (none-by b key r k i), refl)
       go true e true f checked.Archive g (some h) i =
           let r = archives.in-range key .0 e in
           let k = broken.passes b .0 g in
@@ -133,12 +133,12 @@ module _ (t : Target) (b : List ℕ) (key : Key) (d : Definition) (out : List �
   back : (f : Refusal) → Given t b key d (length out) f → answer t b key d out ≡ f
   back f (success r a k h x s l) = wrote-number r a k h x s ∙ ap plain (fits r a k h x s l)
   back f (unranged r) =
-      ap restoredRefusal (out-of-range t b key d out
+      ap reloadedRefusal (out-of-range t b key d out
       (false-unless _ (λ e. let p = both (inRange key) (isDefinition d) e in r (archives.in-range key .0 (p .0), is-asked d (p .1)))))
-  back f (damaged x r a k) = ap restoredRefusal (no-archive t b key d out (ranged b key r) (asked-is d a) (broken.refuses b x .1 k))
-  back f (not-held r a k x) = ap restoredRefusal (found r a k none (holds-none b key r k x))
+  back f (damaged x r a k) = ap reloadedRefusal (no-archive t b key d out (ranged b key r) (asked-is d a) (broken.refuses b x .1 k))
+  back f (not-held r a k x) = ap reloadedRefusal (found r a k none (holds-none b key r k x))
   back f (lost r a k h x s) =
-      ap restoredRefusal (found r a k (some h) (is-held r a k h x)) ∙ rw (false-unless (stands t (d .definition) (recordOf h .lists)) (λ e. s (is-standing t _ _ e)))
+      ap reloadedRefusal (found r a k (some h) (is-held r a k h x)) ∙ rw (false-unless (stands t (d .definition) (recordOf h .lists)) (λ e. s (is-standing t _ _ e)))
   back f (no-room r a k h x s l) =
       wrote-number r a k h x s
       ∙ ap plain (writing.promise .table (defined t b key d h) out .exactly 8 .1 (writes.no-room (legal r a k h x s) l))

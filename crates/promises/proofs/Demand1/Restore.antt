@@ -82,7 +82,7 @@ module _ (b : List ℕ) (key : Key) where
         to e h = subst Both (sym (ap restoredRefusal e)) h
 
         by : (h : Held) → Ranged key → (k : IsArchive b) → Holds b key k h → (t : Bool) → leb (bodySize h) room ≡ t
-            → Both (restoredRefusal (pick t (Bits (h .entry .bits)) (Refused (plain 8))))
+            → Both (restoredRefusal (pick t (Bits (h .entry .bits) (h .entry .day)) (Refused (plain 8))))
         by h r k d true f = (success r k h d (leb-true _ _ f), refl)
         by h r k d false f = (no-room r k h d (leb-false _ _ f), refl)
 
@@ -110,11 +110,11 @@ module _ (b : List ℕ) (key : Key) where
 
   succeeds : (out : List ℕ) (n : Refusal) → Given b key (length out) n → n .number ≡ 0
       → (k : IsArchive b) × (h : Held) × Holds b key k h
-      × (restoreIs b key (length out) ≡ Bits (h .entry .bits)) × (restoreOut b key out ≡ over (h .body) out)
+      × (restoreIs b key (length out) ≡ Bits (h .entry .bits) (h .entry .day)) × (restoreOut b key out ≡ over (h .body) out)
   succeeds out n (success r k h d l) z =
       let e = holds r k h d in
-      let x : restoreIs b key (length out) ≡ Bits (h .entry .bits) =
-      asked (length out) r k (some h) e ∙ ap (λ (t : Bool). pick t (Bits (h .entry .bits)) (Refused (plain 8))) (le-leb _ _ l)
+      let x : restoreIs b key (length out) ≡ Bits (h .entry .bits) (h .entry .day) =
+      asked (length out) r k (some h) e ∙ ap (λ (t : Bool). pick t (Bits (h .entry .bits) (h .entry .day)) (Refused (plain 8))) (le-leb _ _ l)
       in
       (k, h, d, x, restore-leaves b key out x ∙ ap (λ (y : Option Held). over (bodyOf y) out) e)
   succeeds out n (unranged r) z = absurd (omega arith)

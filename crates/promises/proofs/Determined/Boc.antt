@@ -12,10 +12,11 @@ pub boc-empty-determined : Determined boc.boc_empty.Kinds.ps boc.boc_empty.Kinds
 boc-empty-determined = by-equations (λ κs a x v p. (p .0, λ i. (tt, (p .1 .0 i, (p .1 .1 i, tt)))))
 
 pub boc-capture-determined : Determined boc.boc_capture.Kinds.ps boc.boc_capture.Kinds.r boc.boc_capture.Reads.Learnt
-boc-capture-determined = by-equations (λ κs a x v p. (p .0, λ i. (tt, (tt, (tt, (p .1 .0 i, (p .1 .1 .0 i, (p .1 .1 .1 .0 i, (p .1 .1 .1 .1 i, tt)))))))))
+boc-capture-determined = by-equations (λ κs a x v p. (p .0, λ i. (tt, (tt, (tt, (tt, (p .1 .0 i, (p .1 .1 .0 i, (p .1 .1 .1 .0 i, (p .1 .1 .1 .1 i, tt))))))))))
 
 pub boc-restore-determined : Determined boc.boc_restore.Kinds.ps boc.boc_restore.Kinds.r boc.boc_restore.Reads.Learnt
-boc-restore-determined = by-equations (λ κs a x v p. (p .0, λ i. (tt, (tt, (tt, (tt, (p .1 .0 i, (p .1 .1 .0 i, (p .1 .1 .1 .0 i, (p .1 .1 .1 .1 i, tt))))))))))
+boc-restore-determined = by-equations (λ κs a x v p. (p .0, λ i. (tt, (tt, (tt, (tt, (p .1 .0 i, (p .1 .1 .0 i, (p .1 .1 .1 .0 i,
+    (p .1 .1 .1 .1 .0 i, (p .1 .1 .1 .1 .1 i, tt)))))))))))
 
 pub boc-reload-determined : Determined boc.boc_reload.Kinds.ps boc.boc_reload.Kinds.r boc.boc_reload.Reads.Learnt
 boc-reload-determined = by-equations (λ κs a x v p. (p .0, λ i. (tt, (tt, (tt, (tt, (tt, (tt, (tt, (p .1 .0 i, (p .1 .1 .0 i, (p .1 .1 .1 .0 i, (p .1 .1 .1 .1 i, tt)))))))))))))

@@ -13,14 +13,13 @@ use Rattle.grammar.specs.declared.record.Record.{Record}
 use Rattle.writer.specs.Write.{lengthOf}
 use Rattle.archive.specs.Model.{Held}
 use Rattle.archive.specs.Keeping.{over}
-use Rattle.archive.specs.Restoring.{restoredRefusal}
 use Rattle.archive.specs.Refusals.{plain}
 use Rattle.archive.specs.declared.contents.Key.{Key}
 use Rattle.archive.specs.declared.refusal.Refusal.{Refusal}
-use Rattle.archive.specs.declared.Restored.the-variants.{Bits, Refused}
 use Rattle.reload.specs.Define.{defineOf}
-use Rattle.reload.specs.Reload.{recordOf, reloadIs, reloadOut}
+use Rattle.reload.specs.Reload.{recordOf, reloadedRefusal, reloadIs, reloadOut}
 use Rattle.reload.specs.declared.Definition.{Definition}
+use Rattle.reload.specs.declared.Reloaded.the-variants.{Bits, Refused}
 use Rattle.reload.specs.declared.Target.{Target}
 use Rattle.reload.specs.declared.Target.the-variants.{Define, DefineExternal}
 use Rattle.promises.specs.Answers.{Exactly}
@@ -29,7 +28,7 @@ use Rattle.promises.specs.Broken.{numberOf, Broken}
 use Rattle.promises.specs.Demand1.Restore.{Holds}
 
 abbrev pub answer : Target → List ℕ → Key → Definition → List ℕ → Refusal
-answer t b key d out = restoredRefusal (reloadIs t b key d out)
+answer t b key d out = reloadedRefusal (reloadIs t b key d out)
 
 -- a definition type that table 28 names, two bits, and an acknowledgement only where delivery is requested (note 3 of tables 10 and 12)
 pub record Asked (d : Definition) : Type 0 where

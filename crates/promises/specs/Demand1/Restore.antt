@@ -39,7 +39,7 @@ module _ (b : List ℕ) (key : Key) where
 
 -- profile A, cut to 136 bits: the exception's SSI is not there whole
 abbrev cutA : List ℕ
-cutA = take 13 bytesA ++ (0x88 ∷ take 17 profileA)
+cutA = take 13 bytesA ++ (0x88 ∷ 0x01 ∷ 0x2c ∷ take 17 profileA)
 
 -- each is met, and of two the first in order is given
 met : (answer bytesA (partOf5 1) 18 ≡ plain 0)
@@ -57,10 +57,10 @@ met = (refl, refl, refl, refl, refl, refl, refl, refl)
 pub record Promise : Type 0 where
   pub table : (b : List ℕ) (key : Key) (room : ℕ)
       → Exactly numberOf (answer b key room) (0 ∷ 9 ∷ 7 ∷ 11 ∷ 8 ∷ []) (Given b key room)
-  -- "Success returns the length written; output bytes after those that hold that length stay."
+  -- the day that is held with it; "Success returns the length written; output bytes after those that hold that length stay."
   pub success : (b : List ℕ) (key : Key) (out : List ℕ) → answer b key (length out) .number ≡ 0
       → (k : IsArchive b) × (h : Held) × Holds b key k h
-      × (restoreIs b key (length out) ≡ Bits (h .entry .bits)) × (restoreOut b key out ≡ over (h .body) out)
+      × (restoreIs b key (length out) ≡ Bits (h .entry .bits) (h .entry .day)) × (restoreOut b key out ≡ over (h .body) out)
   -- a refusal changes no byte
   pub refusal : (b : List ℕ) (key : Key) (out : List ℕ) (f : Refusal) → restoreIs b key (length out) ≡ Refused f
       → restoreOut b key out ≡ out

@@ -9,7 +9,7 @@ use Rattle.archive.specs.Restoring.{fetchIs}
 use Rattle.archive.specs.declared.Fetched.{Fetched}
 use Rattle.archive.proofs.Calls.Fetch.{fetch-found}
 use Rattle.reload.specs.Define.{isDefinition}
-use Rattle.reload.proofs.Reloaded.{out-of-range, reload-leaves, damaged, missing, found}
+use Rattle.reload.proofs.Reloading.{out-of-range, reload-leaves, damaged, missing, found}
 use Rattle.reload.proofs.reload.Statement.{statement}
 use Rattle.reload.proofs.reload.Tie as tie
 

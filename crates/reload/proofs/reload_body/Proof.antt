@@ -13,7 +13,7 @@ use Rattle.writer.specs.Write.{outIs}
 use Rattle.reload.specs.Define.{standsIn, stands}
 use Rattle.reload.specs.Reload.{asWritten}
 use Rattle.reload.specs.Inner.{partAt, reloadedFrom, reloadedOut}
-use Rattle.reload.proofs.Reloaded.{lost, stood}
+use Rattle.reload.proofs.Reloading.{lost, stood}
 use Rattle.reload.proofs.reload_body.Statement.{statement}
 use Rattle.reload.proofs.reload_body.Tie as tie
 

@@ -10,12 +10,12 @@ use std::process::{Command, ExitCode, Stdio};
 use std::thread::sleep;
 use std::time::Duration;
 
-use differential::{Archive, Met, Rng, Size, MAX_BYTES, MAX_ENTRIES, SEED};
+use differential::{Archive, Met, Rng, Size, HEADER, LINE, MAX_BYTES, MAX_ENTRIES, SEED};
 
-/// The archive that holds profile A for user 1/5 of home network 1.
-const EXAMPLE: [u8; 32] = [
-    0x00, 0x00, 0x01, 0x00, 0x01, 0x00, 0x00, 0x01, 0x00, 0x00, 0x05, 0x01, 0x00, 0x8a, 0x49, 0x82, 0x00,
-    0x00, 0x0a, 0x21, 0x21, 0x20, 0x00, 0x0c, 0x80, 0x00, 0x0c, 0x70, 0x80, 0x00, 0x4b, 0x00,
+/// The archive that holds profile A for user 1/5 of home network 1, captured on day 300.
+const EXAMPLE: [u8; 34] = [
+    0x00, 0x00, 0x01, 0x00, 0x01, 0x00, 0x00, 0x01, 0x00, 0x00, 0x05, 0x01, 0x00, 0x8a, 0x01, 0x2c, 0x49,
+    0x82, 0x00, 0x00, 0x0a, 0x21, 0x21, 0x20, 0x00, 0x0c, 0x80, 0x00, 0x0c, 0x70, 0x80, 0x00, 0x4b, 0x00,
 ];
 
 /// How an input arrives.
@@ -89,7 +89,7 @@ fn cases(rng: &mut Rng) -> Vec<(String, Vec<u8>, bool, Arrival)> {
     let too_long = Archive::of_length(rng, MAX_BYTES + 1).bytes();
     let mut cases = vec![
         ("the example".into(), EXAMPLE.to_vec(), true, AtOnce),
-        ("the example, byte by byte".into(), EXAMPLE.to_vec(), true, InPieces(32)),
+        ("the example, byte by byte".into(), EXAMPLE.to_vec(), true, InPieces(EXAMPLE.len())),
         ("an empty archive".into(), empty, true, AtOnce),
         ("512 entries".into(), full.clone(), true, AtOnce),
         ("512 entries in pieces".into(), full.clone(), true, InPieces(7)),
@@ -100,24 +100,28 @@ fn cases(rng: &mut Rng) -> Vec<(String, Vec<u8>, bool, Arrival)> {
         ("twice 65,536 bytes".into(), longest.repeat(2), false, AtOnce),
         ("no input".into(), Vec::new(), false, AtOnce),
     ];
-    // One damaged byte in each region: count, contents, body, end.
+    // One damaged byte in each region: count, contents, body, end. Only another day leaves an archive.
     for (archive, name) in [(&EXAMPLE[..], "the example"), (&full, "512 entries"), (&longest, "65,536 bytes")]
     {
         let entries = usize::from(u16::from_be_bytes([archive[3], archive[4]]));
-        let bodies = 5 + 9 * entries;
-        let last_bits = usize::from(u16::from_be_bytes([archive[bodies - 2], archive[bodies - 1]]));
+        let bodies = HEADER + LINE * entries;
+        let last_line = bodies - LINE;
+        let last_bits = usize::from(u16::from_be_bytes([archive[last_line + 7], archive[last_line + 8]]));
         let last_body = archive.len() - last_bits.div_ceil(8);
         for (region, place, bits) in [
             ("count", 4, 1),
-            ("contents", 5 + 6, 3),
-            ("length", bodies - 1, 0x80),
+            ("contents", HEADER + 6, 3),
+            ("length", last_line + 8, 0x80),
+            ("first day", HEADER + 9, 0x80),
+            ("last day", last_line + 10, 1),
             ("first body", bodies, 0x80),
             ("last body", last_body, 0x80),
             ("end", archive.len() - 1, 1),
         ] {
             let mut damaged = archive.to_vec();
             damaged[place] ^= bits;
-            cases.push((format!("{name}, {region} damaged"), damaged, false, AtOnce));
+            let legal = region.ends_with("day");
+            cases.push((format!("{name}, {region} damaged"), damaged, legal, AtOnce));
         }
         let mut damaged = archive.to_vec();
         damaged[bodies] |= 0x80;
@@ -125,7 +129,7 @@ fn cases(rng: &mut Rng) -> Vec<(String, Vec<u8>, bool, Arrival)> {
         cases.push((format!("{name}, first and last body damaged"), damaged, false, AtOnce));
         cases.push((format!("{name}, cut"), archive[..archive.len() - 1].to_vec(), false, AtOnce));
     }
-    for (region, place, bits) in [("home network", 0, 1), ("number of services", 14 + 5, 1)] {
+    for (region, place, bits) in [("home network", 0, 1), ("number of services", HEADER + LINE + 5, 1)] {
         let mut damaged = EXAMPLE.to_vec();
         damaged[place] ^= bits;
         cases.push((format!("the example, {region} damaged"), damaged, false, AtOnce));

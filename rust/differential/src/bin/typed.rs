@@ -81,6 +81,8 @@ fn expected() -> Met {
             met.expect(&format!("{call}, {element}"), numbers);
         }
     }
+    met.expect("capture, day", DAYS);
+    met.expect("restore, day", DAYS);
     met.expect("restore, part", numbers(PARTS));
     met.expect("reload, part", numbers(PARTS));
     for call in ["reload", "reload_external"] {
@@ -97,6 +99,9 @@ fn expected() -> Met {
     met.expect("any call, stopped", STOPPED);
     met
 }
+
+/// The first day and the last, which have to cross both ways.
+const DAYS: [u16; 2] = [0, u16::MAX];
 
 /// Where a refused call stopped.
 const STOPPED: [&str; 4] = ["nowhere", "at a bit", "at an entry", "at an entry's bit"];
@@ -183,28 +188,41 @@ fn archives(cases: &mut Cases, rng: &mut Rng) {
     let count = rng.below(6);
     let archive = Archive::random(rng, count, Size::Any);
     let held = if rng.one_in(6) { archive.damaged(rng).1 } else { archive.bytes() };
-    let lines = 26 + 35 * count;
+    let lines = 26 + 45 * count;
     cases.compare(rng, lines, |out| boc::contents(&held, out), |out| reference::contents(&held, out));
 
     let user = archive.user(rng);
     let Pdu { bytes, bits } = offered(rng, archive.home, user);
-    cases.compare(
+    let day = day(rng);
+    let captured = cases.compare(
         rng,
-        held.len() + 9 + bytes.len(),
-        |out| boc::capture(&held, &bytes, bits, out),
-        |out| reference::capture(&held, &bytes, bits, out),
+        held.len() + LINE + bytes.len(),
+        |out| boc::capture(&held, &bytes, bits, day, out),
+        |out| reference::capture(&held, &bytes, bits, day.into(), out),
     );
+    if captured.is_some() && DAYS.contains(&day) {
+        cases.met.meet("capture, day", day);
+    }
 
     let [network, ssi] = archive.user(rng);
     let (number, part) = rng.pick(PARTS);
     let restored = cases.compare(
         rng,
         boc::PDU_BYTES,
-        |out| boc::restore(&held, boc::Party { network, ssi }, part, out),
-        |out| reference::restore(&held, network, ssi, number, out),
+        |out| {
+            let restored = boc::restore(&held, boc::Party { network, ssi }, part, out);
+            restored.map(|boc::Restored { bits, day }| (bits, day))
+        },
+        |out| {
+            let restored = reference::restore(&held, network, ssi, number, out);
+            restored.map(|reference::Restored { bits, day }| (bits, day))
+        },
     );
-    if restored.is_some() {
+    if let Some((_, day)) = restored {
         cases.met.meet("restore, part", number);
+        if DAYS.contains(&day) {
+            cases.met.meet("restore, day", day);
+        }
     }
     for external in [false, true] {
         let reload = Reload::random(rng, &archive, external);

@@ -1,5 +1,5 @@
 -- Entry by entry, what is left to check decides what the check says. Assumes nothing.
-use mathlib.Core.Path.{_≡_, sym, ap, _∙_}
+use mathlib.Core.Path.{_≡_, sym, ap, _∙_, subst}
 use mathlib.Core.Bool.{Bool, true, false}
 use mathlib.Core.List.{List}
 use Prim.Native.Nat.{ℕ, suc, _+_, _-_, _*_, _≤_, _<_}
@@ -123,6 +123,10 @@ agreement c =
     c .body-agreement .ensures
     ∙ (λ i. agreementIs (home-of l) (record { entry = entry .entry-at .ensures .0 i; body = take (n i) (drop off (b-of l)) }))
 
+-- its day is in two bytes
+dated : (c : tie.After-entry-at Inv-loop μ-loop) → let l = c .before .before in entryAt (b-of l) (l .loop .at) .day < 65536
+dated c = subst (λ (e : Entry). e .day < 65536) (c .entry-at .ensures .0) (c .entry-at .ensures .1 .day)
+
 at-fault-requires : tie.Need-at-fault-requires Inv-loop μ-loop
 at-fault-requires c κs =
     let bytes = c .before .before .before .before .before in
@@ -140,7 +144,7 @@ returns-5 c =
     let l = entry .before .before in
     let f = faulty (home-of l) (here l) (sym (agreement body) ∙ told .agreement .given .1) in
     sym
-    (l .loop .inv .4 ∙ rest-bad (b-of l) (home-of l) (index-of l) _ _ _ _ (entry .before .loop-test .taken) (followed passed) (f .0) (f .1)
+    (l .loop .inv .4 ∙ rest-bad (b-of l) (home-of l) (index-of l) _ _ _ _ (entry .before .loop-test .taken) (dated entry) (followed passed) (f .0) (f .1)
     ∙ (λ i. faultIs (b-of l) (sym (entry .entry-at .ensures .0) i .key) (l .loop .left - 1) (l .loop .at + entryWidth)
     (l .loop .off + sym (inside bytes .0) i) (index-of l) (told .agreement .given .0 .0))
     ∙ sym (c .at-fault .ensures))
@@ -166,7 +170,7 @@ loop-again c =
       omega (arith, l .loop .inv .1, test .loop-test .taken),
       inside bytes .1,
       l .loop .inv .3,
-      l .loop .inv .4 ∙ rest-next b (home-of l) (index-of l) _ _ _ _ (test .loop-test .taken) (followed passed) small yes
+      l .loop .inv .4 ∙ rest-next b (home-of l) (index-of l) _ _ _ _ (test .loop-test .taken) (dated entry) (followed passed) small yes
           ∙ (λ i. restIs b (home-of l) (next i) (sym rank′ i) (l .loop .left - 1) (l .loop .at + entryWidth) (l .loop .off + sym (inside bytes .0) i)),
     )
 

@@ -54,7 +54,7 @@ returns c =
     sym
     (left-to-find loop
     ∙ seek-held (b-of loop) _ _ _ _ (keyed .before .before .before .loop-test .taken) (omega (arith, key keyed))
-    ∙ ap (λ (e : Entry). placeOf (loop .loop .at) (loop .loop .off) 1 (e .bits .0)) (sym (keyed .before .before .entry-at .ensures .0)))
+    ∙ ap (λ (e : Entry). placeOf (loop .loop .at) (loop .loop .off) e) (sym (keyed .before .before .entry-at .ensures .0)))
 
 returns-2 : tie.Need-returns-2 Inv-loop μ-loop
 returns-2 c =

@@ -1,8 +1,8 @@
 -- Entry by entry, what is left decides about the shape. Assumes nothing.
-use mathlib.Core.Path.{_≡_, refl, sym, ap, _∙_}
+use mathlib.Core.Path.{_≡_, refl, sym, ap, _∙_, subst}
 use mathlib.Core.Bool.{Bool, true, _&&_}
 use mathlib.Core.List.{List}
-use Prim.Native.Nat.{ℕ, _+_, _-_, _*_, _≤_}
+use Prim.Native.Nat.{ℕ, _+_, _-_, _*_, _≤_, _<_}
 use native.Mathlib.Omega.{arith}
 use borrow.Author.Needs.{needs}
 use denote.Ref.{now}
@@ -70,7 +70,8 @@ decided c e =
     let entry = passed .before .before in
     let l = entry .before .before in
     let range = ap (λ (x : Entry). inRange (x .key)) (sym (entry .entry-at .ensures .0)) ∙ sym (c .in-range .ensures) ∙ e in
-    l .loop .inv .3 ∙ follows (b-of l) _ _ _ _ (entry .before .loop-test .taken) (followed passed)
+    let day = subst (λ (x : Entry). x .day < 65536) (entry .entry-at .ensures .0) (entry .entry-at .ensures .1 .day) in
+    l .loop .inv .3 ∙ follows (b-of l) _ _ _ _ (entry .before .loop-test .taken) day (followed passed)
     ∙ ap
     (λ (t : Bool). t && restShape (b-of l) (rankOf (entryAt (b-of l) (l .loop .at) .key)) (l .loop .left - 1) (l .loop .at + entryWidth)
     (l .loop .off + sizeAt (b-of l) (l .loop .at)))

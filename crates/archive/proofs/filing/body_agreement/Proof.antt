@@ -13,7 +13,7 @@ use Rattle.archive.proofs.filing.body_agreement.Tie as tie
 
 -- by the filing
 filed : (c : tie.After-is-filed-under) →
-    let a = c .before .before .before .before .before .before .args in
+    let a = c .before .before .before .before .before .before .before .args in
     agreementIs (a .home) (record { entry = a .entry; body = now (a .body) }) ≡ pick (c .is-filed-under .result) Agrees (Fault Nowhere)
 filed c =
     let head = c .before .before in

@@ -18,7 +18,7 @@ use Rattle.archive.proofs.listing.text_length.Tie as tie
 
 abbrev Inv-loop : tie.InvT-loop
 Inv-loop archive left₀ home size₀ at₀ left size at =
-    (at + entryWidth * left ≤ length archive) × (size + 94 * left ≤ 48183)
+    (at + entryWidth * left ≤ length archive) × (size + 119 * left ≤ 60983)
     × (size + length (linesFrom archive left at) ≡ length (listing (reading archive)))
 
 abbrev μ-loop : tie.MeasureT-loop

@@ -1,11 +1,12 @@
 //! The nine calls, each on both sides.
 
+use std::cmp::Ordering;
 use std::fmt::Debug;
 
 use boc::ffi::{Spot, NOWHERE};
 use differential::*;
 use reference::layout::{record, request as at, REQUEST_WORDS};
-use reference::{Refusal, Refused};
+use reference::{Refusal, Refused, Restored};
 
 use crate::lent::{bytes, words, Lent, MARGIN};
 
@@ -14,7 +15,7 @@ const CALLS: [(&str, &[u32]); 9] = [
     ("read", &[0, 1, 2, 3, 4, 5, 9]),
     ("write", &[0, 3, 4, 8, 9]),
     ("empty", &[0, 8, 9]),
-    ("capture", &[0, 1, 2, 3, 4, 5, 6, 7, 8]),
+    ("capture", &[0, 1, 2, 3, 4, 5, 6, 7, 8, 9]),
     ("restore", &[0, 7, 8, 9, 11]),
     ("reload", &[0, 7, 8, 9, 11, 12]),
     ("reload_external", &[0, 7, 8, 9, 11, 12]),
@@ -28,7 +29,11 @@ const PLACED: [u32; 4] = [2, 3, 4, 5];
 /// What a visitor's own network tells apart from the home network.
 const TELLS: [&str; 2] = ["destination", "group"];
 
-/// What is behind the pointers to single numbers: a length or a decision, and where a refused call stopped.
+/// What a day that is captured may be beside the day that the same part had.
+const BESIDE: [&str; 3] = ["lower", "the same", "higher"];
+
+/// What is behind the pointers to single numbers: a length, a length and a day, or a decision, and where a
+/// refused call stopped.
 #[derive(Clone, Copy, PartialEq, Debug)]
 struct Behind<N> {
     number: N,
@@ -66,7 +71,8 @@ pub struct Calls {
 impl Calls {
     /// Nothing met yet of all that has to be: each answer and decision, a visitor's too, each refusal of a
     /// PDU that has a place, each value of each code of each PDU and each reserved one, each definition type
-    /// of a reload for each part, 7 for each damage and for each fault, 6, 8, 9 and 12 for each reason.
+    /// of a reload for each part, 7 for each damage and for each fault, 6, 8, 9 and 12 for each reason, 9 of
+    /// capture in the place of each other answer, and an archive accepted with other bits of a day.
     pub fn new() -> Self {
         let mut met = Met::default();
         for (call, answers) in CALLS {
@@ -86,6 +92,9 @@ impl Calls {
         met.expect("decide, visitor's own network", TELLS);
         met.expect("capture, 6", all_unfit());
         met.expect("capture, 8", LACKS);
+        met.expect("capture, 9", NO_DAYS);
+        met.expect("capture, 9 in the place of", 0..9);
+        met.expect("capture, the same PDU with a day", BESIDE);
         for part in [1, 2] {
             met.expect(&format!("reload, part {part}"), DEFINITIONS);
         }
@@ -98,6 +107,7 @@ impl Calls {
             if answers.contains(&7) {
                 met.expect(&format!("{call}, 7"), DAMAGES);
                 met.expect(&format!("{call}, 7 by fault"), FAULTS);
+                met.expect(&format!("{call}, accepted"), [DAYS_BITS]);
             }
         }
         Calls { case: (0, "", 0), change: 0, damage: None, met, scratch: vec![0; AMPLE] }
@@ -133,9 +143,13 @@ impl Calls {
         self.met.meet(call, answer.0);
     }
 
-    /// Counts a refusal of an archive or, with its place, one of a PDU.
+    /// Counts a refusal of an archive or, with its place, one of a PDU; and what is accepted though bits of a
+    /// day were changed.
     fn count<N>(&mut self, call: &str, archive: &[u8], answer: Result<N, Refused>) {
         let Err(refused) = answer else {
+            if self.damage == Some(DAYS_BITS) {
+                self.met.meet(&format!("{call}, accepted"), DAYS_BITS);
+            }
             return;
         };
         if refused.why == Refusal::Archive {
@@ -202,7 +216,14 @@ impl Calls {
     }
 
     /// The new archive, if the PDU was captured.
-    pub fn capture(&mut self, rng: &mut Rng, archive: &[u8], pdu: &Pdu, room: usize) -> Option<Vec<u8>> {
+    pub fn capture(
+        &mut self,
+        rng: &mut Rng,
+        archive: &[u8],
+        pdu: &Pdu,
+        day: u32,
+        room: usize,
+    ) -> Option<Vec<u8>> {
         let mut lent = bytes(rng, room);
         let before = Behind::random(rng);
         let mut after = before;
@@ -210,11 +231,12 @@ impl Calls {
             archive,
             &pdu.bytes,
             pdu.bits,
+            day,
             lent.library(),
             &mut after.number,
             &mut after.spot,
         );
-        let expected = reference::capture(archive, &pdu.bytes, pdu.bits, lent.reference());
+        let expected = reference::capture(archive, &pdu.bytes, pdu.bits, day, lent.reference());
         self.compare("capture", (library, after), before, expected, &lent);
         self.count("capture", archive, expected);
         if expected == Err(Refusal::Unfit.into()) {
@@ -223,19 +245,42 @@ impl Calls {
         if expected == Err(Refusal::Room.into()) {
             self.reason("capture, 8", &lacking(archive, pdu, room));
         }
+        if expected == Err(Refusal::Range.into()) {
+            self.met.meet("capture, 9", day);
+            let other = reference::capture(archive, &pdu.bytes, pdu.bits, 0, &mut vec![0; room]);
+            self.met.meet("capture, 9 in the place of", other.map_or_else(Refused::number, |_| 0));
+        }
         Some(lent.library()[..expected.ok()?].to_vec())
     }
 
-    fn capture_any_room(&mut self, rng: &mut Rng, archive: &[u8], pdu: &Pdu) {
-        let needed = reference::capture(archive, &pdu.bytes, pdu.bits, &mut self.scratch);
-        let room = room(rng, needed.unwrap_or(archive.len() + 9 + pdu.bytes.len()));
-        self.capture(rng, archive, pdu, room);
+    fn capture_any_room(&mut self, rng: &mut Rng, archive: &[u8], pdu: &Pdu, day: u32) {
+        let needed = reference::capture(archive, &pdu.bytes, pdu.bits, day, &mut self.scratch);
+        let room = room(rng, needed.unwrap_or(archive.len() + LINE + pdu.bytes.len()));
+        self.capture(rng, archive, pdu, day, room);
+    }
+
+    /// The PDU of an entry captured once more, with this day: only the two bytes of its day change, and it is
+    /// restored with that.
+    pub fn recapture(&mut self, rng: &mut Rng, archive: &Archive, index: usize, day: u16) {
+        let Entry { user, part, day: before, ref pdu } = archive.entries[index];
+        let mut expected = archive.bytes();
+        let new = self.capture(rng, &expected, pdu, day.into(), expected.len());
+        expected[HEADER + LINE * index + 9..][..2].copy_from_slice(&day.to_be_bytes());
+        assert!(new.as_ref() == Some(&expected), "{:?}: more than a day has changed", self.case);
+        let restored = self.restore(rng, &expected, user, part, pdu.bytes.len());
+        assert_eq!(restored, Ok(Restored { bits: pdu.bits, day }), "{:?}", self.case);
+        let beside = match day.cmp(&before) {
+            Ordering::Less => BESIDE[0],
+            Ordering::Equal => BESIDE[1],
+            Ordering::Greater => BESIDE[2],
+        };
+        self.met.meet("capture, the same PDU with a day", beside);
     }
 
     pub fn restore_any_room(&mut self, rng: &mut Rng, archive: &[u8], user: [u32; 2], part: u32) {
         let needed = reference::restore(archive, user[0], user[1], part, &mut self.scratch);
-        let room = room(rng, needed.map_or(20, |bits| bits.div_ceil(8)));
-        self.restore(rng, archive, user, part, room);
+        let room = room(rng, needed.map_or(20, |restored| restored.bits.div_ceil(8)));
+        let _ = self.restore(rng, archive, user, part, room);
     }
 
     pub fn restore(
@@ -245,22 +290,18 @@ impl Calls {
         [network, ssi]: [u32; 2],
         part: u32,
         room: usize,
-    ) {
+    ) -> Result<Restored, Refused> {
         let mut lent = bytes(rng, room);
-        let before = Behind::random(rng);
+        let before = Behind { number: (rng.draw() as usize, rng.bits(32)), spot: random_spot(rng) };
         let mut after = before;
-        let library = boc::ffi::restore(
-            archive,
-            network,
-            ssi,
-            part,
-            lent.library(),
-            &mut after.number,
-            &mut after.spot,
-        );
+        let (bits, day) = &mut after.number;
+        let library =
+            boc::ffi::restore(archive, network, ssi, part, lent.library(), bits, day, &mut after.spot);
         let expected = reference::restore(archive, network, ssi, part, lent.reference());
-        self.compare("restore", (library, after), before, expected, &lent);
+        let numbers = expected.map(|Restored { bits, day }| (bits, day.into()));
+        self.compare("restore", (library, after), before, numbers, &lent);
         self.count("restore", archive, expected);
+        expected
     }
 
     pub fn reload_any_room(&mut self, rng: &mut Rng, archive: &[u8], reload: &Reload) {
@@ -359,7 +400,8 @@ impl Calls {
         self.contents_any_room(rng, bytes);
         let user = archive.user(rng);
         let pdu = offered(rng, archive.home, user);
-        self.capture_any_room(rng, bytes, &pdu);
+        let day = offered_day(rng);
+        self.capture_any_room(rng, bytes, &pdu, day);
         let mut user = archive.user(rng);
         let mut part = rng.between(1, 2) as u32;
         match rng.below(20) {

@@ -1,13 +1,15 @@
 //! Compares the nine calls of the library with the reference: `calls [SEED]`.
 //!
 //! Each case lends both sides equal buffers of random content and compares the answers, every byte or word of
-//! every buffer, margins before and after what was lent, and the numbers behind the last pointers: a length
-//! or a decision, and where a refused call stopped. It ends with how often each answer of each call was met,
-//! each refusal of a PDU that has a place, each value of each code of each PDU and each reserved one, 7 for
-//! each damage to an archive and for each fault in one, 6 and 8 for each reason that capture can have, a
-//! reload of each part under each definition type, 9 and 12 for each reason that either reload can have, each
-//! decision for a visitor from another network, and a visitor's call that is decided otherwise with the home
-//! network for the visitor's own; one that was never met is a failure too.
+//! every buffer, margins before and after what was lent, and the numbers behind the last pointers: a length,
+//! a day or a decision, and where a refused call stopped. It ends with how often each answer of each call was
+//! met, each refusal of a PDU that has a place, each value of each code of each PDU and each reserved one, 7
+//! for each damage to an archive and for each fault in one, and an archive accepted with other bits of a day;
+//! 6, 8 and 9 for each reason that capture can have, 9 in the place of each of its other answers, and the same
+//! PDU captured with a lower, the same and a higher day; a reload of each part under each definition type, 9
+//! and 12 for each reason that either reload can have; each decision for a visitor from another network, and a
+//! visitor's call that is decided otherwise with the home network for the visitor's own. One that was never
+//! met is a failure too.
 
 #![forbid(unsafe_code)]
 
@@ -28,13 +30,14 @@ type Kind = (&'static str, u64, fn(&mut Calls, &mut Rng));
 /// How many records of each PDU type are tried with each value of each element.
 const SAMPLES: u64 = 30;
 
-const KINDS: [Kind; 9] = [
+const KINDS: [Kind; 10] = [
     ("PDUs", 400_000, pdus),
     ("records", 300_000, records),
     ("empty archives", 5_000, empties),
     ("small archives", 100_000, small_archives),
     ("large archives", 2_000, large_archives),
     ("histories", 600, histories),
+    ("days", 10_000, days),
     ("changed PDUs", 60, changed_pdus),
     ("changed elements", SAMPLES * FORMS.len() as u64, changed_elements),
     ("changed archives", 2, changed_archives),
@@ -96,7 +99,8 @@ fn large_archives(calls: &mut Calls, rng: &mut Rng) {
         below.entries.remove(index);
     }
     calls.damage = damage;
-    calls.capture(rng, &below.bytes(), &archive.entries[index].pdu, AMPLE);
+    let day = offered_day(rng);
+    calls.capture(rng, &below.bytes(), &archive.entries[index].pdu, day, AMPLE);
 }
 
 /// Captures from an empty archive on, each into what the last accepted one gave.
@@ -108,7 +112,8 @@ fn histories(calls: &mut Calls, rng: &mut Rng) {
         let user = rng.pick(&users);
         let pdu = offered(rng, home, user);
         let room = if rng.one_in(10) { rng.below(held.len()) } else { AMPLE };
-        if let Some(new) = calls.capture(rng, &held, &pdu, room) {
+        let day = offered_day(rng);
+        if let Some(new) = calls.capture(rng, &held, &pdu, day, room) {
             held = new;
         }
     }
@@ -127,6 +132,20 @@ fn histories(calls: &mut Calls, rng: &mut Rng) {
     calls.contents_any_room(rng, &held);
 }
 
+/// An entry's PDU captured again, with another day, with the same, and with one that is none.
+fn days(calls: &mut Calls, rng: &mut Rng) {
+    let count = rng.between(1, 6);
+    let archive = Archive::random(rng, count, Size::Any);
+    let index = rng.below(count);
+    for day in [day(rng), archive.entries[index].day] {
+        calls.recapture(rng, &archive, index, day);
+    }
+    for day in NO_DAYS {
+        let kept = calls.capture(rng, &archive.bytes(), &archive.entries[index].pdu, day, AMPLE);
+        assert_eq!(kept, None, "{:?}", calls.case);
+    }
+}
+
 /// A PDU cut at each of its bits, and with each of its bits flipped, read and captured: the longest of each
 /// type, the longest parts for one user, and any PDUs.
 fn changed_pdus(calls: &mut Calls, rng: &mut Rng) {
@@ -140,13 +159,14 @@ fn changed_pdus(calls: &mut Calls, rng: &mut Rng) {
     };
     let pdu = Pdu::of(&words);
     let held = Archive::random(rng, 3, Size::Small).bytes();
-    let room = held.len() + pdu.bytes.len() + 9;
+    let room = held.len() + LINE + pdu.bytes.len();
+    let day = u32::from(day(rng));
     let cut = (0..=pdu.bits).map(|bits| pdu.cut(bits));
     let flipped = (0..pdu.bits).map(|place| pdu.flipped(place));
     for (change, pdu) in cut.chain(flipped).enumerate() {
         calls.change = change;
         let _ = calls.read(rng, &pdu, RECORD_WORDS);
-        calls.capture(rng, &held, &pdu, room);
+        calls.capture(rng, &held, &pdu, day, room);
     }
 }
 
@@ -180,10 +200,11 @@ fn changed_archives(calls: &mut Calls, rng: &mut Rng) {
     let mut try_calls = |calls: &mut Calls, bytes: &[u8], damage: &'static str| {
         calls.change += 1;
         calls.damage = Some(damage);
-        calls.contents(rng, bytes, 100);
+        // With other bits of a day it is listed whole.
+        calls.contents(rng, bytes, if damage == DAYS_BITS { boc::CONTENTS_BYTES } else { 100 });
         if case == 0 {
-            calls.capture(rng, bytes, &last.pdu, whole.len());
-            calls.restore(rng, bytes, last.user, last.part, 100);
+            calls.capture(rng, bytes, &last.pdu, last.day.into(), whole.len());
+            let _ = calls.restore(rng, bytes, last.user, last.part, 100);
             calls.reload(rng, bytes, &as_define, 100);
             calls.reload(rng, bytes, &as_external, 100);
             calls.decide(rng, bytes, &words);

@@ -25,7 +25,8 @@ impl Calls {
             self.change += 1;
             let changed = pdu.with(element, value);
             let answer = self.read(rng, &changed, RECORD_WORDS);
-            self.capture(rng, &empty, &changed, boc::PDU_BYTES + 14);
+            let day = day(rng);
+            self.capture(rng, &empty, &changed, day.into(), HEADER + LINE + boc::PDU_BYTES);
             if element.reserves(value) {
                 let stopped = answer.map_err(|refused| (refused.why, refused.place));
                 assert_eq!(stopped, Err((Refusal::Value, Some(element.place))), "{}", element.said(value));

@@ -1,7 +1,7 @@
 //! The answers to lines about the archive.
 
 use reference::layout::REQUEST_WORDS;
-use reference::{Decision, Refused};
+use reference::{Decision, Refused, Restored};
 
 use crate::line::{hex, put, rest, told, Words, FULL};
 
@@ -9,6 +9,24 @@ use crate::line::{hex, put, rest, told, Words, FULL};
 const ROOM: usize = 70_000;
 /// Where the SSI of a PDU's first user stands: behind SS type, PDU type and range type.
 const SSI_PLACE: usize = 15;
+
+/// What a PDU that is written from the archive has besides its bytes; only a restored one has a day.
+struct Given {
+    bits: usize,
+    day: Option<u16>,
+}
+
+impl From<usize> for Given {
+    fn from(bits: usize) -> Self {
+        Given { bits, day: None }
+    }
+}
+
+impl From<Restored> for Given {
+    fn from(Restored { bits, day }: Restored) -> Self {
+        Given { bits, day: Some(day) }
+    }
+}
 
 /// A buffer, and the length of the archive in it.
 pub struct Held {
@@ -35,8 +53,8 @@ impl Held {
                 self.replace(room, |_, out| Ok(reference::empty(home, out)?))
             }
             Some('c') => {
-                let (room, bits, pdu) = (words.length(), words.length(), words.bytes());
-                self.capture(&pdu, bits, room)
+                let (room, bits, day) = (words.length(), words.length(), words.number());
+                self.capture(&words.bytes(), bits, day, room)
             }
             Some('m') => self.many(words),
             Some('o') => {
@@ -87,28 +105,34 @@ impl Held {
         text
     }
 
-    fn capture(&mut self, pdu: &[u8], bits: usize, room: usize) -> String {
-        self.replace(room, |held, out| reference::capture(held, pdu, bits, out))
+    fn capture(&mut self, pdu: &[u8], bits: usize, day: u32, room: usize) -> String {
+        self.replace(room, |held, out| reference::capture(held, pdu, bits, day, out))
     }
 
     fn many(&mut self, words: &mut Words) -> String {
-        let (from, to, bits) = (words.number(), words.number(), words.length());
+        let (from, to) = (words.number(), words.number());
+        let (bits, day) = (words.length(), words.number());
         let mut pdu = words.bytes();
         (from..to)
             .map(|ssi| {
                 put(&mut pdu, SSI_PLACE, 24, ssi);
-                self.capture(&pdu, bits, ROOM) + "\n"
+                self.capture(&pdu, bits, day, ROOM) + "\n"
             })
             .collect()
     }
 
     /// A PDU that is written from the archive.
-    fn give(&self, room: usize, call: impl Fn(&[u8], &mut [u8]) -> Result<usize, Refused>) -> String {
+    fn give<G: Into<Given>>(
+        &self,
+        room: usize,
+        call: impl Fn(&[u8], &mut [u8]) -> Result<G, Refused>,
+    ) -> String {
         let mut out = vec![FULL; ROOM];
-        match call(self.archive(), &mut out[..room.min(ROOM)]) {
-            Ok(bits) => {
+        match call(self.archive(), &mut out[..room.min(ROOM)]).map(Into::into) {
+            Ok(Given { bits, day }) => {
+                let day = day.map_or_else(String::new, |day| format!(" day {day}"));
                 let (pdu, after) = out.split_at(bits.div_ceil(8));
-                format!("bits {bits} {}{}", hex(pdu), rest(after))
+                format!("bits {bits}{day} {}{}", hex(pdu), rest(after))
             }
             Err(refused) => told(refused) + rest(&out),
         }

@@ -19,17 +19,17 @@ use Rattle.archive.specs.Model.{Held, inRange}
 use Rattle.archive.specs.Reading.{reading, isArchive}
 use Rattle.archive.specs.Refusals.{plain}
 use Rattle.archive.specs.Checking.{checkIs}
-use Rattle.archive.specs.Restoring.{fetchIs, lookup, restores}
+use Rattle.archive.specs.Restoring.{fetchIs, lookup}
 use Rattle.archive.specs.declared.contents.Key.{Key}
 use Rattle.archive.specs.declared.Fetched.the-variants as fetched
 use Rattle.archive.specs.declared.checking.Checked.the-variants as checked
 use Rattle.archive.specs.declared.refusal.Refusal.{Refusal}
-use Rattle.archive.specs.declared.Restored.{Restored}
-use Rattle.archive.specs.declared.Restored.the-variants.{Refused}
+use Rattle.reload.specs.declared.Reloaded.{Reloaded}
+use Rattle.reload.specs.declared.Reloaded.the-variants.{Refused}
 use Rattle.archive.proofs.Model.Checked.{archive-checked}
 use Rattle.archive.proofs.Calls.Fetch.{fetch-damaged, fetch-missing, fetch-found}
 use Rattle.reload.specs.Define.{isDefinition, defineOf, stands}
-use Rattle.reload.specs.Reload.{asWritten, redefined, reloaded, reloadIs, defineBytes, reloadOut}
+use Rattle.reload.specs.Reload.{asWritten, redefined, reloaded, reloadIs, defineBytes, reloads, reloadOut}
 use Rattle.reload.specs.Inner.{partAt, reloadedFrom, reloadedOut}
 use Rattle.reload.specs.declared.Definition.{Definition}
 use Rattle.reload.specs.declared.Target.{Target}
@@ -43,9 +43,9 @@ module _ (t : Target) (b : List ℕ) (k : Key) (d : Definition) (out : List ℕ)
   unfolding reloadIs
   out-of-range e = rw e
 
-  pub reload-leaves : {r : Restored} → reloadIs t b k d out ≡ r → reloadOut t b k d out ≡ restores r (defineBytes t d heldFor) out
+  pub reload-leaves : {r : Reloaded} → reloadIs t b k d out ≡ r → reloadOut t b k d out ≡ reloads r (defineBytes t d heldFor) out
   unfolding reloadOut
-  reload-leaves e = ap (λ (r : Restored). restores r (defineBytes t d heldFor) out) e
+  reload-leaves e = ap (λ (r : Reloaded). reloads r (defineBytes t d heldFor) out) e
 
   module _ (e : inRange k ≡ true) (f : isDefinition d ≡ true) where
     pub reload-held : isArchive b ≡ true → reloadIs t b k d out ≡ reloaded t d heldFor out
@@ -63,7 +63,7 @@ module _ (t : Target) (b : List ℕ) (k : Key) (d : Definition) (out : List ℕ)
     missing c = let r = fetch-missing b k e c in reload-held (r .0) ∙ ap (λ (o : Option Held). reloaded t d o out) (r .1)
 
     -- the body that is fetched is the part that is held
-    pub found : {at : ℕ} {n : BitCount} → fetchIs b k ≡ fetched.Body at n
+    pub found : {at : ℕ} {n : BitCount} {day : ℕ} → fetchIs b k ≡ fetched.Body at n day
         → (reloadIs t b k d out ≡ reloadedFrom t b at (n .0) d out) × (reloadOut t b k d out ≡ reloadedOut t b at (n .0) d out)
     found {at} {n} c =
         let r = fetch-found b k e c in
@@ -73,19 +73,19 @@ module _ (t : Target) (b : List ℕ) (k : Key) (d : Definition) (out : List ℕ)
         let same : reloadIs t b k d out ≡ reloadedFrom t b at (n .0) d out =
         reload-held (r .0) ∙ ap (λ (o : Option Held). reloaded t d o out) (x .is) ∙ ap (λ (p : Record). redefined t d p out) part in (
           same,
-          reload-leaves same ∙ ap (λ (w : List ℕ). restores (reloadedFrom t b at (n .0) d out) w out)
+          reload-leaves same ∙ ap (λ (w : List ℕ). reloads (reloadedFrom t b at (n .0) d out) w out)
               (ap (defineBytes t d) (x .is) ∙ ap (λ (p : Record). pack (pdu .print (defineOf t d p))) part),
         )
 
 -- ---- a part that was read
 
 -- what writing leaves
-left-as : (r : Record) (out : List ℕ) → outIs r out ≡ restores (asWritten (writeIs r out)) (pack (pdu .print r)) out
+left-as : (r : Record) (out : List ℕ) → outIs r out ≡ reloads (asWritten (writeIs r out)) (pack (pdu .print r)) out
 unfolding outIs writeIs
 left-as r out = go (writeRefusal r (length out))
   where
     go : (k : ℕ) → pick (isZero k) (pack (pdu .print r) ++ drop (bytesFor (lengthOf r)) out) out
-        ≡ restores (asWritten (written (lengthOf r) k)) (pack (pdu .print r)) out
+        ≡ reloads (asWritten (written (lengthOf r) k)) (pack (pdu .print r)) out
     go zero = ap (λ (m : ℕ). pack (pdu .print r) ++ drop m out) (sym (length-pack (pdu .print r)))
     go (suc k) = refl
 
