@@ -39,12 +39,12 @@ struct spot {
     size_t entry, place;
 };
 
-/* Tells of a refused call its number, and the entry and the bit where it stopped if it has them. */
+/* Tells of a refused call its number, its words, and the entry and the bit where it stopped if it has them. */
 static int refused(const char *what, uint32_t number, const struct spot *spot)
 {
     if (number == BOC_OK)
         return 0;
-    printf("%s: refused %u", what, (unsigned)number);
+    printf("%s: refused %u (%s)", what, (unsigned)number, boc_refusal_text(number));
     if (spot != NULL && spot->entry != BOC_NOWHERE)
         printf(", entry %zu", spot->entry);
     if (spot != NULL && spot->place != BOC_NOWHERE)
@@ -64,11 +64,12 @@ static int make_number_part(struct pdu *pdu)
 {
     static const uint32_t digits[] = {1, 1, 2};
     uint32_t record[BOC_RECORD_WORDS] = {0};
-    uint32_t *number = record + BOC_RESTRICTED_NUMBERS + 1;
+    uint32_t *user = record + boc_identity_at(BOC_AFFECTED, 0);
+    uint32_t *number = record + boc_number_at(BOC_RESTRICTED_NUMBERS, 0);
 
     record[BOC_PDU_TYPE] = BOC_INTERROGATE_ACK;
     record[BOC_AFFECTED] = 1;
-    record[BOC_AFFECTED + 1 + BOC_ENTRY_SSI] = USER;
+    user[BOC_ENTRY_SSI] = USER;
     record[BOC_RESULT] = BOC_RESULT_NUMBERS;
     record[BOC_SERVICE_COUNT] = 1;
     record[BOC_SERVICES] = BOC_SERVICE_ALL;
@@ -76,6 +77,27 @@ static int make_number_part(struct pdu *pdu)
     number[BOC_ENTRY_LENGTH] = 3;
     memcpy(number + BOC_ENTRY_DIGITS, digits, sizeof digits);
     return refused("write", boc_write(record, BOC_RECORD_WORDS, pdu->bytes, sizeof pdu->bytes, &pdu->bits), NULL);
+}
+
+/* The bit length of a PDU of which there are only the bytes: the one of eight that is accepted, or 0. */
+static size_t bits_of(const uint8_t *bytes, size_t count)
+{
+    uint32_t record[BOC_RECORD_WORDS];
+    size_t unused, place;
+
+    for (unused = 0; unused < 8 && count > 0; unused++)
+        if (boc_read(bytes, count, 8 * count - unused, record, BOC_RECORD_WORDS, &place) == BOC_OK)
+            return 8 * count - unused;
+    return 0;
+}
+
+/* Finds the bit length of a PDU anew, and compares. */
+static int measure(const struct pdu *pdu)
+{
+    size_t count = bytes_for(pdu->bits), bits = bits_of(pdu->bytes, count);
+
+    printf("%zu bytes have %zu bits\n", count, bits);
+    return bits != pdu->bits;
 }
 
 /* The archive with a PDU too becomes the current one, unless the PDU is refused. */
@@ -196,20 +218,18 @@ static int reload_numbers(void)
 /* Decides a call for which all but the destination is set here, and compares the decision. */
 static int decide(const char *call, uint32_t request[BOC_REQUEST_WORDS], uint32_t expected)
 {
-    static const char *const words[] = {"barred, outside the group", "barred, service", "barred, destination",
-                                        "allowed", "not held"};
     uint32_t decision;
     struct spot spot;
 
     request[BOC_USER_NETWORK] = HOME;
     request[BOC_USER_SSI] = USER;
-    request[BOC_SERVICE] = BOC_SERVICE_SPEECH;
+    request[BOC_REQUEST_SERVICE] = BOC_SERVICE_SPEECH;
     if (refused(call,
                 boc_decide(store.buffers[store.current], store.length, request, BOC_REQUEST_WORDS, &decision,
                            &spot.entry, &spot.place),
                 &spot))
         return 1;
-    printf("speech to %s: %s\n", call, words[decision]);
+    printf("speech to %s: %s\n", call, boc_decision_text(decision));
     return decision != expected;
 }
 
@@ -287,7 +307,7 @@ int main(void)
 
     if (refused("empty", boc_empty(HOME, store.buffers[0], BOC_ARCHIVE_BYTES, &store.length), NULL))
         return 1;
-    if (capture(&identity_part, DAY) || decide_number("112", BOC_PART_NOT_HELD))
+    if (measure(&identity_part) || capture(&identity_part, DAY) || decide_number("112", BOC_PART_NOT_HELD))
         return 1;
     if (make_number_part(&number_part) || capture(&number_part, NEXT_DAY) || list())
         return 1;

@@ -1,7 +1,7 @@
 /*
  * boc.h: barring of outgoing calls (BOC), EN 300 392-12-18. Reads and writes the nine BOC PDUs, keeps INTERROGATE ACKs
  * in an archive, restores them, reloads them as DEFINEs or DEFINE EXTERNALs, and decides calls from them.
- * Link libboc.a.
+ * Link libboc.a or libboc.so (-lboc). docs/USING.md shows how.
  *
  * Every function returns 0, or the number of a refusal (enum boc_refusal). What it answers besides, a length, a day or
  * a decision, goes through `length`, `bits`, `day` or `decision`. A refused call changes no byte of any buffer and
@@ -34,7 +34,8 @@
  * 1 KiB: the tests refuse more (docs/BENCHMARKS.md has what was measured).
  *
  * PDU. A PDU is a number of bits, most significant bit first, in exactly that number divided by 8, rounded up, of
- * bytes; unused bits at the end are zero.
+ * bytes; unused bits at the end are zero. Who has only the bytes, n of them, tries the bit lengths 8 * n - 7 to 8 * n:
+ * at most one of them is accepted.
  *
  * Archive. An archive is exactly the bytes that were written: lend the first N bytes of the buffer, where N is the
  * length that boc_empty or boc_capture gave. One byte more or less is no archive and gives BOC_ARCHIVE.
@@ -50,6 +51,16 @@
 
 #include <stddef.h>
 #include <stdint.h>
+
+/* The release that this header is of. */
+#define BOC_VERSION "1.0.0"
+
+/* Has a compiler that can do so warn where the answer of a call is not looked at. */
+#ifdef __GNUC__
+#define BOC_CHECKED __attribute__((warn_unused_result))
+#else
+#define BOC_CHECKED
+#endif
 
 #ifdef __cplusplus
 extern "C" {
@@ -67,9 +78,42 @@ enum boc_refusal {
     BOC_ARCHIVE = 7,   /* the archive breaks a rule */
     BOC_ROOM = 8,      /* a new key with 512 held, or the result exceeds 65,536 bytes or the lent buffer */
     BOC_RANGE = 9,     /* a request, user, part, definition, home network, day or count of words out of its range */
-    BOC_NOT_HELD = 11, /* restore, reload: not held */
+    BOC_NOT_HELD = 11, /* restore, reload: not held; entry: none has this index */
     BOC_LOSS = 12      /* reload: a held list that is not empty has no place in the PDU */
 };
+
+/*
+ * Which of its reasons a number has.
+ * - BOC_UNFIT: boc_read the PDU. Its PDU type is not BOC_INTERROGATE_ACK; or its result says that the switch provides
+ *   nothing, and why (enum boc_result); or its affected range type is not 1, for several users or a range of them.
+ * - BOC_ARCHIVE with an entry: the body of that entry is at fault. With a place, boc_read of it stops there; without,
+ *   its bit length is over 4,096, an unused bit is not zero, or it is a legal PDU that this entry may not hold.
+ * - BOC_ARCHIVE without an entry: header, contents or length are wrong. Look first at the length that was lent.
+ * - BOC_ROOM: with buffers of the lengths below only boc_capture gives it, to an archive that is full: of entries if it
+ *   has 512 and none for this user and part, otherwise of bytes.
+ * - BOC_RANGE: first a count of words that is not BOC_RECORD_WORDS, BOC_REQUEST_WORDS or BOC_KEY_WORDS, then the
+ *   arguments that the call names; in a request most often a word that is not used and not zero.
+ */
+
+/* The words of enum boc_refusal for what a call returned. */
+static inline const char *boc_refusal_text(uint32_t number)
+{
+    switch (number) {
+    case BOC_OK: return "not refused";
+    case BOC_FRAME: return "over 4,096 bits, wrong byte count, or a nonzero unused bit";
+    case BOC_SHORT: return "the PDU ends inside an element, or just before one that is due";
+    case BOC_VALUE: return "an element's value is reserved or refused; in writing also what must be zero and is not";
+    case BOC_ENDS: return "range ends disagree or are reversed";
+    case BOC_LEFT: return "bits left after the last element";
+    case BOC_UNFIT: return "a legal PDU that no archive entry may hold";
+    case BOC_ARCHIVE: return "the archive breaks a rule";
+    case BOC_ROOM: return "a new key with 512 held, or the result exceeds 65,536 bytes or the lent buffer";
+    case BOC_RANGE: return "a request, user, part, definition, home network, day or count of words out of its range";
+    case BOC_NOT_HELD: return "restore, reload: not held; entry: none has this index";
+    case BOC_LOSS: return "reload: a held list that is not empty has no place in the PDU";
+    }
+    return "no refusal has this number";
+}
 
 /* The entry or the place of a refusal that has none. */
 #define BOC_NOWHERE SIZE_MAX
@@ -89,11 +133,10 @@ enum boc_limits {
 
 /* ---- Records: a PDU as 520 words ---------------------------------------------------------------------------------
  *
- * A list of identities is a range type and 8 entries of SSI, extension present (0 or 1), extension: entry i begins at
- * the list's place + 1 + 3 * i. A list of external numbers is a range type and 8 entries of length and 24 digits:
- * entry i begins at the list's place + 1 + 25 * i. Range type 0 is an empty list, 1 to 8 that many entries, and 9 the
- * first and the last of a range, both included. Affected users are empty exactly in the PDUs without them; external
- * numbers have no range.
+ * A list of identities is a range type and 8 entries of SSI, extension present (0 or 1), extension: boc_identity_at
+ * says where an entry begins. A list of external numbers is a range type and 8 entries of length and 24 digits:
+ * boc_number_at says it. Range type 0 is an empty list, 1 to 8 that many entries, and 9 the first and the last of a
+ * range, both included. Affected users are empty exactly in the PDUs without them; external numbers have no range.
  *
  * An extension is the identity's network. Without one, an affected user is of the archive's home network, and a closed
  * user group, a restricted or an excepted identity is of the network of the PDU's affected user.
@@ -137,6 +180,18 @@ enum boc_entry_word {
     BOC_ENTRY_DIGITS = 1,
     BOC_NUMBER_WORDS = 25
 };
+
+/* The word of a record at which entry `index` of a list of identities begins. */
+static inline size_t boc_identity_at(size_t list, size_t index)
+{
+    return list + 1 + BOC_IDENTITY_WORDS * index;
+}
+
+/* The word of a record at which entry `index` of a list of external numbers begins. */
+static inline size_t boc_number_at(size_t list, size_t index)
+{
+    return list + 1 + BOC_NUMBER_WORDS * index;
+}
 
 enum boc_pdu_type {
     BOC_DEFINE = 5,
@@ -210,7 +265,7 @@ enum boc_digit {
 
 /* The range type of a first and a last entry. */
 enum boc_range_type {
-    BOC_RANGE_OF_TWO = 9
+    BOC_FIRST_AND_LAST = 9
 };
 
 /* ---- Requests: a call as 34 words --------------------------------------------------------------------------------
@@ -221,16 +276,16 @@ enum boc_range_type {
 enum boc_request_word {
     BOC_USER_NETWORK = 0,
     BOC_USER_SSI = 1,
-    BOC_SERVICE = 2,       /* 1 to 3 */
-    BOC_DESTINATION = 3,   /* its kind, enum boc_destination */
-    BOC_NETWORK = 4,       /* of an identity */
-    BOC_SSI = 5,           /* of an identity */
-    BOC_LENGTH = 6,        /* of an external number, 1 to 24 digits */
-    BOC_DIGITS = 7,        /* 24 digits */
-    BOC_GROUP_GIVEN = 31,  /* 0 or 1 */
+    BOC_REQUEST_SERVICE = 2, /* 1 to 3 */
+    BOC_DESTINATION = 3,     /* its kind, enum boc_destination */
+    BOC_NETWORK = 4,         /* of an identity */
+    BOC_SSI = 5,             /* of an identity */
+    BOC_LENGTH = 6,          /* of an external number, 1 to 24 digits */
+    BOC_DIGITS = 7,          /* 24 digits */
+    BOC_GROUP_GIVEN = 31,    /* 0 or 1 */
     BOC_GROUP_NETWORK = 32,
     BOC_GROUP_SSI = 33,
-    BOC_REQUEST_WORDS = 34 /* words of a request */
+    BOC_REQUEST_WORDS = 34   /* words of a request */
 };
 
 /* An identity is judged by the user's identity part, an external number by the number part. */
@@ -245,14 +300,35 @@ enum boc_part {
     BOC_NUMBER_PART = 2
 };
 
+/* The words of a key, under which an archive holds a PDU, and how many they are. */
+enum boc_key_word {
+    BOC_KEY_NETWORK = 0,
+    BOC_KEY_SSI = 1,
+    BOC_KEY_PART = 2, /* enum boc_part */
+    BOC_KEY_WORDS = 3 /* words of a key */
+};
+
 /* Decisions. The first three bar the call, and their numbers are the causes (enum boc_rejection_cause). */
 enum boc_decision {
-    BOC_BARRED_GROUP = 0,       /* called party outside allowed user group */
-    BOC_BARRED_SERVICE = 1,     /* restricted service type */
-    BOC_BARRED_DESTINATION = 2, /* restricted destination address */
-    BOC_ALLOWED = 3,
+    BOC_BARRED_GROUP = 0,       /* barred: called party outside allowed user group */
+    BOC_BARRED_SERVICE = 1,     /* barred: restricted service type */
+    BOC_BARRED_DESTINATION = 2, /* barred: restricted destination address */
+    BOC_ALLOWED = 3,            /* allowed */
     BOC_PART_NOT_HELD = 4       /* the part that judges the call is not held: this allows nothing */
 };
+
+/* The words of enum boc_decision for what boc_decide decided. */
+static inline const char *boc_decision_text(uint32_t number)
+{
+    switch (number) {
+    case BOC_BARRED_GROUP: return "barred: called party outside allowed user group";
+    case BOC_BARRED_SERVICE: return "barred: restricted service type";
+    case BOC_BARRED_DESTINATION: return "barred: restricted destination address";
+    case BOC_ALLOWED: return "allowed";
+    case BOC_PART_NOT_HELD: return "the part that judges the call is not held: this allows nothing";
+    }
+    return "no decision has this number";
+}
 
 /* ---- Calls ------------------------------------------------------------------------------------------------------- */
 
@@ -261,6 +337,7 @@ enum boc_decision {
  * Refuses, in this order: BOC_RANGE if record_words is not 520; BOC_FRAME; element by element from the first,
  * BOC_SHORT before BOC_VALUE, and BOC_ENDS after the second end of a range; BOC_LEFT.
  */
+BOC_CHECKED
 uint32_t boc_read(const uint8_t *pdu, size_t pdu_len, size_t bits, uint32_t *record, size_t record_words,
                   size_t *place);
 
@@ -269,12 +346,14 @@ uint32_t boc_read(const uint8_t *pdu, size_t pdu_len, size_t bits, uint32_t *rec
  * Refuses, in this order: BOC_RANGE if record_words is not 520; BOC_VALUE for a PDU type other than the nine, or for
  * anything that must be zero and is not; element by element BOC_VALUE and BOC_ENDS as reading does; BOC_ROOM.
  */
+BOC_CHECKED
 uint32_t boc_write(const uint32_t *record, size_t record_words, uint8_t *out, size_t out_len, size_t *bits);
 
 /*
  * Writes the archive of a home network that holds nothing, 5 bytes, to the front of `out`, and its length in bytes to
  * `length`. Refuses, in this order: BOC_RANGE for a home network of 16,777,216 or more; BOC_ROOM.
  */
+BOC_CHECKED
 uint32_t boc_empty(uint32_t home, uint8_t *out, size_t out_len, size_t *length);
 
 /*
@@ -286,8 +365,20 @@ uint32_t boc_empty(uint32_t home, uint8_t *out, size_t out_len, size_t *length);
  * BOC_FRAME to BOC_LEFT; BOC_UNFIT unless it is an INTERROGATE ACK with range type 1 for affected users and with
  * identities or numbers as its result; BOC_ROOM. Where the PDU is refused, `place` is one in it, and there is no entry.
  */
+BOC_CHECKED
 uint32_t boc_capture(const uint8_t *archive, size_t archive_len, const uint8_t *pdu, size_t pdu_len, size_t bits,
                      uint32_t day, uint8_t *out, size_t out_len, size_t *length, size_t *entry, size_t *place);
+
+/*
+ * Writes the key of the entry at an index, from 0, to `key` (enum boc_key_word), the length in bits of its PDU to
+ * `bits`, and the day under which that was captured to `day`. Entries rise by network, then SSI, then part. Who asks
+ * for index 0, 1, 2 and so on until BOC_NOT_HELD, and gives each key to boc_restore, restores all that is held.
+ * Refuses, in this order: BOC_RANGE if key_words is not 3; BOC_ARCHIVE; BOC_NOT_HELD if the index is not below the
+ * count of entries.
+ */
+BOC_CHECKED
+uint32_t boc_entry(const uint8_t *archive, size_t archive_len, size_t index, uint32_t *key, size_t key_words,
+                   size_t *bits, uint32_t *day, size_t *entry, size_t *place);
 
 /*
  * Writes the PDU held for a user and part (enum boc_part) to the front of `out`, its length in bits to `bits`, and the
@@ -295,6 +386,7 @@ uint32_t boc_capture(const uint8_t *archive, size_t archive_len, const uint8_t *
  * Refuses, in this order: BOC_RANGE for a network or SSI of 16,777,216 or more, or a part other than the two;
  * BOC_ARCHIVE; BOC_NOT_HELD; BOC_ROOM.
  */
+BOC_CHECKED
 uint32_t boc_restore(const uint8_t *archive, size_t archive_len, uint32_t network, uint32_t ssi, uint32_t part,
                      uint8_t *out, size_t out_len, size_t *bits, uint32_t *day, size_t *entry, size_t *place);
 
@@ -306,6 +398,7 @@ uint32_t boc_restore(const uint8_t *archive, size_t archive_len, uint32_t networ
  * acknowledgement over 1, or an acknowledgement without delivery; BOC_ARCHIVE; BOC_NOT_HELD; BOC_LOSS for a list of
  * numbers that is not empty, which no DEFINE has, and for any list that is not empty under a removal; BOC_ROOM.
  */
+BOC_CHECKED
 uint32_t boc_reload(const uint8_t *archive, size_t archive_len, uint32_t network, uint32_t ssi, uint32_t part,
                     uint32_t definition, uint32_t delivery, uint32_t acknowledgement, uint8_t *out, size_t out_len,
                     size_t *bits, size_t *entry, size_t *place);
@@ -318,6 +411,7 @@ uint32_t boc_reload(const uint8_t *archive, size_t archive_len, uint32_t network
  * acknowledgement as boc_reload does; BOC_ARCHIVE; BOC_NOT_HELD; BOC_LOSS for any list that is not empty under a
  * removal; BOC_ROOM.
  */
+BOC_CHECKED
 uint32_t boc_reload_external(const uint8_t *archive, size_t archive_len, uint32_t network, uint32_t ssi,
                              uint32_t definition, uint32_t delivery, uint32_t acknowledgement, uint8_t *out,
                              size_t out_len, size_t *bits, size_t *entry, size_t *place);
@@ -327,6 +421,7 @@ uint32_t boc_reload_external(const uint8_t *archive, size_t archive_len, uint32_
  * `decision`. Refuses, in this order: BOC_RANGE if request_words is not 34 or the request is out of its range;
  * BOC_ARCHIVE.
  */
+BOC_CHECKED
 uint32_t boc_decide(const uint8_t *archive, size_t archive_len, const uint32_t *request, size_t request_words,
                     uint32_t *decision, size_t *entry, size_t *place);
 
@@ -335,6 +430,7 @@ uint32_t boc_decide(const uint8_t *archive, size_t archive_len, const uint32_t *
  * to `length`: `home H entries N`, then for each entry `NETWORK SSI part P bits B day D`, each on a line, in decimal.
  * Refuses, in this order: BOC_ARCHIVE; BOC_ROOM.
  */
+BOC_CHECKED
 uint32_t boc_contents(const uint8_t *archive, size_t archive_len, uint8_t *out, size_t out_len, size_t *length,
                       size_t *entry, size_t *place);
 

@@ -5,7 +5,8 @@
  * accepted, and refused as late as it can be: at the last element, for the last byte of room, for the last entry.
  * Prints a Markdown table; ends with status 1 if an answer is not the one that is expected, or a call uses more than
  * its limit: 5 KiB for a decision, which unpacks a record, 6 KiB for either reload, which makes a second one of it, and
- * 1 KiB for every other call.
+ * 1 KiB for every other call. With a word behind its name it makes the same calls on the stack that it has and measures
+ * nothing, for valgrind, which follows no stack of one's own.
  */
 #define _XOPEN_SOURCE 700
 #include <stdio.h>
@@ -22,8 +23,9 @@ enum { TOP = BOC_NETWORK_LIMIT - 1, DIGIT = 2 };
 /* What the calls are lent. */
 static uint32_t record[BOC_RECORD_WORDS], request[BOC_REQUEST_WORDS], user, part, definition, home, decision;
 static uint32_t day = BOC_DAY_LIMIT - 1, found_day;
+static uint32_t key[BOC_KEY_WORDS];
 static uint8_t pdu[BOC_PDU_BYTES + 1], archive[BOC_ARCHIVE_BYTES + 1], out[BOC_ARCHIVE_BYTES];
-static size_t bits, archive_len, room = sizeof out, number, at_entry, at_place;
+static size_t bits, archive_len, entry, key_words = BOC_KEY_WORDS, room = sizeof out, number, at_entry, at_place;
 
 static size_t bytes_for(size_t count) { return (count + 7) / 8; }
 
@@ -40,6 +42,10 @@ static uint32_t captures(void)
 {
     return boc_capture(archive, archive_len, pdu, bytes_for(bits), bits, day, out, room, &number, &at_entry,
                        &at_place);
+}
+static uint32_t gives_entry(void)
+{
+    return boc_entry(archive, archive_len, entry, key, key_words, &number, &found_day, &at_entry, &at_place);
 }
 static uint32_t restores(void)
 {
@@ -61,16 +67,22 @@ static uint32_t decides(void)
 }
 static uint32_t lists(void) { return boc_contents(archive, archive_len, out, room, &number, &at_entry, &at_place); }
 
-enum call { READ, WRITE, EMPTY, CAPTURE, RESTORE, RELOAD, RELOAD_EXTERNAL, DECIDE, CONTENTS, CALLS };
+enum call { READ, WRITE, EMPTY, CAPTURE, ENTRY, RESTORE, RELOAD, RELOAD_EXTERNAL, DECIDE, CONTENTS, CALLS };
 static struct {
     const char *name;
     uint32_t (*call)(void);
     size_t limit, most;
 } calls[CALLS] = {
-    {"boc_read", reads, SMALL, 0},       {"boc_write", writes, SMALL, 0},     {"boc_empty", empties, SMALL, 0},
-    {"boc_capture", captures, SMALL, 0}, {"boc_restore", restores, SMALL, 0}, {"boc_reload", reloads, TWO_RECORDS, 0},
+    {"boc_read", reads, SMALL, 0},
+    {"boc_write", writes, SMALL, 0},
+    {"boc_empty", empties, SMALL, 0},
+    {"boc_capture", captures, SMALL, 0},
+    {"boc_entry", gives_entry, SMALL, 0},
+    {"boc_restore", restores, SMALL, 0},
+    {"boc_reload", reloads, TWO_RECORDS, 0},
     {"boc_reload_external", reloads_external, TWO_RECORDS, 0},
-    {"boc_decide", decides, ONE_RECORD, 0}, {"boc_contents", lists, SMALL, 0},
+    {"boc_decide", decides, ONE_RECORD, 0},
+    {"boc_contents", lists, SMALL, 0},
 };
 
 static _Alignas(16) unsigned char stack[STACK_BYTES];
@@ -78,7 +90,7 @@ static ucontext_t outside, inside;
 static uint32_t (*measured)(void);
 static uint32_t answer;
 static size_t base;
-static int failed;
+static int failed, unmeasured;
 
 static void enter(void) { answer = measured(); }
 
@@ -87,6 +99,10 @@ static size_t depth(uint32_t (*call)(void))
 {
     size_t untouched = 0;
 
+    if (unmeasured) {
+        answer = call();
+        return 0;
+    }
     memset(stack, PAINT, sizeof stack);
     getcontext(&inside);
     inside.uc_stack.ss_sp = stack;
@@ -178,8 +194,8 @@ static void fill_identities(size_t list, uint32_t code, uint32_t ssi)
     uint32_t i, *entry;
 
     record[list] = code;
-    for (i = 0; i < (code == BOC_RANGE_OF_TWO ? 2 : code); i++) {
-        entry = record + list + 1 + BOC_IDENTITY_WORDS * i;
+    for (i = 0; i < (code == BOC_FIRST_AND_LAST ? 2 : code); i++) {
+        entry = record + boc_identity_at(list, i);
         entry[BOC_ENTRY_SSI] = ssi;
         entry[BOC_ENTRY_EXTENSION_PRESENT] = 1;
         entry[BOC_ENTRY_EXTENSION] = TOP;
@@ -192,7 +208,7 @@ static void fill_numbers(size_t list, uint32_t code)
 
     record[list] = code;
     for (i = 0; i < code; i++) {
-        entry = record + list + 1 + BOC_NUMBER_WORDS * i;
+        entry = record + boc_number_at(list, i);
         entry[BOC_ENTRY_LENGTH] = BOC_DIGIT_PLACES;
         for (digit = 0; digit < BOC_DIGIT_PLACES; digit++)
             entry[BOC_ENTRY_DIGITS + digit] = DIGIT;
@@ -410,7 +426,7 @@ static void prepare_request(uint32_t destination)
     memset(request, 0, sizeof request);
     request[BOC_USER_NETWORK] = TOP;
     request[BOC_USER_SSI] = TOP;
-    request[BOC_SERVICE] = BOC_SERVICE_SHORT_DATA;
+    request[BOC_REQUEST_SERVICE] = BOC_SERVICE_SHORT_DATA;
     request[BOC_DESTINATION] = destination;
     if (destination == BOC_TO_IDENTITY) {
         request[BOC_NETWORK] = TOP;
@@ -449,11 +465,31 @@ static void reload_each_way(enum call call, uint32_t replaced)
     }
 }
 
+/* The last entry by its index; the index after it; and a count of words out of range. */
+static void give_entry_each_way(uint32_t held)
+{
+    const size_t count = (size_t)archive[3] << 8 | archive[4];
+
+    entry = count - 1;
+    expect(ENTRY, BOC_OK);
+    same("the network", key[BOC_KEY_NETWORK], TOP);
+    same("the SSI", key[BOC_KEY_SSI], TOP);
+    same("the part", key[BOC_KEY_PART], held);
+    same("the bits", number, bits);
+    same("the day", found_day, day);
+    entry = count;
+    expect(ENTRY, BOC_NOT_HELD);
+    key_words--;
+    expect(ENTRY, BOC_RANGE);
+    key_words++;
+}
+
 /* The calls that ask, about the last entry, one that is not held, and with numbers out of range. */
 static void ask_each_way(const struct kind *kind)
 {
     uint32_t held = kind->result, other = BOC_IDENTITY_PART + BOC_NUMBER_PART - held;
 
+    give_entry_each_way(held);
     user = TOP;
     part = held;
     expect(RESTORE, BOC_OK);
@@ -488,6 +524,7 @@ static void refuse_each(uint32_t held)
     part = held;
     prepare_request(held);
     expect(CAPTURE, BOC_ARCHIVE);
+    expect(ENTRY, BOC_ARCHIVE);
     expect(RESTORE, BOC_ARCHIVE);
     expect(RELOAD, BOC_ARCHIVE);
     expect(RELOAD_EXTERNAL, BOC_ARCHIVE);
@@ -512,11 +549,13 @@ static void use_each_way(const struct kind *kind)
     }
 }
 
-int main(void)
+int main(int argc, char **argv)
 {
     const struct kind *kind;
     size_t i;
 
+    (void)argv;
+    unmeasured = argc > 1;
     depth(nothing);
     base = depth(nothing);
     make_empty();
@@ -539,6 +578,8 @@ int main(void)
         use_each_way(kind);
     }
 
+    if (unmeasured)
+        return failed;
     printf("| call | bytes of stack | at most |\n|---|---|---|\n");
     for (i = 0; i < CALLS; i++) {
         printf("| `%s` | %zu | %zu |\n", calls[i].name, calls[i].most, calls[i].limit);

@@ -37,7 +37,7 @@ static void lend(void *none)
     uint32_t record[BOC_RECORD_WORDS], barred[BOC_RECORD_WORDS];
     uint32_t request[BOC_REQUEST_WORDS] = {HOME, USER, BOC_SERVICE_SPEECH, BOC_TO_IDENTITY};
     uint8_t empty[ROOM], archive[ROOM], both[ROOM], out[ROOM];
-    uint32_t decision, day;
+    uint32_t decision, day, key[BOC_KEY_WORDS];
     size_t empty_len, archive_len, both_len, n, entry, place;
 
     expect("boc_read", boc_read(pdu, sizeof pdu, bits, record, BOC_RECORD_WORDS, &place), BOC_OK);
@@ -69,6 +69,11 @@ static void lend(void *none)
            boc_capture(empty, empty_len, pdu, sizeof pdu, bits, DAY, none, 0, &n, &entry, &place), BOC_ROOM);
     expect("boc_capture, nothing, and a day out of range",
            boc_capture(none, 0, none, 0, 0, BOC_DAY_LIMIT, none, 0, &n, &entry, &place), BOC_RANGE);
+
+    expect("boc_entry", boc_entry(archive, archive_len, 0, key, BOC_KEY_WORDS, &n, &day, &entry, &place), BOC_OK);
+    expect("boc_entry, no archive", boc_entry(none, 0, 0, key, BOC_KEY_WORDS, &n, &day, &entry, &place), BOC_ARCHIVE);
+    expect("boc_entry, no words", boc_entry(archive, archive_len, 0, none, 0, &n, &day, &entry, &place), BOC_RANGE);
+    expect("boc_entry, nothing", boc_entry(none, 0, 0, none, 0, &n, &day, &entry, &place), BOC_RANGE);
 
     expect("boc_restore, no archive",
            boc_restore(none, 0, HOME, USER, BOC_IDENTITY_PART, out, sizeof out, &n, &day, &entry, &place), BOC_ARCHIVE);

@@ -12,7 +12,7 @@ use Rattle.archive.specs.Reading.{homeOf, countOf, entryAt, isArchive}
 use Rattle.archive.specs.Refusals.{plain, ofBody}
 use Rattle.archive.specs.Checking.{checkIs}
 use Rattle.archive.specs.Keeping.{emptyIs, put}
-use Rattle.archive.specs.Restoring.{fetchIs, restoreIs, restoreOut}
+use Rattle.archive.specs.Restoring.{heldNth, entryIs, fetchIs, restoreIs, restoreOut}
 use Rattle.archive.specs.History.{Offer, after, afterAll, lastAccepted}
 use Rattle.archive.specs.Listing.{digits, decimal, item, twoItems, firstLine, line, lines, listing, faultText, toldOf}
 use Rattle.archive.specs.Examples.{calls}
@@ -21,6 +21,7 @@ use Rattle.archive.specs.declared.contents.Entry.{Entry}
 use Rattle.walk.specs.declared.BitPlace.the-variants.{At, Nowhere}
 use Rattle.archive.specs.declared.checking.Checked.the-variants as check
 use Rattle.archive.specs.declared.Stored.the-variants as stored
+use Rattle.archive.specs.declared.Listed.the-variants as listed
 use Rattle.archive.specs.declared.Fetched.the-variants.{Body, NotHeld}
 use Rattle.archive.specs.declared.Fetched.the-variants as fetch
 use Rattle.archive.specs.declared.Restored.the-variants as restored
@@ -152,6 +153,15 @@ fetched : (fetchIs kept (key 1 5 1) ≡ Body 27 (record { 0 = 66 }) 299)
 unfolding calls bodyAgrees filingOf fetchIs inRange
 fetched = (refl, refl, refl, refl, refl, refl, refl)
 
+-- the entries by their index, and none beyond the last; what is no archive has none
+entries : (entryIs kept 0 ≡ listed.Entry (entryOn 299 1 5 1 66))
+    × (entryIs kept 1 ≡ listed.Entry (entryOn 65535 7 4 2 87))
+    × (entryIs kept 2 ≡ listed.Refused (plain 11))
+    × (entryIs nothing 0 ≡ listed.Refused (plain 11))
+    × (entryIs (take 46 kept) 2 ≡ listed.Refused (plain 7))
+unfolding calls bodyAgrees filingOf entryIs heldNth
+entries = (refl, refl, refl, refl, refl)
+
 -- what is restored, and the byte after it stays
 
 restored-visitor : (restoreIs kept (key 7 4 2) 11 ≡ restored.Bits (record { 0 = 87 }) 65535)
@@ -230,11 +240,11 @@ told = (refl, refl, refl)
 
 -- ---- the listing of the least and the greatest numbers
 
-abbrev listed : ℕ → ℕ → ℕ → ℕ → ℕ → Held
-listed day network ssi part bits = record { entry = entryOn day network ssi part bits; body = [] }
+abbrev linedUp : ℕ → ℕ → ℕ → ℕ → ℕ → Held
+linedUp day network ssi part bits = record { entry = entryOn day network ssi part bits; body = [] }
 
 -- `home 0 entries 2`, `0 0 part 1 bits 63 day 0`, `16777215 16777215 part 2 bits 2456 day 65535`
-listing-2 : listing (record { home = 0; held = listed 0 0 0 1 63 ∷ listed 65535 16777215 16777215 2 2456 ∷ [] }) ≡
+listing-2 : listing (record { home = 0; held = linedUp 0 0 0 1 63 ∷ linedUp 65535 16777215 16777215 2 2456 ∷ [] }) ≡
     104 ∷ 111 ∷ 109 ∷ 101 ∷ 32 ∷ 48 ∷ 32 ∷ 101 ∷ 110 ∷ 116 ∷ 114 ∷ 105 ∷ 101 ∷ 115 ∷ 32 ∷ 50 ∷ 10 ∷
     48 ∷ 32 ∷ 48 ∷ 32 ∷ 112 ∷ 97 ∷ 114 ∷ 116 ∷ 32 ∷ 49 ∷ 32 ∷ 98 ∷ 105 ∷ 116 ∷ 115 ∷ 32 ∷ 54 ∷ 51 ∷ 32 ∷ 100 ∷ 97 ∷ 121 ∷ 32 ∷ 48 ∷ 10 ∷
     49 ∷ 54 ∷ 55 ∷ 55 ∷ 55 ∷ 50 ∷ 49 ∷ 53 ∷ 32 ∷ 49 ∷ 54 ∷ 55 ∷ 55 ∷ 55 ∷ 50 ∷ 49 ∷ 53 ∷

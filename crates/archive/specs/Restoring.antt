@@ -1,7 +1,7 @@
--- What `fetch` and `restore` answer, and what `restore` leaves in the lent buffer.
+-- What `entry`, `fetch` and `restore` answer, and what `restore` leaves in the lent buffer.
 use mathlib.Core.List.{List, [], _∷_}
 use mathlib.Core.Option.{Option, none, some}
-use Prim.Native.Nat.{ℕ, _+_}
+use Prim.Native.Nat.{ℕ, zero, suc, _+_}
 use lib.ListN.{length}
 use lib.Dec.{leb, eqb}
 use Rattle.bits.specs.Bits.{pick, guard}
@@ -11,11 +11,33 @@ use Rattle.archive.specs.Refusals.{plain}
 use Rattle.archive.specs.Checking.{checkIs, ifArchive}
 use Rattle.archive.specs.Keeping.{over}
 use Rattle.archive.specs.declared.contents.Key.{Key}
+use Rattle.archive.specs.declared.Listed.{Listed}
+use Rattle.archive.specs.declared.Listed.the-variants as listed
 use Rattle.archive.specs.declared.Fetched.{Fetched}
 use Rattle.archive.specs.declared.Fetched.the-variants as fetched
 use Rattle.archive.specs.declared.refusal.Refusal.{Refusal}
 use Rattle.archive.specs.declared.Restored.{Restored}
 use Rattle.archive.specs.declared.Restored.the-variants.{Bits, Refused}
+
+-- ---- entry: the contents entry at an index, from 0; 7, then 11 for an index that is not below the count
+
+-- the PDU held at an index
+unfoldable pub heldNth : List Held → ℕ → Option Held
+heldNth [] i = none
+heldNth (h ∷ hs) zero = some h
+heldNth (h ∷ hs) (suc i) = heldNth hs i
+
+abbrev pub listedAs : Option Held → Listed
+listedAs none = listed.Refused (plain 11)
+listedAs (some h) = listed.Entry (h .entry)
+
+unfoldable pub entryIs : List ℕ → ℕ → Listed
+entryIs b i = ifArchive (checkIs b) listed.Refused (listedAs (heldNth (reading b .held) i))
+
+-- document 01's number of an answer, 0 for success, with its entry and its place
+abbrev pub listedRefusal : Listed → Refusal
+listedRefusal (listed.Entry e) = plain 0
+listedRefusal (listed.Refused f) = f
 
 -- ---- fetch: where the body of a user and part begins, its bit length, and its day
 

@@ -9,7 +9,7 @@ mod refusal;
 use bits::BitCount;
 pub use checking::Checked;
 pub use checking::check;
-use contents::Entry;
+pub use contents::Entry;
 pub use contents::Key;
 pub use contents::home;
 pub use contents::in_range;
@@ -29,7 +29,7 @@ ghost use Rattle.archive.specs.Reading.{isArchive};
 ghost use Rattle.archive.specs.Refusals.{plain};
 ghost use Rattle.archive.specs.Inner.{EntryFits, filedIn};
 ghost use Rattle.archive.specs.Keeping.{leaves, emptyIs, emptyOut, placed, captureIs, captureOut};
-ghost use Rattle.archive.specs.Restoring.{fetchIs, restores, restoreIs, restoreOut};
+ghost use Rattle.archive.specs.Restoring.{entryIs, fetchIs, restores, restoreIs, restoreOut};
 
 // The length in bytes of an archive, or of a listing, that was written; or a refusal.
 pub enum Stored {
@@ -47,6 +47,12 @@ pub enum Restored {
 pub enum Fetched {
     Body(usize, BitCount, u32),
     NotHeld,
+    Refused(Refusal),
+}
+
+// The contents entry at an index, or a refusal.
+pub enum Listed {
+    Entry(Entry),
     Refused(Refusal),
 }
 
@@ -106,6 +112,20 @@ fn file(archive: &[u8], entry: Entry, body: &[u8], out: &mut [u8]) -> Stored
         return Stored::Refused(refusal::plain(8));
     }
     Stored::Bytes(copying::splice(archive, place, count, entry, body, out))
+}
+
+// The contents entry at an index, from 0.
+pub fn entry(archive: &[u8], index: usize) -> Listed
+    ensures { λ r. ⌜ r ≡ entryIs (now (archive .entry)) index ⌝ }
+{
+    let checked = checking::check(archive);
+    if let Checked::Refused(refusal) = checked {
+        return Listed::Refused(refusal);
+    }
+    if contents::count(archive) <= index {
+        return Listed::Refused(refusal::plain(11));
+    }
+    Listed::Entry(contents::entry_at(archive, contents::HEADER + contents::ENTRY * index))
 }
 
 // Finds the body held for a user and part.

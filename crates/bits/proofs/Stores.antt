@@ -3,12 +3,12 @@ use mathlib.Core.Path.{_≡_, sym, ap, ap₂, _∙_, subst}
 use mathlib.Core.List.{List, _++_, append-assoc}
 use mathlib.Core.Bool.{Bool}
 use Prim.Native.Nat.{ℕ, _+_, _-_, _*_, _/_, _%_, _^_, _≤_, _<_}
-use native.Mathlib.Nat.{add-assoc, add-comm, add-mul, mul-assoc, mod-lt}
+use native.Mathlib.Nat.{add-assoc, add-comm, add-zero, mul-assoc, mod-lt}
 use native.Mathlib.Omega.{arith}
 use lib.ListN.{length, take, drop, set, length-append, length-drop, take-append-drop}
 use lib.Seq.{take-at, take-append-le, drop-append-le}
-use lib.Arith.{digits-lt}
-use lib.Pow.{pow-pos, pow-add, shr-lt, shr-shr, split}
+use lib.Bits.{bitAnd, bitOr, and-block, and-mask, mask-lt, or-block, or-shifted, or-zero-r}
+use lib.Pow.{pow-pos, pow-add, shl-exact, shr-shr, shr-mod, split, mod-mod-pow, ones-lt, ones-split}
 use Rattle.bits.specs.Bits.{value, bitsOf, bits, splice}
 use Rattle.bits.proofs.Numbers.{length-bitsOf, bitsOf-three, bitsOf-add, bitsOf-mod, bitsOf-parts, bits-of-value}
 use Rattle.bits.proofs.Bytes.{length-bits, bits-append, bits-take, bits-set, length-bits-take}
@@ -42,13 +42,6 @@ abbrev pub within : ℕ → ℕ → ℕ → ℕ → ℕ
 within x n k f = (x / 2 ^ (n + k) * 2 ^ n + f) * 2 ^ k + x % 2 ^ k
 
 module _ (x r n k f : ℕ) (lt : f < 2 ^ n) where
-  -- it is no wider
-  pub within-lt : x < 2 ^ (r + (n + k)) → within x n k f < 2 ^ (r + (n + k))
-  within-lt hx =
-      subst (λ (m : ℕ). within x n k f < m)
-      (mul-assoc (2 ^ r) (2 ^ n) (2 ^ k) ∙ ap (λ (m : ℕ). 2 ^ r * m) (sym (pow-add 2 n k)) ∙ sym (pow-add 2 r (n + k)))
-      (digits-lt (digits-lt (shr-lt r (n + k) hx) lt) (mod-lt x (pow-pos k)))
-
   within-bits : bitsOf (r + (n + k)) (within x n k f) ≡ bitsOf r (x / 2 ^ (n + k)) ++ (bitsOf n f ++ bitsOf k x)
   within-bits =
       ap (λ (m : ℕ). bitsOf m (within x n k f)) (sym (add-assoc r n k))
@@ -76,21 +69,31 @@ module _ (x r n k f : ℕ) (lt : f < 2 ^ n) where
       (omega (arith, length-append a high, length-bitsOf r (x / 2 ^ (n + k))))
       (length-bitsOf n (x / 2 ^ k) ∙ sym (length-bitsOf n f)))
 
-module _ (x n k : ℕ) where
-  whole : (x / 2 ^ (n + k) * 2 ^ n + x / 2 ^ k % 2 ^ n) * 2 ^ k + x % 2 ^ k ≡ x
-  whole =
-      ap (λ (y : ℕ). (y * 2 ^ n + x / 2 ^ k % 2 ^ n) * 2 ^ k + x % 2 ^ k) (ap (λ (y : ℕ). x / 2 ^ y) (add-comm n k) ∙ sym (shr-shr x k n))
-      ∙ ap (λ (y : ℕ). y * 2 ^ k + x % 2 ^ k) (split (x / 2 ^ k) n)
-      ∙ split x k
+-- in w bits: one mask keeps the bits of x beside the field, another those of f that replace it
+module _ (x n k f w : ℕ) (hx : x < 2 ^ w) (inside : n + k ≤ w) where
+  beside : bitAnd x (2 ^ w - 1 - (2 ^ n - 1) * 2 ^ k) ≡ x / 2 ^ (n + k) * 2 ^ n * 2 ^ k + x % 2 ^ k
+  beside =
+      let r : ℕ = w - (n + k) in
+      let size : w ≡ r + (n + k) = omega arith in
+      let mask : 2 ^ w - 1 - (2 ^ n - 1) * 2 ^ k ≡ (2 ^ r - 1) * 2 ^ (n + k) + (2 ^ k - 1) =
+      omega (arith, ap (λ (m : ℕ). 2 ^ m - 1) size, ones-split r (n + k), ones-split n k) in
+      ap₂ bitAnd (sym (split x (n + k))) mask
+      ∙ and-block (n + k) (x / 2 ^ (n + k)) (2 ^ r - 1) (x % 2 ^ (n + k)) (2 ^ k - 1) (mod-lt x (pow-pos (n + k)))
+      (omega (arith, ones-split n k, ones-lt (n + k)))
+      ∙ ap₂ (λ (h l : ℕ). h * 2 ^ (n + k) + l)
+      (and-mask (x / 2 ^ (n + k)) r ∙ shr-mod r (n + k) (subst (λ (m : ℕ). x < 2 ^ m) size hx))
+      (and-mask (x % 2 ^ (n + k)) k ∙ mod-mod-pow x n k)
+      ∙ ap (λ (h : ℕ). h + x % 2 ^ k)
+      (ap (λ (p : ℕ). x / 2 ^ (n + k) * p) (pow-add 2 n k) ∙ sym (mul-assoc (x / 2 ^ (n + k)) (2 ^ n) (2 ^ k)))
 
-  -- the field itself is taken away, and the other put there
-  pub field-le : x / 2 ^ k % 2 ^ n * 2 ^ k ≤ x
-  field-le = omega (arith, whole, add-mul (x / 2 ^ (n + k) * 2 ^ n) (x / 2 ^ k % 2 ^ n) (2 ^ k))
-
-  pub within-sum : (f : ℕ) → x - x / 2 ^ k % 2 ^ n * 2 ^ k + f * 2 ^ k ≡ within x n k f
-  within-sum f =
-      let high : ℕ = x / 2 ^ (n + k) * 2 ^ n in
-      omega (arith, whole, add-mul high (x / 2 ^ k % 2 ^ n) (2 ^ k), add-mul high f (2 ^ k))
+  pub within-masks : bitOr (bitAnd x (2 ^ w - 1 - (2 ^ n - 1) * 2 ^ k % 2 ^ w)) (bitAnd f (2 ^ n - 1) * 2 ^ k % 2 ^ w) ≡ within x n k (f % 2 ^ n)
+  within-masks =
+      ap₂ (λ (mask own : ℕ). bitOr (bitAnd x (2 ^ w - 1 - mask)) own)
+      (shl-exact n k w (ones-lt n) inside)
+      (shl-exact n k w (mask-lt f n) inside ∙ ap (λ (p : ℕ). p * 2 ^ k) (and-mask f n) ∙ sym (add-zero (f % 2 ^ n * 2 ^ k)))
+      ∙ ap (λ (p : ℕ). bitOr p (f % 2 ^ n * 2 ^ k + 0)) beside
+      ∙ or-block k (x / 2 ^ (n + k) * 2 ^ n) (f % 2 ^ n) (x % 2 ^ k) 0 (mod-lt x (pow-pos k)) (pow-pos k)
+      ∙ ap₂ (λ (h l : ℕ). h * 2 ^ k + l) (or-shifted (x / 2 ^ (n + k)) n (f % 2 ^ n) (mod-lt f (pow-pos n))) (or-zero-r (x % 2 ^ k))
 
 -- ---- eight bytes
 

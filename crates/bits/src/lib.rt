@@ -190,15 +190,14 @@ fn put_within(buf: &mut [u8], at: usize, width: usize, element: u64)
     set_eight(buf, first, with_field(old, width, after, element));
 }
 
-// A number with the n bits that have k bits after them replaced by the n low bits of f.
+// A number with the n bits that have k bits after them replaced by the n low bits of f. By masks, so that a tool that follows single bits
+// sees that nothing is left of those replaced.
 fn with_field(x: u64, n: usize, k: usize, f: u64) -> u64
     requires { ⌜ (n < 64) × (k < 64) × (n + k ≤ 64) ⌝ }
     ensures { λ r. ⌜ r ≡ (x / 2 ^ (n + k) * 2 ^ n + f % 2 ^ n) * 2 ^ k + x % 2 ^ k ⌝ }
 {
-    let size = pow2(n);
-    let low = pow2(k);
-    let old = (x >> k) % size;
-    x - old * low + (f % size) * low
+    let ones = pow2(n) - 1;
+    (x & !(ones << k)) | ((f & ones) << k)
 }
 
 // The same for elements that stand one after another: only the first of eight bytes is read, and zeros follow the element to their end.

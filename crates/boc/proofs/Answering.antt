@@ -6,7 +6,7 @@ use Prim.Native.Nat.{ℕ}
 -- the answer that was told is the answer
 module _ {A : Type 0} {answer is told : A} (e : answer ≡ is) (t : answer ≡ told) where
   -- what is said of the one is said of the other
-  pub said : (f : A → ℕ) {x : ℕ} → x ≡ f told → x ≡ f is
+  pub said : {B : Type 0} (f : A → B) {x : B} → x ≡ f told → x ≡ f is
   said f h = h ∙ ap f (sym t ∙ e)
 
   pub passed : (refusal : A → ℕ) (number : A → ℕ → ℕ) (old : ℕ) {out out′ : List ℕ} → out ≡ out′
@@ -14,7 +14,7 @@ module _ {A : Type 0} {answer is told : A} (e : answer ≡ is) (t : answer ≡ t
   passed refusal number old left = let p = sym t ∙ e in (ap refusal p, (left, ap (λ (x : A). number x old) p))
 
   -- behind a pointer
-  pub left : (f : A → ℕ → ℕ) {x old : ℕ} → x ≡ f told old → x ≡ f is old
+  pub left : {B : Type 0} (f : A → B → B) {x old : B} → x ≡ f told old → x ≡ f is old
   left f {old = old} h = said (λ x. f x old) h
 
   -- behind three of them: a length or a decision, the entry and the place

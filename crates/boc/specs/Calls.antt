@@ -1,8 +1,9 @@
 -- What each call returns, 0 or the refusal number, and what it leaves behind its pointers: a refusal leaves lengths, decisions and buffers as they
 -- were and says where it stopped; a success leaves entry and place as they were.
 use Prim.Native.Nat.{ℕ}
-use mathlib.Core.List.{List}
+use mathlib.Core.List.{List, [], _∷_}
 use lib.ListN.{length}
+use lib.Dec.{eqb}
 use Rattle.bits.specs.Bits.{pick, guard}
 use Rattle.walk.specs.declared.BitPlace.{BitPlace}
 use Rattle.walk.specs.declared.BitPlace.the-variants as bit
@@ -15,13 +16,15 @@ use Rattle.writer.specs.declared.Written.{Written}
 use Rattle.writer.specs.declared.Written.the-variants as written
 use Rattle.archive.specs.Refusals.{plain}
 use Rattle.archive.specs.Keeping.{storedRefusal, emptyIs, captureIs}
-use Rattle.archive.specs.Restoring.{restoredRefusal, restoreIs}
+use Rattle.archive.specs.Restoring.{entryIs, listedRefusal, restoredRefusal, restoreIs}
 use Rattle.archive.specs.Listing.{listIs}
 use Rattle.archive.specs.declared.contents.Key.{Key}
 use Rattle.archive.specs.declared.refusal.EntryPlace.{EntryPlace}
 use Rattle.archive.specs.declared.refusal.EntryPlace.the-variants as entry
 use Rattle.archive.specs.declared.Stored.{Stored}
 use Rattle.archive.specs.declared.Stored.the-variants as stored
+use Rattle.archive.specs.declared.Listed.{Listed}
+use Rattle.archive.specs.declared.Listed.the-variants as listed
 use Rattle.archive.specs.declared.Restored.{Restored}
 use Rattle.archive.specs.declared.Restored.the-variants as restored
 use Rattle.reload.specs.Reload.{reloadedRefusal, reloadIs, reloadOut}
@@ -104,6 +107,39 @@ emptyLength home out old = storedLength (emptyIs home (length out)) old
 -- what boc_capture answers
 abbrev pub captureAnswer : List ℕ → List ℕ → ℕ → ℕ → List ℕ → Stored
 captureAnswer b s n day out = captureIs b s n day (length out)
+
+-- ---- boc_entry
+
+-- a key as words: network, SSI, part
+abbrev pub keyWords : Key → List ℕ
+keyWords k = k .network ∷ k .ssi ∷ k .part ∷ []
+
+abbrev pub listedNumber : Listed → ℕ
+listedNumber a = listedRefusal a .number
+
+abbrev pub listedKey : Listed → List ℕ → List ℕ
+listedKey (listed.Entry e) old = keyWords (e .key)
+listedKey (listed.Refused f) old = old
+
+abbrev pub listedLength : Listed → ℕ → ℕ
+listedLength (listed.Entry e) old = e .bits .0
+listedLength (listed.Refused f) old = old
+
+abbrev pub listedDay : Listed → ℕ → ℕ
+listedDay (listed.Entry e) old = e .day
+listedDay (listed.Refused f) old = old
+
+abbrev pub listedEntry : Listed → ℕ → ℕ
+listedEntry (listed.Entry e) old = old
+listedEntry (listed.Refused f) old = entryWord (f .entry)
+
+abbrev pub listedPlace : Listed → ℕ → ℕ
+listedPlace (listed.Entry e) old = old
+listedPlace (listed.Refused f) old = placeWord (f .place)
+
+-- 9 for another count of words than 3
+unfoldable pub entryAnswer : List ℕ → ℕ → ℕ → Listed
+entryAnswer b index words = guard (eqb words 3) (listed.Refused (plain 9)) (entryIs b index)
 
 -- ---- boc_restore
 

@@ -3,6 +3,7 @@
 // A slice of words of another length than it should have gives 9, before anything else.
 use archive::EntryPlace;
 use archive::Key;
+use archive::Listed;
 use archive::Refusal;
 use archive::Restored;
 use archive::Stored;
@@ -24,6 +25,7 @@ ghost use Rattle.archive.specs.Restoring.{restoreOut};
 ghost use Rattle.archive.specs.Listing.{listOut};
 ghost use Rattle.boc.specs.Calls.{placeWord, entryWord, readNumber, readPlace, writeNumber, writeOut, writeBits, emptyNumber, emptyLength};
 ghost use Rattle.boc.specs.Calls.{storedNumber, storedLength, storedEntry, storedPlace, captureAnswer, contentsAnswer};
+ghost use Rattle.boc.specs.Calls.{keyWords, listedNumber, listedKey, listedLength, listedDay, listedEntry, listedPlace, entryAnswer};
 ghost use Rattle.boc.specs.Calls.{restoredNumber, restoredLength, restoredDay, restoredEntry, restoredPlace, keyOf, restoreAnswer};
 ghost use Rattle.boc.specs.Calls.{reloadedNumber, reloadedLength, reloadedEntry, reloadedPlace, reloadAnswer, reloadLeaves};
 ghost use Rattle.boc.specs.Calls.{externalAnswer, externalLeaves};
@@ -31,6 +33,9 @@ ghost use Rattle.boc.specs.Calls.{decidedNumber, decidedVerdict, decided
 
 // No entry, or no place: BOC_NOWHERE.
 const NOWHERE: usize = 18446744073709551615;
+
+// Words of a key.
+const KEY_WORDS: usize = 3;
 
 fn place_word(place: BitPlace) -> usize
     ensures { λ r. ⌜ r ≡ placeWord place ⌝ }
@@ -119,6 +124,45 @@ fn tell_reloaded(answer: Reloaded, bits: &mut usize, entry: &mut usize, place: &
     }
 }
 
+// The words of a key: network, SSI, part.
+fn store_key(key: Key, words: &mut [u32])
+    requires { ⌜ length (now words) ≡ 3 ⌝ }
+    ensures { λ _. ⌜ now (words .exit) ≡ keyWords key ⌝ }
+{
+    words[0] = key.network;
+    words[1] = key.ssi;
+    words[2] = key.part;
+}
+
+// An entry: its key, its length in bits and its day.
+fn tell_listed(
+    answer: Listed,
+    key: &mut [u32],
+    bits: &mut usize,
+    day: &mut u32,
+    entry: &mut usize,
+    place: &mut usize,
+) -> u32
+    requires { ⌜ length (now key) ≡ 3 ⌝ }
+    ensures { λ r. ⌜ r ≡ listedNumber answer ⌝ }
+    ensures { λ _. ⌜ now (key .exit) ≡ listedKey answer (now (key .entry)) ⌝ }
+    ensures { λ _. ⌜ now (bits .exit) ≡ listedLength answer (now (bits .entry)) ⌝ }
+    ensures { λ _. ⌜ now (day .exit) ≡ listedDay answer (now (day .entry)) ⌝ }
+    ensures { λ _. ⌜ now (entry .exit) ≡ listedEntry answer (now (entry .entry)) ⌝ }
+    ensures { λ _. ⌜ now (place .exit) ≡ listedPlace answer (now (place .entry)) ⌝ }
+{
+    match answer {
+        Listed::Entry(listed) => {
+            let user_and_part = listed.key;
+            store_key(user_and_part, key);
+            *bits = listed.bits.0;
+            *day = listed.day;
+            0
+        },
+        Listed::Refused(refusal) => refuse(refusal, entry, place),
+    }
+}
+
 // Reads the PDU of `bits` bits in `pdu`; its record goes to `record`.
 #[no_mangle]
 pub extern "C" fn boc_read(pdu: &[u8], bits: usize, record: &mut [u32], place: &mut usize) -> u32
@@ -188,6 +232,33 @@ pub extern "C" fn boc_capture(
 {
     let answer = archive::capture(archive, pdu, BitCount(bits), day, out);
     tell_stored(answer, length, entry, place)
+}
+
+// The entry at an index: network, SSI and part go to `key`, the length in bits to `bits`, the day to `day`.
+#[no_mangle]
+pub extern "C" fn boc_entry(
+    archive: &[u8],
+    index: usize,
+    key: &mut [u32],
+    bits: &mut usize,
+    day: &mut u32,
+    entry: &mut usize,
+    place: &mut usize,
+) -> u32
+    ensures { λ r. ⌜ r ≡ listedNumber (entryAnswer (now (archive .entry)) index (length (now (key .entry)))) ⌝ }
+    ensures { λ _. ⌜ now (key .exit) ≡ listedKey (entryAnswer (now (archive .entry)) index (length (now (key .entry)))) (now (key .entry)) ⌝ }
+    ensures { λ _. ⌜ now (bits .exit) ≡ listedLength (entryAnswer (now (archive .entry)) index (length (now (key .entry)))) (now (bits .entry)) ⌝ }
+    ensures { λ _. ⌜ now (day .exit) ≡ listedDay (entryAnswer (now (archive .entry)) index (length (now (key .entry)))) (now (day .entry)) ⌝ }
+    ensures { λ _. ⌜ now (entry .exit) ≡ listedEntry (entryAnswer (now (archive .entry)) index (length (now (key .entry)))) (now (entry .entry)) ⌝ }
+    ensures { λ _. ⌜ now (place .exit) ≡ listedPlace (entryAnswer (now (archive .entry)) index (length (now (key .entry)))) (now (place .entry)) ⌝ }
+{
+    if key.len() != KEY_WORDS {
+        *entry = NOWHERE;
+        *place = NOWHERE;
+        return 9;
+    }
+    let answer = archive::entry(archive, index);
+    tell_listed(answer, key, bits, day, entry, place)
 }
 
 // Restores the PDU held for a user and part; its length in bits goes to `bits`, its day to `day`.

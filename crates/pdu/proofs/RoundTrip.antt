@@ -1,16 +1,17 @@
--- Demand 2: exactly the writings of legal records are accepted, each as its one record; what was read is written as the same bits,
--- and what was written is read as the same record. Assumes nothing.
+-- Demand 2: exactly the writings of legal records are accepted, each as its one record and with its one bit length; what was read is written
+-- as the same bits, and what was written is read as the same record. Assumes nothing.
 use mathlib.Core.Path.{_≡_, refl, sym, ap, ap₂, _∙_}
 use mathlib.Core.Logic.{_↔_}
 use mathlib.Core.Bool.{Bool, true, _&&_}
 use mathlib.Core.List.{List, _++_}
 use Prim.Native.Nat.{ℕ, zero, suc, _≤_}
+use native.Mathlib.Nat.{zero-add}
 use native.Mathlib.Omega.{arith}
 use borrow.Author.Tests.{le-leb}
-use lib.ListN.{length, take, drop}
+use lib.ListN.{length, take, drop, take-append-drop}
 use lib.Seq.{take-at}
 use lib.Dec.{leb}
-use Rattle.bits.specs.Bits.{pick, Bytes}
+use Rattle.bits.specs.Bits.{pick, bits, Bytes}
 use Rattle.bits.specs.Frame.{bytesFor, bitsIn, framed, Framed, pack}
 use Rattle.bits.proofs.Frames.{framed-says, framed-is, framed-pack, length-bitsIn, length-pack, pack-bitsIn, bitsIn-pack}
 use Rattle.bits.proofs.Tests.{never, both, both⁻¹, picked}
@@ -50,20 +51,22 @@ framed-first s n r e = picked (framed s n) e (refusing-not 1 Nowhere r) .0
 pub accepted-framed : (s : List ℕ) (n : ℕ) (r : Record) → readIs s n ≡ acceptedAs r → Framed s n
 accepted-framed s n r e = framed-says s n (framed-first s n r e)
 
-pub accepted-legal : (s : List ℕ) (n : ℕ) (r : Record) → readIs s n ≡ acceptedAs r → Legal pdu r
+read-bits : (s : List ℕ) (n : ℕ) (r : Record) → readIs s n ≡ acceptedAs r → Legal pdu r × (bitsIn n s ≡ pdu .print r)
 unfolding readIs
-accepted-legal s n r e =
+read-bits s n r e =
     let e′ : answered (wholeParse pdu (bitsIn n s)) ≡ acceptedAs r = rw (framed-first s n r e) at e in
-    read-as (bitsIn n s) r (wholeParse pdu (bitsIn n s)) refl e′ .0
+    read-as (bitsIn n s) r (wholeParse pdu (bitsIn n s)) refl e′
+
+pub accepted-legal : (s : List ℕ) (n : ℕ) (r : Record) → readIs s n ≡ acceptedAs r → Legal pdu r
+accepted-legal s n r e = read-bits s n r e .0
+
+accepted-size : (s : List ℕ) (n : ℕ) (r : Record) → readIs s n ≡ acceptedAs r → n ≡ lengthOf r
+accepted-size s n r e = sym (length-bitsIn s n (accepted-framed s n r e)) ∙ ap length (read-bits s n r e .1)
 
 accepted-writing : (s : List ℕ) (n : ℕ) (r : Record) → Bytes s → readIs s n ≡ acceptedAs r → WritingOf s n r
-unfolding readIs
 accepted-writing s n r b e =
-    let f = framed-first s n r e in
-    let fr = framed-says s n f in
-    let e′ : answered (wholeParse pdu (bitsIn n s)) ≡ acceptedAs r = rw f at e in
-    let k = read-as (bitsIn n s) r (wholeParse pdu (bitsIn n s)) refl e′ in
-    record { legal = k .0; size = sym (length-bitsIn s n fr) ∙ ap length (k .1); bytes = sym (pack-bitsIn s n b fr) ∙ ap pack (k .1) }
+    let k = read-bits s n r e in
+    record { legal = k .0; size = accepted-size s n r e; bytes = sym (pack-bitsIn s n b (accepted-framed s n r e)) ∙ ap pack (k .1) }
 
 writing-accepted : (s : List ℕ) (n : ℕ) (r : Record) → WritingOf s n r → readIs s n ≡ acceptedAs r
 unfolding readIs
@@ -80,6 +83,22 @@ accepted-iff s n r b = (accepted-writing s n r b, writing-accepted s n r)
 pub record-unique : (s : List ℕ) (n : ℕ) (r q : Record) → WritingOf s n r → WritingOf s n q → r ≡ q
 record-unique s n r q a b =
     ap (λ (x : Reading). x .found) (sym (writing-accepted s n r a) ∙ writing-accepted s n q b)
+
+-- bytes that are accepted with n bits begin with that record, and it ends there, whatever stands behind it
+begins : (s : List ℕ) (n : ℕ) (r : Record) → readIs s n ≡ acceptedAs r → pdu .parse 0 (bits s) ≡ ok r n (drop n (bits s))
+begins s n r e =
+    let k = read-bits s n r e in
+    let layout : bits s ≡ pdu .print r ++ drop n (bits s) =
+    sym (take-append-drop n (bits s)) ∙ ap (λ (l : List Bool). l ++ drop n (bits s)) (k .1) in
+    ap (pdu .parse 0) layout
+    ∙ pdu .reads r (k .0 .clean) (k .0 .faultless) 0 (drop n (bits s))
+    ∙ ap (λ (m : ℕ). ok r m (drop n (bits s))) (zero-add (lengthOf r) ∙ sym (accepted-size s n r e))
+
+-- so they are accepted with one bit length only
+pub length-unique : (s : List ℕ) (n m : ℕ) (r q : Record) → readIs s n ≡ acceptedAs r → readIs s m ≡ acceptedAs q → n ≡ m
+length-unique s n m r q e f =
+    let same : ok r n (drop n (bits s)) ≡ ok q m (drop m (bits s)) = sym (begins s n r e) ∙ begins s m q f in
+    cc
 
 -- ---- what is written
 

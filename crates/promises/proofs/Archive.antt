@@ -20,6 +20,7 @@ pub mod Agreeing
 pub mod Forming
 pub mod Laying
 pub mod Finding
+pub mod Indexing
 
 pub promise : Promise
 promise = record {

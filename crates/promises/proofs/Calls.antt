@@ -23,12 +23,14 @@ use Rattle.rules.specs.Request.{requestRefusal}
 use Rattle.archive.specs.Refusals.{plain}
 use Rattle.archive.specs.Checking.{checkIs, ifArchive}
 use Rattle.archive.specs.Keeping.{storedRefusal, emptyIs}
-use Rattle.archive.specs.Restoring.{restoredRefusal}
+use Rattle.archive.specs.Restoring.{entryIs, listedRefusal, restoredRefusal}
 use Rattle.archive.specs.declared.refusal.Refusal.{Refusal}
 use Rattle.archive.specs.declared.checking.Checked as checking
 use Rattle.archive.specs.declared.checking.Checked.the-variants as checked
 use Rattle.archive.specs.declared.Stored.{Stored}
 use Rattle.archive.specs.declared.Stored.the-variants as stored
+use Rattle.archive.specs.declared.Listed.{Listed}
+use Rattle.archive.specs.declared.Listed.the-variants as listed
 use Rattle.archive.specs.declared.Restored.{Restored}
 use Rattle.archive.specs.declared.Restored.the-variants as restored
 use Rattle.archive.specs.declared.contents.Key.{Key}
@@ -45,6 +47,7 @@ use Rattle.barring.specs.declared.Decision.{Decision}
 use Rattle.barring.specs.declared.Decision.the-variants as decided
 use Rattle.boc.specs.Calls.{placeWord, entryWord, readPlaceOf, writtenLength, writeNumber, writeOut, writeBits}
 use Rattle.boc.specs.Calls.{storedNumber, storedLength, storedEntry, storedPlace, captureAnswer, contentsAnswer}
+use Rattle.boc.specs.Calls.{listedNumber, listedKey, listedLength, listedDay, listedEntry, listedPlace, entryAnswer}
 use Rattle.boc.specs.Calls.{restoredNumber, restoredLength, restoredDay, restoredEntry, restoredPlace, keyOf, restoreAnswer}
 use Rattle.boc.specs.Calls.{reloadedNumber, reloadedLength, reloadedEntry, reloadedPlace}
 use Rattle.boc.specs.Calls.{decidedNumber, decidedVerdict, decidedEntry, decidedPlace, decideAnswer}
@@ -61,6 +64,8 @@ use Rattle.promises.proofs.Demand1.Reading as reading
 use Rattle.promises.proofs.Demand1.Writing as writing
 use Rattle.promises.proofs.Demand1.Empty as empty
 use Rattle.promises.proofs.Demand1.Capture as capture
+use Rattle.promises.proofs.Demand1.Entry as entries-kept
+use Rattle.promises.specs.Demand1.Entry as entries
 use Rattle.promises.proofs.Demand1.Restore as restore
 use Rattle.promises.proofs.Demand1.Reload as reload
 use Rattle.promises.proofs.Demand1.Listing as listing
@@ -83,6 +88,12 @@ module _ (old entry place : ℕ) where
   stored-success : (a : Stored) {n : ℕ} → a ≡ stored.Bytes n → (storedLength a old ≡ n) × (storedEntry a entry ≡ entry) × (storedPlace a place ≡ place)
   stored-success a e =
       (ap (λ (x : Stored). storedLength x old) e, ap (λ (x : Stored). storedEntry x entry) e, ap (λ (x : Stored). storedPlace x place) e)
+
+  listed-refusal : (key : List ℕ) (oldDay : ℕ) (a : Listed) → (listedNumber a ≡ 0 → ⊥)
+      → (listedKey a key ≡ key) × (listedLength a old ≡ old) × (listedDay a oldDay ≡ oldDay)
+      × (listedEntry a entry ≡ entryWord (listedRefusal a .entry)) × (listedPlace a place ≡ placeWord (listedRefusal a .place))
+  listed-refusal key oldDay (listed.Entry e) h = absurd (h refl)
+  listed-refusal key oldDay (listed.Refused f) h = (refl, refl, refl, refl, refl)
 
   restored-refusal : (oldDay : ℕ) (a : Restored) → (restoredNumber a ≡ 0 → ⊥) → (f : Refusal) × (a ≡ restored.Refused f)
       × (restoredLength a old ≡ old) × (restoredDay a oldDay ≡ oldDay)
@@ -188,6 +199,41 @@ module _ (b s : List ℕ) (n day : ℕ) (out : List ℕ) (old entry place : ℕ)
     refusal = λ h.
         let r = stored-refusal old entry place (captureAnswer b s n day out) h in
         (capture.promise .refusal b s n day out (r .0) (r .1), r .2, r .3, r .4);
+  }
+
+module _ (b : List ℕ) (index : ℕ) (key : List ℕ) (old oldDay entry place : ℕ) where
+  -- an entry is given to three words
+  given-entry : listedNumber (entryAnswer b index (length key)) ≡ 0 → (eqb (length key) 3 ≡ true) × (listedNumber (entryIs b index) ≡ 0)
+  unfolding entryAnswer
+  given-entry = go (eqb (length key) 3) refl
+    where
+      go : (t : Bool) → eqb (length key) 3 ≡ t → listedNumber (pick t (entryIs b index) (listed.Refused (plain 9))) ≡ 0
+          → (eqb (length key) 3 ≡ true) × (listedNumber (entryIs b index) ≡ 0)
+      go true f e = (f, e)
+      go false f e = absurd (omega (arith, e))
+
+  pub entry-kept : call.Entry b index key old oldDay entry place
+  unfolding entryAnswer
+  entry-kept = record {
+    table =
+        subst (λ (f : Refusal). Exactly numberOf f (0 ∷ 7 ∷ 11 ∷ 9 ∷ []) (call.Checked (plain 9) (length key ≡ 3) (entries.Given b index)))
+        (sym (pick-ap listedRefusal (eqb (length key) 3) (entryIs b index) (listed.Refused (plain 9))))
+        (looked-at (eqb (length key) 3) (eqb-true (length key) 3) (eq-eqb (length key) 3) refl
+        (wider (0 ∷ 7 ∷ 11 ∷ []) (9 ∷ []) (listedRefusal (entryIs b index) .number)) (entries-kept.promise .table b index));
+    success = λ e.
+        let k = given-entry e in
+        let p = entries-kept.promise .success b index (k .1) in
+        rw (k .0) (
+          p .0,
+          p .1,
+          p .2,
+          ap (λ (x : Listed). listedKey x key) (p .3),
+          ap (λ (x : Listed). listedLength x old) (p .3),
+          ap (λ (x : Listed). listedDay x oldDay) (p .3),
+          ap (λ (x : Listed). listedEntry x entry) (p .3),
+          ap (λ (x : Listed). listedPlace x place) (p .3),
+        );
+    refusal = listed-refusal old entry place key oldDay (entryAnswer b index (length key));
   }
 
 module _ (b : List ℕ) (network ssi part : ℕ) (out : List ℕ) (old oldDay entry place : ℕ) where

@@ -13,7 +13,7 @@ use Rattle.reader.specs.Read.{readIs}
 use Rattle.reader.specs.declared.Answer.the-variants as reader
 use Rattle.judging.specs.Judge.{mayHold}
 use Rattle.archive.specs.Model.{Held, Archive, rank, bytes2, bytes3, headerBytes, entryBytes, contentsOf, bodiesOf, bytesOf, lengthOf}
-use Rattle.archive.specs.Filing.{filedKey, bodyAgrees, keepsRules}
+use Rattle.archive.specs.Filing.{filedKey, keepsRules}
 use Rattle.archive.specs.Reading.{reading, isArchive}
 use Rattle.archive.specs.Keeping.{over, put, heldFor, captured, captureIs}
 use Rattle.archive.specs.declared.Stored.the-variants as stored
@@ -27,25 +27,18 @@ use Rattle.archive.proofs.Calls.Limits.{counted}
 use Rattle.archive.proofs.Calls.Capture.{as-placed, placed-whole, capture-leaves}
 use Rattle.promises.specs.Days.{HoldsAt, dayPlace, Promise}
 use Rattle.promises.proofs.Archive.Laying.{archive-is, archive-read}
+use Rattle.promises.proofs.Archive.Indexing.{there}
 
 -- ---- in an archive that keeps the rules
 
 module _ (home : ℕ) (h : Held) (post : List Held) where
-  -- an entry behind others is above them all, and its body agrees with it
-  there : (last : ℕ) (pre : List Held) → keepsRules home last (pre ++ (h ∷ post)) ≡ true → (last < rank h) × (bodyAgrees home h ≡ true)
-  there last [] k = let u = kept home last h post k in (u .rises, u .agrees)
-  there last (x ∷ pre) k =
-      let u = kept home last x (pre ++ (h ∷ post)) k in
-      let t = there (rank x) pre (u .others) in
-      (omega (arith, u .rises, t .0), t .1)
-
   -- a PDU of its key is put in its place
   put-there : (x : Held) → rank x ≡ rank h → (last : ℕ) (pre : List Held) → keepsRules home last (pre ++ (h ∷ post)) ≡ true
       → put x (pre ++ (h ∷ post)) ≡ pre ++ (x ∷ post)
   put-there x e last [] k = rw (le-ltb (rank h) (rank x) (omega (arith, e)), eq-eqb (rank h) (rank x) (sym e))
   put-there x e last (y ∷ pre) k =
       let u = kept home last y (pre ++ (h ∷ post)) k in
-      let above = there (rank y) pre (u .others) .0 in
+      let above = there home h post (rank y) pre (u .others) .0 in
       rw (lt-ltb (rank y) (rank x) (omega (arith, e, above))) (ap (λ (l : List Held). y ∷ l) (put-there x e (rank y) pre (u .others)))
 
 -- ---- the bytes around a day
@@ -88,14 +81,14 @@ module _ (b s : List ℕ) (n index day : ℕ) (y : Bytes b) (k : HoldsAt b s n i
   abbrev home : ℕ
   home = reading b .home
 
-  held-is : reading b .held ≡ k .before ++ (k .here ∷ k .after)
-  held-is = ap (λ (a : Archive). a .held) (sym (archive-read b (k .archive))) ∙ k .split
+  held-is : reading b .held ≡ k .stands .before ++ (k .here ∷ k .stands .after)
+  held-is = ap (λ (a : Archive). a .held) (sym (archive-read b (k .archive))) ∙ k .stands .split
 
-  rules : keepsRules home 0 (k .before ++ (k .here ∷ k .after)) ≡ true
+  rules : keepsRules home 0 (k .stands .before ++ (k .here ∷ k .stands .after)) ≡ true
   rules = subst (λ (hs : List Held). keepsRules home 0 hs ≡ true) held-is (archive-formed b ok .rules)
 
   agrees : bodies.Agrees home (k .here)
-  agrees = bodies.agrees-says home (k .here) (there home (k .here) (k .after) 0 (k .before) rules .1)
+  agrees = bodies.agrees-says home (k .here) (there home (k .here) (k .stands .after) 0 (k .stands .before) rules .1)
 
   -- what the PDU is held as is what is held, on that day
   same : heldFor home s n day ≡ on (k .here) day
@@ -103,21 +96,21 @@ module _ (b s : List ℕ) (n index day : ℕ) (y : Bytes b) (k : HoldsAt b s n i
       let key = (λ i. filedKey home (readIs (sym (k .body) i) (sym (k .bits) i) .found)) ∙ sym (agrees .key) in
       λ i. record { entry = record { key = key i; bits = record { 0 = sym (k .bits) i }; day = day }; body = sym (k .body) i }
 
-  captured-is : captured b s n day ≡ record { home = home; held = k .before ++ (on (k .here) day ∷ k .after) }
+  captured-is : captured b s n day ≡ record { home = home; held = k .stands .before ++ (on (k .here) day ∷ k .stands .after) }
   unfolding captured
   captured-is =
-      let put-is : put (heldFor home s n day) (reading b .held) ≡ k .before ++ (on (k .here) day ∷ k .after) =
-      (λ i. put (same i) (held-is i)) ∙ put-there home (k .here) (k .after) (on (k .here) day) refl 0 (k .before) rules in
+      let put-is : put (heldFor home s n day) (reading b .held) ≡ k .stands .before ++ (on (k .here) day ∷ k .stands .after) =
+      (λ i. put (same i) (held-is i)) ∙ put-there home (k .here) (k .stands .after) (on (k .here) day) refl 0 (k .stands .before) rules in
       λ i. record { home = home; held = put-is i }
 
-  before-is : reading b ≡ record { home = home; held = k .before ++ (k .here ∷ k .after) }
+  before-is : reading b ≡ record { home = home; held = k .stands .before ++ (k .here ∷ k .stands .after) }
   before-is = λ i. record { home = home; held = held-is i }
 
   size : lengthOf (captured b s n day) ≡ length b
-  size = ap lengthOf captured-is ∙ as-long home (k .before) (k .here) (k .after) day ∙ sym (ap lengthOf before-is) ∙ sym (counted b ok .size)
+  size = ap lengthOf captured-is ∙ as-long home (k .stands .before) (k .here) (k .stands .after) day ∙ sym (ap lengthOf before-is) ∙ sym (counted b ok .size)
 
   many : length (captured b s n day .held) ≡ length (reading b .held)
-  many = ap (λ (a : Archive). length (a .held)) captured-is ∙ as-many home (k .before) (k .here) (k .after) day ∙ sym (ap length held-is)
+  many = ap (λ (a : Archive). length (a .held)) captured-is ∙ as-many home (k .stands .before) (k .here) (k .stands .after) day ∙ sym (ap length held-is)
 
   answer : (room : ℕ) → length b ≤ room → captureIs b s n day room ≡ stored.Bytes (length b)
   answer room h =
@@ -135,12 +128,12 @@ module _ (b s : List ℕ) (n index day : ℕ) (y : Bytes b) (k : HoldsAt b s n i
 
   bytes : bytesOf (captured b s n day) ≡ splice b (dayPlace index) (day / 256 ∷ day % 256 ∷ [])
   bytes =
-      let new = ap bytesOf captured-is ∙ around home (k .before) (k .here) (k .after) day in
-      let old : b ≡ front home (k .before) (k .here) (k .after) ++ (bytes2 (k .here .entry .day) ++ back home (k .before) (k .here) (k .after)) =
-      sym (written-as-read b y ok) ∙ ap bytesOf before-is ∙ around home (k .before) (k .here) (k .after) (k .here .entry .day) in
-      let at = front-length home (k .before) (k .here) (k .after) ∙ ap dayPlace (k .standing) in
+      let new = ap bytesOf captured-is ∙ around home (k .stands .before) (k .here) (k .stands .after) day in
+      let old : b ≡ front home (k .stands .before) (k .here) (k .stands .after) ++ (bytes2 (k .here .entry .day) ++ back home (k .stands .before) (k .here) (k .stands .after)) =
+      sym (written-as-read b y ok) ∙ ap bytesOf before-is ∙ around home (k .stands .before) (k .here) (k .stands .after) (k .here .entry .day) in
+      let at = front-length home (k .stands .before) (k .here) (k .stands .after) ∙ ap dayPlace (k .stands .standing) in
       new ∙ sym (ap (λ (x : List ℕ). splice x (dayPlace index) (day / 256 ∷ day % 256 ∷ [])) old
-      ∙ splice-at (front home (k .before) (k .here) (k .after)) (bytes2 (k .here .entry .day)) (back home (k .before) (k .here) (k .after)) (bytes2 day)
+      ∙ splice-at (front home (k .stands .before) (k .here) (k .stands .after)) (bytes2 (k .here .entry .day)) (back home (k .stands .before) (k .here) (k .stands .after)) (bytes2 day)
       (dayPlace index) at refl)
 
 pub promise : Promise

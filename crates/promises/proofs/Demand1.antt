@@ -4,6 +4,7 @@ pub mod Writing
 pub mod Empty
 pub mod Capture
 pub mod Restore
+pub mod Entry
 pub mod Reload
 pub mod Listing
 pub mod Decision

@@ -6,7 +6,7 @@ use Prim.Native.Nat.{ℕ}
 use Rattle.bits.proofs.Tests.{differ}
 use Rattle.promises.specs.Answers.{isOneOf, OneOf, Exactly}
 use Rattle.promises.specs.Retired.{Promise}
-use Rattle.promises.proofs.Calls.{read-kept, write-kept, empty-kept, capture-kept, restore-kept, reload-kept, decide-kept, contents-kept}
+use Rattle.promises.proofs.Calls.{read-kept, write-kept, empty-kept, capture-kept, entry-kept, restore-kept, reload-kept, decide-kept, contents-kept}
 
 -- a table whose list of numbers does not have 10
 unlisted {ℓ} : {A : Type 0} {number : A → ℕ} {answer : A} {numbers : List ℕ} {Given : A → Type ℓ} → Exactly number answer numbers Given
@@ -19,6 +19,7 @@ promise = record {
   write = λ words out. unlisted (write-kept words out 0 .table) refl;
   empty = λ home out. unlisted (empty-kept home out 0 .table) refl;
   capture = λ b s n day out. unlisted (capture-kept b s n day out 0 0 0 .table) refl;
+  entry = λ b index key. unlisted (entry-kept b index key 0 0 0 0 .table) refl;
   restore = λ b network ssi part out. unlisted (restore-kept b network ssi part out 0 0 0 0 .table) refl;
   reload = λ t b key d out. unlisted (reload-kept t b key d out 0 0 0 .table) refl;
   decide = λ b words. unlisted (decide-kept b words 0 0 0 .table) refl;

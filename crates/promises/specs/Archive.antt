@@ -3,7 +3,7 @@
 use mathlib.Core.Path.{_≡_}
 use mathlib.Core.Logic.{_↔_, _⊎_}
 use mathlib.Core.Bool.{true, false}
-use mathlib.Core.List.{List, [], _∷_, List·Memᴰ}
+use mathlib.Core.List.{List, [], _∷_, _++_, List·Memᴰ}
 use mathlib.Core.Option.{none, some}
 use Prim.Native.Nat.{ℕ, _+_, _*_, _/_, _≤_, _<_}
 use lib.ListN.{length, getD, take, drop}
@@ -117,6 +117,13 @@ pub record Ranged (k : Key) : Type 0 where
 pub record HeldFor (hs : List Held) (k : Key) (h : Held) : Type 0 where
   pub among : List·Memᴰ h hs
   pub for : h .entry .key ≡ k
+
+-- it stands among these at an index, from 0
+pub record StandsAt (hs : List Held) (index : ℕ) (h : Held) : Type 0 where
+  pub before : List Held
+  pub after : List Held
+  pub split : hs ≡ before ++ (h ∷ after)
+  pub standing : length before ≡ index
 
 -- ---- the tests of the calls say the same. Proved in proofs/Archive.antt.
 

@@ -1,4 +1,4 @@
--- Demand 1 as C meets it, about the nine calls of include/boc.h: each returns 0 or a number of its list, exactly then. If it is not 0, the
+-- Demand 1 as C meets it, about the ten calls of include/boc.h: each returns 0 or a number of its list, exactly then. If it is not 0, the
 -- lent memory and the length, day or decision behind its pointer are what they were, and the pointers to entry and place hold those of the refusal,
 -- or BOC_NOWHERE; if it is 0, its pointer holds exactly the length, the day or the decision, and entry and place are what they were.
 use mathlib.Core.Path.{_≡_}
@@ -16,7 +16,7 @@ use Rattle.writer.specs.Write.{lengthOf}
 use Rattle.archive.specs.Model.{Held, bytesOf}
 use Rattle.archive.specs.Refusals.{plain}
 use Rattle.archive.specs.Keeping.{storedRefusal, over, captured, emptyOut, captureOut}
-use Rattle.archive.specs.Restoring.{restoredRefusal, restoreOut}
+use Rattle.archive.specs.Restoring.{listedRefusal, restoredRefusal, restoreOut}
 use Rattle.archive.specs.Listing.{listOut}
 use Rattle.archive.specs.Listing as lists
 use Rattle.archive.specs.declared.contents.Key.{Key}
@@ -31,16 +31,18 @@ use Rattle.barring.specs.Decide.{partIn, decideIs}
 use Rattle.barring.specs.Decision.{decidedRefusal}
 use Rattle.boc.specs.Calls.{placeWord, entryWord, readNumber, readPlace, writeNumber, writeOut, writeBits, emptyNumber, emptyLength}
 use Rattle.boc.specs.Calls.{storedNumber, storedLength, storedEntry, storedPlace, captureAnswer, contentsAnswer}
+use Rattle.boc.specs.Calls.{listedNumber, listedKey, listedLength, listedDay, listedEntry, listedPlace, entryAnswer}
 use Rattle.boc.specs.Calls.{restoredNumber, restoredLength, restoredDay, restoredEntry, restoredPlace, keyOf, restoreAnswer}
 use Rattle.boc.specs.Calls.{reloadedNumber, reloadedLength, reloadedEntry, reloadedPlace, definitionOf}
 use Rattle.boc.specs.Calls.{decidedNumber, decidedVerdict, decidedEntry, decidedPlace, decideAnswer}
 use Rattle.promises.specs.Answers.{Exactly}
-use Rattle.promises.specs.Archive.{IsArchive, HeldFor}
+use Rattle.promises.specs.Archive.{IsArchive, HeldFor, StandsAt}
 use Rattle.promises.specs.Broken.{numberOf}
 use Rattle.promises.specs.Demand1.Reading as reading
 use Rattle.promises.specs.Demand1.Writing as writing
 use Rattle.promises.specs.Demand1.Empty as empty
 use Rattle.promises.specs.Demand1.Capture as capture
+use Rattle.promises.specs.Demand1.Entry as entries
 use Rattle.promises.specs.Demand1.Restore as restore
 use Rattle.promises.specs.Demand1.Reload as reload
 use Rattle.promises.specs.Demand1.Decision as decision
@@ -111,6 +113,22 @@ pub record Capture (archive pdu′ : List ℕ) (bits day : ℕ) (out : List ℕ)
       (storedNumber answer ≡ 0 → ⊥) → let f = storedRefusal answer in
       (captureOut archive pdu′ bits day out ≡ out) × (storedLength answer old ≡ old)
       × (storedEntry answer entry ≡ entryWord (f .entry)) × (storedPlace answer place ≡ placeWord (f .place))
+
+-- boc_entry: 0, 9 for another count of words than 3, 7, 11
+pub record Entry (archive : List ℕ) (index : ℕ) (key : List ℕ) (old oldDay entry place : ℕ) : Type 0 where
+  pub table : let answer = entryAnswer archive index (length key) in
+      Exactly numberOf (listedRefusal answer) (0 ∷ 7 ∷ 11 ∷ 9 ∷ []) (Checked (plain 9) (length key ≡ 3) (entries.Given archive index))
+  -- the entry that stands there: its key, its bits and its day
+  pub success : let answer = entryAnswer archive index (length key) in
+      listedNumber answer ≡ 0
+      → (k : IsArchive archive) × (h : Held) × StandsAt (k .archive .held) index h
+      × (listedKey answer key ≡ h .entry .key .network ∷ h .entry .key .ssi ∷ h .entry .key .part ∷ [])
+      × (listedLength answer old ≡ h .entry .bits .0) × (listedDay answer oldDay ≡ h .entry .day)
+      × (listedEntry answer entry ≡ entry) × (listedPlace answer place ≡ place)
+  pub refusal : let answer = entryAnswer archive index (length key) in
+      (listedNumber answer ≡ 0 → ⊥) → let f = listedRefusal answer in
+      (listedKey answer key ≡ key) × (listedLength answer old ≡ old) × (listedDay answer oldDay ≡ oldDay)
+      × (listedEntry answer entry ≡ entryWord (f .entry)) × (listedPlace answer place ≡ placeWord (f .place))
 
 -- boc_restore
 pub record Restore (archive : List ℕ) (network ssi part : ℕ) (out : List ℕ) (old oldDay entry place : ℕ) : Type 0 where

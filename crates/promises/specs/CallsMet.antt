@@ -14,9 +14,10 @@ use Rattle.rules.specs.Request.{requests}
 use Rattle.rules.specs.Rule.{rules}
 use Rattle.archive.specs.Model.{inRange}
 use Rattle.archive.specs.Filing.{filingOf, bodyAgrees}
-use Rattle.archive.specs.Restoring.{restoreIs}
+use Rattle.archive.specs.Restoring.{heldNth, entryIs, restoreIs}
 use Rattle.archive.specs.Listing.{digits, decimal, item, twoItems, firstLine, lines, listing, listIs}
 use Rattle.archive.specs.declared.Stored.{Stored}
+use Rattle.archive.specs.declared.Listed.{Listed}
 use Rattle.archive.specs.declared.Restored.{Restored}
 use Rattle.reload.specs.declared.Reloaded.{Reloaded}
 use Rattle.archive.specs.Examples.{calls, profileA, bytesA}
@@ -28,6 +29,7 @@ use Rattle.boc.specs.Calls.{nowhere, readNumber, readPlace, writeNumber, writeB
 use Rattle.boc.specs.Calls.{storedNumber, storedLength, storedEntry, storedPlace, captureAnswer, contentsAnswer}
 use Rattle.reload.specs.Define.{isDefinition, defineOf, standsIn}
 use Rattle.reload.specs.Reload.{reloadIs}
+use Rattle.boc.specs.Calls.{listedNumber, listedKey, listedLength, listedDay, listedEntry, listedPlace, entryAnswer}
 use Rattle.boc.specs.Calls.{restoredNumber, restoredLength, restoredDay, restoredEntry, restoredPlace, restoreAnswer}
 use Rattle.boc.specs.Calls.{reloadedNumber, reloadedLength, reloadedEntry, reloadedPlace, reloadAnswer, externalAnswer}
 use Rattle.boc.specs.Calls.{decidedNumber, decidedVerdict, decidedEntry, decidedPlace, decideAnswer}
@@ -77,9 +79,12 @@ empty-length : emptyLength 1 (lent 5) 77 ∷ emptyLength 1 (lent 4) 77 ∷ [] �
 unfolding calls
 empty-length = refl
 
--- number, entry and place of what boc_capture, boc_restore, boc_reload, boc_reload_external, boc_contents and boc_decide answer; a success leaves 77
+-- number, entry and place of what boc_capture, boc_entry, boc_restore, boc_reload, boc_reload_external, boc_contents and boc_decide answer; a success leaves 77
 abbrev stored : Stored → List ℕ
 stored a = storedNumber a ∷ storedEntry a 77 ∷ storedPlace a 77 ∷ []
+
+abbrev listed : Listed → List ℕ
+listed a = listedNumber a ∷ listedEntry a 77 ∷ listedPlace a 77 ∷ []
 
 abbrev restored : Restored → List ℕ
 restored a = restoredNumber a ∷ restoredEntry a 77 ∷ restoredPlace a 77 ∷ []
@@ -117,6 +122,21 @@ capture-length : storedLength (captureAnswer (lent 5) profileA 138 300 (lent 34)
     ≡ 34 ∷ 77 ∷ []
 unfolding calls
 capture-length = refl
+
+entry-met : (listed (entryAnswer bytesA 0 3) ≡ 0 ∷ 77 ∷ 77 ∷ [])
+    × (listed (entryAnswer [] 1 4) ≡ 9 ∷ nowhere ∷ nowhere ∷ [])
+    × (listed (entryAnswer [] 1 3) ≡ 7 ∷ nowhere ∷ nowhere ∷ [])
+    × (listed (entryAnswer damagedA 1 3) ≡ 7 ∷ 0 ∷ 6 ∷ [])
+    × (listed (entryAnswer bytesA 1 3) ≡ 11 ∷ nowhere ∷ nowhere ∷ [])
+unfolding calls bodyAgrees filingOf entryIs heldNth entryAnswer
+entry-met = (refl, refl, refl, refl, refl)
+
+-- its key, its bits and its day; a refusal leaves what was there
+entry-told : let a = entryAnswer bytesA 0 3 in let none = entryAnswer bytesA 1 3 in
+    (listedKey a (7 ∷ 7 ∷ 7 ∷ []) ≡ 1 ∷ 5 ∷ 1 ∷ []) × (listedLength a 77 ∷ listedDay a 77 ∷ [] ≡ 138 ∷ 300 ∷ [])
+    × (listedKey none (7 ∷ 7 ∷ 7 ∷ []) ≡ 7 ∷ 7 ∷ 7 ∷ []) × (listedLength none 77 ∷ listedDay none 77 ∷ [] ≡ 77 ∷ 77 ∷ [])
+unfolding calls bodyAgrees filingOf entryIs heldNth entryAnswer
+entry-told = (refl, refl, refl, refl)
 
 restore-met : (restored (restoreAnswer bytesA 1 5 1 (lent 18)) ≡ 0 ∷ 77 ∷ 77 ∷ [])
     × (restored (restoreAnswer bytesA 1 5 3 (lent 18)) ≡ 9 ∷ nowhere ∷ nowhere ∷ [])

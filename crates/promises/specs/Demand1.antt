@@ -3,6 +3,7 @@ pub mod Reading
 pub mod Writing
 pub mod Empty
 pub mod Capture
+pub mod Entry
 pub mod Restore
 pub mod Reload
 pub mod Listing

@@ -1,5 +1,5 @@
--- Demand 2: exactly the legal PDUs are read, each as its one record; what was read is written as the same bits, and what was written is read as
--- the same record.
+-- Demand 2: exactly the legal PDUs are read, each as its one record and with its one bit length; what was read is written as the same bits,
+-- and what was written is read as the same record.
 use mathlib.Core.Path.{_≡_}
 use mathlib.Core.Logic.{_↔_}
 use mathlib.Core.List.{List, _++_}
@@ -23,6 +23,10 @@ read-exactly-legal = trip.accepted-iff
 -- It is the writing of one record only.
 pub one-record : (s : List ℕ) (n : ℕ) (r q : Record) → WritingOf s n r → WritingOf s n q → r ≡ q
 one-record = trip.record-unique
+
+-- Bytes are accepted with one bit length only, so with at most one of the eight that they could have.
+pub one-length : (s : List ℕ) (n m : ℕ) (r q : Record) → readIs s n ≡ acceptedAs r → readIs s m ≡ acceptedAs q → n ≡ m
+one-length = trip.length-unique
 
 -- A legal record is written wherever there is room; its length is the sum of its element lengths.
 pub legal-written : (r : Record) (out : List ℕ) → Legal pdu r → bytesFor (lengthOf r) ≤ length out → writeIs r out ≡ Bits (record { 0 = lengthOf r })

@@ -1,5 +1,7 @@
 //! The codes of elements, requests and decisions.
 
+use core::fmt;
+
 /// An enum of codes, with its numbers both ways.
 macro_rules! codes {
     ($(#[$note:meta])* $name:ident { $($(#[$about:meta])* $code:ident = $number:literal,)* }) => {
@@ -219,5 +221,18 @@ impl Decision {
     /// The cause with which the call is barred, if it is.
     pub const fn cause(self) -> Option<RejectionCause> {
         RejectionCause::from_number(self.number())
+    }
+}
+
+/// The words of the C header's `boc_decision_text`.
+impl fmt::Display for Decision {
+    fn fmt(&self, f: &mut fmt::Formatter<'_>) -> fmt::Result {
+        f.write_str(match self {
+            Decision::OutsideGroup => "barred: called party outside allowed user group",
+            Decision::RestrictedService => "barred: restricted service type",
+            Decision::RestrictedDestination => "barred: restricted destination address",
+            Decision::Allowed => "allowed",
+            Decision::NotHeld => "the part that judges the call is not held: this allows nothing",
+        })
     }
 }

@@ -37,6 +37,17 @@ mod c {
             entry: *mut usize,
             place: *mut usize,
         ) -> u32;
+        pub fn boc_entry(
+            archive: *const u8,
+            archive_len: usize,
+            index: usize,
+            key: *mut u32,
+            key_words: usize,
+            bits: *mut usize,
+            day: *mut u32,
+            entry: *mut usize,
+            place: *mut usize,
+        ) -> u32;
         pub fn boc_restore(
             archive: *const u8,
             archive_len: usize,
@@ -152,6 +163,21 @@ pub fn capture(
     unsafe {
         c::boc_capture(held, held_len, pdu.as_ptr(), pdu.len(), bits, day, out, out_len, length, entry, place)
     }
+}
+
+/// `boc_entry`.
+pub fn entry(
+    archive: &[u8],
+    index: usize,
+    key: &mut [u32],
+    bits: &mut usize,
+    day: &mut u32,
+    Spot { entry, place }: &mut Spot,
+) -> u32 {
+    let (held, held_len) = (archive.as_ptr(), archive.len());
+    let (key, key_words) = (key.as_mut_ptr(), key.len());
+    // SAFETY: slices and references, as above.
+    unsafe { c::boc_entry(held, held_len, index, key, key_words, bits, day, entry, place) }
 }
 
 /// `boc_restore`.

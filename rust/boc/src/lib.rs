@@ -48,6 +48,11 @@
 //! assert_eq!(restore(archive, user, Part::Identity, &mut back), Ok(Restored { bits, day }));
 //! assert_eq!(&back[..pdu.len()], pdu);
 //!
+//! // All that is held, by its entries.
+//! for Entry { user, part, bits, day } in entries(archive)? {
+//!     assert_eq!(restore(archive, user, part, &mut back), Ok(Restored { bits, day }));
+//! }
+//!
 //! let definition = Definition { definition_type: DefinitionType::Replacement, ..Definition::default() };
 //! let define_bits = reload(archive, user, Part::Identity, definition, &mut back)?;
 //! let define = read(&back[..define_bits.div_ceil(8)], define_bits)?;
@@ -67,6 +72,7 @@
 #![warn(missing_docs)]
 
 mod codes;
+mod entries;
 pub mod ffi;
 mod record;
 mod refusal;
@@ -77,6 +83,7 @@ pub use codes::{
     Decision, DefinitionResult, DefinitionType, DeliveryStatus, DistributionResult, InterrogationType,
     Outcome, Part, PduType, RejectionCause, Service,
 };
+pub use entries::{entries, entry, Entries, Entry, KEY_WORDS};
 pub use record::{Definition, Identities, Identity, List, Number, Numbers, Record, Services, RECORD_WORDS};
 pub use refusal::{Refusal, Refused};
 pub use request::{Destination, Party, Request, REQUEST_WORDS};
@@ -146,7 +153,7 @@ pub fn restore(archive: &[u8], user: Party, part: Part, out: &mut [u8]) -> Resul
     let Party { network, ssi } = user;
     let (bits, day) =
         answer(|(bits, day), spot| ffi::restore(archive, network, ssi, part.number(), out, bits, day, spot))?;
-    Ok(Restored { bits, day: u16::try_from(day).expect("a day that is held has 16 bits") })
+    Ok(Restored { bits, day: day_of(day) })
 }
 
 /// Writes the part held for a user to the front of `out` as a DEFINE, with the affected user, the services
@@ -211,6 +218,11 @@ pub fn decide(archive: &[u8], request: &Request) -> Result<Decision, Refused> {
 /// Refuses with [`Archive`](Refusal::Archive), then with [`Room`](Refusal::Room).
 pub fn contents(archive: &[u8], out: &mut [u8]) -> Result<usize, Refused> {
     answer(|length, spot| ffi::contents(archive, out, length, spot))
+}
+
+/// A day as a call gives it.
+fn day_of(word: u32) -> u16 {
+    u16::try_from(word).expect("a day that is held has 16 bits")
 }
 
 /// The number, or the numbers, that a call on an archive answers, or its refusal.

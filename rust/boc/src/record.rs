@@ -104,9 +104,8 @@ impl<T: Copy + Default> List<T> {
     /// A list of single entries, at most eight.
     pub fn of<const N: usize>(entries: [T; N]) -> Self {
         const { assert!(N <= PLACES) };
-        let mut places = [T::default(); PLACES];
-        places[..N].copy_from_slice(&entries);
-        List { range_type: N as u32, places }
+        let (range_type, places) = placed(&entries).expect("there is a place for each");
+        List { range_type, places }
     }
 
     /// The entries: of a range the first and the last.
@@ -119,6 +118,31 @@ impl<T: Copy + Default> List<T> {
     pub fn is_range(&self) -> bool {
         self.range_type == RANGE
     }
+}
+
+/// A list of single entries, at most eight: more are refused with [`Refusal::Value`].
+///
+/// ```
+/// use boc::{Identities, Identity, Refusal};
+///
+/// let friends = [7, 8].map(Identity::without_extension).to_vec();
+/// assert_eq!(Identities::try_from(&friends[..])?.entries(), friends);
+/// assert_eq!(Identities::try_from(&[friends[0]; 9][..]), Err(Refusal::Value));
+/// # Ok::<(), Refusal>(())
+/// ```
+impl<T: Copy + Default> TryFrom<&[T]> for List<T> {
+    type Error = Refusal;
+
+    fn try_from(entries: &[T]) -> Result<Self, Refusal> {
+        placed(entries).map(|(range_type, places)| List { range_type, places })
+    }
+}
+
+/// How many values there are, and they in their places; refused if there are more than places.
+fn placed<T: Copy + Default, const N: usize>(values: &[T]) -> Result<(u32, [T; N]), Refusal> {
+    let mut places = [T::default(); N];
+    places.get_mut(..values.len()).ok_or(Refusal::Value)?.copy_from_slice(values);
+    Ok((values.len() as u32, places))
 }
 
 impl Identities {
@@ -146,14 +170,22 @@ impl Services {
     /// These services, at most seven.
     pub fn of<const N: usize>(services: [Service; N]) -> Self {
         const { assert!(N <= SERVICES) };
-        let mut places = [Service::default(); SERVICES];
-        places[..N].copy_from_slice(&services);
-        Services { count: N as u32, places }
+        let (count, places) = placed(&services).expect("there is a place for each");
+        Services { count, places }
     }
 
     /// The services.
     pub fn as_slice(&self) -> &[Service] {
         &self.places[..(self.count as usize).min(SERVICES)]
+    }
+}
+
+/// These services, at most seven: more are refused with [`Refusal::Value`].
+impl TryFrom<&[Service]> for Services {
+    type Error = Refusal;
+
+    fn try_from(services: &[Service]) -> Result<Self, Refusal> {
+        placed(services).map(|(count, places)| Services { count, places })
     }
 }
 

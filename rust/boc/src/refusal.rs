@@ -26,7 +26,7 @@ pub enum Refusal {
     Room = 8,
     /// A request, user, part, definition, home network, day or count of words out of its range.
     Range = 9,
-    /// Restore and reload: not held.
+    /// Restore and reload: not held; entry: none has this index.
     NotHeld = 11,
     /// Reload: a held list that is not empty has no place in the PDU.
     Loss = 12,

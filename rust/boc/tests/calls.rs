@@ -37,6 +37,9 @@ fn define_a() -> Record {
     }
 }
 
+/// Bytes of an archive's header, and of an entry of its contents.
+const HEADER: usize = 5;
+const LINE: usize = 11;
 /// The day that the example's PDU is captured under.
 const DAY: u16 = 300;
 
@@ -372,6 +375,52 @@ fn the_last_day_given_is_kept() {
 }
 
 #[test]
+fn entries_are_given_by_their_index() {
+    let visitor = Identity { ssi: 4, extension: Some(7) };
+    let archive = captured(&Record { affected: List::of([visitor]), ..profile_a() }, &example()).unwrap();
+    let archive = captured_on(301, &number_part(), &archive).unwrap();
+    let number = Entry { user: USER, part: Part::Number, bits: 129, day: 301 };
+    let expected = [
+        Entry { user: USER, part: Part::Identity, bits: 138, day: DAY },
+        number,
+        Entry { user: Party { network: 7, ssi: 4 }, part: Part::Identity, bits: 162, day: DAY },
+    ];
+    assert_eq!(entry(&archive, 1), Ok(number));
+    for index in [3, 4, usize::MAX] {
+        assert_eq!(entry(&archive, index), refused(Refusal::NotHeld, None, None));
+    }
+    let mut all = entries(&archive).unwrap();
+    assert!(all.by_ref().eq(expected));
+    assert_eq!(all.next(), None);
+    assert_eq!(entries(&[0, 0, 1, 0, 0]).unwrap().next(), None);
+
+    // Each is what restore takes and gives.
+    for Entry { user, part, bits, day } in entries(&archive).unwrap() {
+        assert_eq!(restore(&archive, user, part, &mut [0; PDU_BYTES]), Ok(Restored { bits, day }));
+    }
+    let mut damaged = archive.clone();
+    // The first body's PDU type.
+    damaged[HEADER + 3 * LINE] ^= 1;
+    assert_eq!(entries(&damaged).map(|_| ()), refused(Refusal::Archive, Some(0), Some(6)));
+    assert_eq!(entry(&damaged, 9), refused(Refusal::Archive, Some(0), Some(6)));
+
+    // Through the C call a count of words can be wrong: 9, before 7; a refusal leaves key, bits and day.
+    for words in [0, 2, 4] {
+        let (mut bits, mut day, mut spot) = (7, 7, ffi::Spot { entry: 7, place: 7 });
+        let mut key = vec![7; words];
+        assert_eq!(ffi::entry(&[], 0, &mut key, &mut bits, &mut day, &mut spot), 9);
+        assert_eq!((key, bits, day, spot), (vec![7; words], 7, 7, ffi::Spot::NONE));
+    }
+    let (mut bits, mut day, mut spot) = (7, 7, ffi::Spot { entry: 7, place: 7 });
+    let mut key = [7; KEY_WORDS];
+    assert_eq!(ffi::entry(&archive, 3, &mut key, &mut bits, &mut day, &mut spot), 11);
+    assert_eq!((key, bits, day, spot), ([7; KEY_WORDS], 7, 7, ffi::Spot::NONE));
+    spot = ffi::Spot { entry: 7, place: 7 };
+    assert_eq!(ffi::entry(&archive, 2, &mut key, &mut bits, &mut day, &mut spot), 0);
+    assert_eq!((key, bits, day, spot), ([7, 4, 1], 162, 300, ffi::Spot { entry: 7, place: 7 }));
+}
+
+#[test]
 fn the_longest_listing_is_so_long() {
     let line = "16777215 16777215 part 1 bits 2113 day 65535\n";
     assert_eq!(CONTENTS_BYTES, "home 16777215 entries 512\n".len() + 512 * line.len());
@@ -440,4 +489,34 @@ fn lists_take_eight_entries() {
     let bits = write(&record, &mut pdu).unwrap();
     assert_eq!(read(&pdu[..bits.div_ceil(8)], bits), Ok(record));
     assert_eq!(captured(&record, &example()), refused(Refusal::Unfit, None, None));
+}
+
+#[test]
+fn lists_and_services_are_made_of_slices() {
+    let identities: Vec<_> = (1..=9).map(Identity::without_extension).collect();
+    for count in 0..=8 {
+        assert_eq!(Identities::try_from(&identities[..count]).unwrap().entries(), &identities[..count]);
+    }
+    assert_eq!(Identities::try_from(&identities[..1]), Ok(List::of([identities[0]])));
+    assert_eq!(Identities::try_from(&identities[..]), Err(Refusal::Value));
+    assert_eq!(Numbers::try_from(&["112".parse().unwrap(); 9][..]), Err(Refusal::Value));
+
+    let services = [Service::Data; 8];
+    for count in 0..=7 {
+        assert_eq!(Services::try_from(&services[..count]).unwrap().as_slice(), &services[..count]);
+    }
+    assert_eq!(Services::try_from(&services[..1]), Ok(Services::of([Service::Data])));
+    assert_eq!(Services::try_from(&services[..]), Err(Refusal::Value));
+}
+
+#[test]
+fn decisions_have_the_words_of_the_header() {
+    let header = include_str!("../../../include/boc.h");
+    for number in 0..5 {
+        let decision = Decision::from_number(number).unwrap();
+        let code = format!(" = {number}");
+        let said = header.lines().skip_while(|line| *line != "enum boc_decision {");
+        let line = said.take_while(|line| *line != "};").find(|line| line.contains(&code)).unwrap();
+        assert!(line.ends_with(&format!("/* {decision} */")), "{decision}: {line}");
+    }
 }

@@ -246,6 +246,12 @@ impl Archive {
     }
 }
 
+/// Indices at which an archive of so many entries has none: the next, one further, one of more than 16 bits, one
+/// whose entry would stand in the archive if its place were reckoned with 64 bits, the greatest.
+pub fn beyond(count: usize) -> [usize; 5] {
+    [count, count + 1, 1 << 16, usize::MAX / LINE + 1, usize::MAX]
+}
+
 /// What may be at fault in an archive: its shape, or a body in one of these ways. Numbers are the refusals of
 /// a body that bring a place.
 pub const FAULTS: [&str; 10] = [

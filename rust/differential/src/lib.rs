@@ -16,8 +16,8 @@ mod rng;
 pub mod typed;
 
 pub use archives::{
-    all_unfit, fault, lacking, unfit, Archive, Entry, DAMAGES, DAYS_BITS, FAULTS, HEADER, LACKS, LINE,
-    MAX_BYTES, MAX_ENTRIES,
+    all_unfit, beyond, fault, lacking, unfit, Archive, Entry, DAMAGES, DAYS_BITS, FAULTS, HEADER, LACKS,
+    LINE, MAX_BYTES, MAX_ENTRIES,
 };
 pub use days::{day, offered_day, NO_DAYS};
 pub use definitions::{definition, Definition, DEFINITIONS};

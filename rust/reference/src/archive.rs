@@ -1,7 +1,8 @@
-//! The archive: check, empty, capture, restore.
+//! The archive: check, empty, capture, its entries, restore.
 
 use crate::bits::Cursor;
 use crate::codes::{Rest, INTERROGATE_ACK};
+use crate::layout::KEY_WORDS;
 use crate::pdu::{frame, unused_bits_are_zero, walk, Head, Judge, MAX_BITS};
 use crate::refusal::{Refusal, Refused};
 
@@ -112,7 +113,7 @@ struct Place {
     held: Option<Line>,
 }
 
-/// What a restored PDU has besides its bytes.
+/// What a PDU that is held has besides its bytes and its key.
 #[derive(Clone, Copy, Debug, PartialEq, Eq)]
 pub struct Restored {
     /// Its length in bits.
@@ -249,6 +250,16 @@ pub fn capture(archive: &[u8], pdu: &[u8], bits: usize, day: u32, out: &mut [u8]
     append(pdu);
     append(&archive[next_body..]);
     Ok(length)
+}
+
+/// Writes network, SSI and part of the entry at an index, from 0, to `key` and returns the length in bits and
+/// the day of its PDU. Refuses with 9 for another count of words, 7, 11 for an index that is not below the
+/// count of entries.
+pub fn entry(archive: &[u8], index: usize, key: &mut [u32]) -> Result<Restored, Refused> {
+    let words = <&mut [u32; KEY_WORDS]>::try_from(key).map_err(|_| Refusal::Range)?;
+    let Line { key, bits, day } = Archive::check(archive)?.lines().nth(index).ok_or(Refusal::NotHeld)?;
+    *words = [key.network(), key.ssi(), key.part()];
+    Ok(Restored { bits, day })
 }
 
 /// Writes the PDU held for a user and part to `out` and returns its length in bits and its day.

@@ -1,9 +1,11 @@
-//! The words of 32 bits in which records and requests cross the boundary.
+//! The words of 32 bits in which records, requests and keys cross the boundary.
 
 /// Words of a record.
 pub const RECORD_WORDS: usize = 520;
 /// Words of a request.
 pub const REQUEST_WORDS: usize = 34;
+/// Words of a key: network, SSI, part.
+pub const KEY_WORDS: usize = 3;
 
 /// Entry places of a list.
 pub const PLACES: usize = 8;

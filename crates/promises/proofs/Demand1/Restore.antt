@@ -3,7 +3,7 @@ use mathlib.Core.Path.{_≡_, refl, sym, ap, _∙_, subst}
 use mathlib.Core.Bool.{Bool, true, false}
 use mathlib.Core.List.{List, [], _∷_}
 use mathlib.Core.Option.{Option, none, some}
-use Prim.Native.Nat.{ℕ}
+use Prim.Native.Nat.{ℕ, _≤_}
 use native.Mathlib.Omega.{arith}
 use lib.ListN.{length}
 use lib.Dec.{leb}
@@ -108,15 +108,20 @@ module _ (b : List ℕ) (key : Key) where
     back f (not-held r k d) = ap restoredRefusal (asked r k none (holds-none r k d))
     back f (no-room r k h d l) = ap restoredRefusal (asked r k (some h) (holds r k h d)) ∙ rw (lt-leb _ _ l)
 
-  succeeds : (out : List ℕ) (n : Refusal) → Given b key (length out) n → n .number ≡ 0
-      → (k : IsArchive b) × (h : Held) × Holds b key k h
-      × (restoreIs b key (length out) ≡ Bits (h .entry .bits) (h .entry .day)) × (restoreOut b key out ≡ over (h .body) out)
-  succeeds out n (success r k h d l) z =
+  -- what is held is given back
+  pub restored-held : (out : List ℕ) → Ranged key → (k : IsArchive b) (h : Held) → Holds b key k h → bodySize h ≤ length out
+      → (restoreIs b key (length out) ≡ Bits (h .entry .bits) (h .entry .day)) × (restoreOut b key out ≡ over (h .body) out)
+  restored-held out r k h d l =
       let e = holds r k h d in
       let x : restoreIs b key (length out) ≡ Bits (h .entry .bits) (h .entry .day) =
       asked (length out) r k (some h) e ∙ ap (λ (t : Bool). pick t (Bits (h .entry .bits) (h .entry .day)) (Refused (plain 8))) (le-leb _ _ l)
       in
-      (k, h, d, x, restore-leaves b key out x ∙ ap (λ (y : Option Held). over (bodyOf y) out) e)
+      (x, restore-leaves b key out x ∙ ap (λ (y : Option Held). over (bodyOf y) out) e)
+
+  succeeds : (out : List ℕ) (n : Refusal) → Given b key (length out) n → n .number ≡ 0
+      → (k : IsArchive b) × (h : Held) × Holds b key k h
+      × (restoreIs b key (length out) ≡ Bits (h .entry .bits) (h .entry .day)) × (restoreOut b key out ≡ over (h .body) out)
+  succeeds out n (success r k h d l) z = let x = restored-held out r k h d l in (k, h, d, x .0, x .1)
   succeeds out n (unranged r) z = absurd (omega arith)
   succeeds out n (damaged f r k) z = absurd (omega (arith, seven k, z))
   succeeds out n (not-held r k d) z = absurd (omega arith)

@@ -9,6 +9,9 @@ empty-determined = by-equations (λ κs a x v p. (p .0, λ i. (tt, (p .1 i, tt))
 pub capture-determined : Determined archive.capture.Kinds.ps archive.capture.Kinds.r archive.capture.Reads.Learnt
 capture-determined = by-equations (λ κs a x v p. (p .0, λ i. (tt, (tt, (tt, (tt, (p .1 i, tt)))))))
 
+pub entry-determined : Determined archive.entry.Kinds.ps archive.entry.Kinds.r archive.entry.Reads.Learnt
+entry-determined = by-equations (λ κs a x v p. (p, refl))
+
 pub restore-determined : Determined archive.restore.Kinds.ps archive.restore.Kinds.r archive.restore.Reads.Learnt
 restore-determined = by-equations (λ κs a x v p. (p .0, λ i. (tt, (tt, (p .1 i, tt)))))
 

@@ -1,4 +1,4 @@
--- Each of the nine calls for C has one possible outcome: the number it returns, the buffer, and the numbers behind its pointers.
+-- Each of the ten calls for C has one possible outcome: the number it returns, the buffer, and the numbers behind its pointers.
 use Rattle.boc.proofs as boc
 use Rattle.promises.specs.Determined.{Determined, by-equations}
 
@@ -13,6 +13,10 @@ boc-empty-determined = by-equations (λ κs a x v p. (p .0, λ i. (tt, (p .1 .0 
 
 pub boc-capture-determined : Determined boc.boc_capture.Kinds.ps boc.boc_capture.Kinds.r boc.boc_capture.Reads.Learnt
 boc-capture-determined = by-equations (λ κs a x v p. (p .0, λ i. (tt, (tt, (tt, (tt, (p .1 .0 i, (p .1 .1 .0 i, (p .1 .1 .1 .0 i, (p .1 .1 .1 .1 i, tt))))))))))
+
+pub boc-entry-determined : Determined boc.boc_entry.Kinds.ps boc.boc_entry.Kinds.r boc.boc_entry.Reads.Learnt
+boc-entry-determined = by-equations (λ κs a x v p. (p .0, λ i. (tt, (tt, (p .1 .0 i, (p .1 .1 .0 i, (p .1 .1 .1 .0 i,
+    (p .1 .1 .1 .1 .0 i, (p .1 .1 .1 .1 .1 i, tt)))))))))
 
 pub boc-restore-determined : Determined boc.boc_restore.Kinds.ps boc.boc_restore.Kinds.r boc.boc_restore.Reads.Learnt
 boc-restore-determined = by-equations (λ κs a x v p. (p .0, λ i. (tt, (tt, (tt, (tt, (p .1 .0 i, (p .1 .1 .0 i, (p .1 .1 .1 .0 i,

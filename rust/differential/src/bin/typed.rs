@@ -12,14 +12,22 @@ use std::process::ExitCode;
 
 use differential::typed::*;
 use differential::*;
-use reference::layout::{record as at, request as asked, DIGITS, NUMBER_WORDS, RECORD_WORDS, SERVICES};
+use reference::layout::{
+    record as at, request as asked, DIGITS, KEY_WORDS, NUMBER_WORDS, RECORD_WORDS, SERVICES,
+};
 
-/// How many cases of each kind there are.
-const CASES: u64 = 30_000;
-/// A kind of cases, and what one does.
-type Kind = (&'static str, fn(&mut Cases, &mut Rng));
+/// A kind of cases, how many there are, and what one does.
+type Kind = (&'static str, u64, fn(&mut Cases, &mut Rng));
 
-const KINDS: [Kind; 3] = [("reading", reads), ("writing", writes), ("archives", archives)];
+const KINDS: [Kind; 4] = [
+    ("reading", 30_000, reads),
+    ("writing", 30_000, writes),
+    ("archives", 30_000, archives),
+    ("entries", 10 * COUNTS.len() as u64, each_entry),
+];
+
+/// How many entries the archives have of which every index is asked for.
+const COUNTS: [usize; 4] = [0, 1, 64, MAX_ENTRIES];
 
 /// The elements of records that are codes, and the numbers that each can have.
 fn elements() -> [(&'static str, Vec<u32>); 12] {
@@ -83,6 +91,9 @@ fn expected() -> Met {
     }
     met.expect("capture, day", DAYS);
     met.expect("restore, day", DAYS);
+    met.expect("entry, day", DAYS);
+    met.expect("entry, part", numbers(PARTS));
+    met.expect("entries, so many", COUNTS);
     met.expect("restore, part", numbers(PARTS));
     met.expect("reload, part", numbers(PARTS));
     for call in ["reload", "reload_external"] {
@@ -230,6 +241,47 @@ fn archives(cases: &mut Cases, rng: &mut Rng) {
     }
     let user = archive.user(rng);
     decides(cases, rng, &held, user);
+    let index = rng.below(count + 2);
+    let _ = entry(cases, &held, index);
+}
+
+/// The entry at an index.
+fn entry(cases: &mut Cases, held: &[u8], index: usize) -> Result<boc::Entry, boc::Refused> {
+    let mut key = [0; KEY_WORDS];
+    let rest = cases.expected(reference::entry(held, index, &mut key));
+    let [network, ssi, part] = key;
+    let expected = rest.map(|reference::Restored { bits, day }| {
+        cases.met.meet("entry, part", part);
+        if DAYS.contains(&day) {
+            cases.met.meet("entry, day", day);
+        }
+        let part = value(PARTS, part).expect("it is a part");
+        boc::Entry { user: boc::Party { network, ssi }, part, bits, day }
+    });
+    assert_eq!(boc::entry(held, index), expected, "{:?}", cases.case);
+    expected
+}
+
+/// Each index of an archive, and those beyond its last; of the damaged archive too. All entries in their order
+/// are those.
+fn each_entry(cases: &mut Cases, rng: &mut Rng) {
+    let count = COUNTS[cases.case.1 as usize % COUNTS.len()];
+    let archive = Archive::random(rng, count, if count == MAX_ENTRIES { Size::Small } else { Size::Any });
+    for held in [archive.bytes(), archive.damaged(rng).1] {
+        let found: Result<Vec<_>, _> = (0..count).map(|index| entry(cases, &held, index)).collect();
+        // An archive without entries is refused at none of them.
+        let found = found.and_then(|found| match entry(cases, &held, count) {
+            Err(refused) if refused.why == boc::Refusal::Archive => Err(refused),
+            _ => Ok(found),
+        });
+        for index in beyond(count) {
+            let _ = entry(cases, &held, index);
+        }
+        assert_eq!(boc::entries(&held).map(Iterator::collect), found, "{:?}", cases.case);
+        if let Ok(entries) = found {
+            cases.met.meet("entries, so many", entries.len());
+        }
+    }
 }
 
 fn reloads(cases: &mut Cases, rng: &mut Rng, held: &[u8], reload: &Reload) {
@@ -293,8 +345,8 @@ fn main() -> ExitCode {
     };
     println!("seed {seed}");
     let mut cases = Cases { case: ("", 0), met: expected() };
-    for (number, (kind, run)) in (0..).zip(KINDS) {
-        for case in 0..CASES {
+    for (number, (kind, count, run)) in (0..).zip(KINDS) {
+        for case in 0..count {
             cases.case = (kind, case);
             run(&mut cases, &mut Rng::new(seed, case << 3 | number));
         }

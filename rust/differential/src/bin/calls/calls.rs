@@ -1,21 +1,22 @@
-//! The nine calls, each on both sides.
+//! The calls, each on both sides.
 
 use std::cmp::Ordering;
 use std::fmt::Debug;
 
 use boc::ffi::{Spot, NOWHERE};
 use differential::*;
-use reference::layout::{record, request as at, REQUEST_WORDS};
+use reference::layout::{record, request as at, KEY_WORDS, REQUEST_WORDS};
 use reference::{Refusal, Refused, Restored};
 
 use crate::lent::{bytes, words, Lent, MARGIN};
 
 /// The calls, and the answers that each can give: 0 or a refusal number.
-const CALLS: [(&str, &[u32]); 9] = [
+const CALLS: &[(&str, &[u32])] = &[
     ("read", &[0, 1, 2, 3, 4, 5, 9]),
     ("write", &[0, 3, 4, 8, 9]),
     ("empty", &[0, 8, 9]),
     ("capture", &[0, 1, 2, 3, 4, 5, 6, 7, 8, 9]),
+    ("entry", &[0, 7, 9, 11]),
     ("restore", &[0, 7, 8, 9, 11]),
     ("reload", &[0, 7, 8, 9, 11, 12]),
     ("reload_external", &[0, 7, 8, 9, 11, 12]),
@@ -31,6 +32,12 @@ const TELLS: [&str; 2] = ["destination", "group"];
 
 /// What a day that is captured may be beside the day that the same part had.
 const BESIDE: [&str; 3] = ["lower", "the same", "higher"];
+
+/// Counts of words that are not those of a key.
+pub const NO_KEYS: [usize; 6] = [0, 1, 2, 4, 34, 520];
+
+/// How many entries the archives have of which every index is asked for.
+pub const COUNTS: [usize; 4] = [0, 1, 64, MAX_ENTRIES];
 
 /// What is behind the pointers to single numbers: a length, a length and a day, or a decision, and where a
 /// refused call stopped.
@@ -72,11 +79,13 @@ impl Calls {
     /// Nothing met yet of all that has to be: each answer and decision, a visitor's too, each refusal of a
     /// PDU that has a place, each value of each code of each PDU and each reserved one, each definition type
     /// of a reload for each part, 7 for each damage and for each fault, 6, 8, 9 and 12 for each reason, 9 of
-    /// capture in the place of each other answer, and an archive accepted with other bits of a day.
+    /// capture in the place of each other answer, 9 of entry for each count of words and in the place of each
+    /// other answer, each index of archives of so many entries, and an archive accepted with other bits of a
+    /// day.
     pub fn new() -> Self {
         let mut met = Met::default();
         for (call, answers) in CALLS {
-            met.expect(call, answers);
+            met.expect(call, *answers);
         }
         met.expect("read, with a place", PLACED);
         met.expect("capture, with a place", PLACED);
@@ -95,6 +104,9 @@ impl Calls {
         met.expect("capture, 9", NO_DAYS);
         met.expect("capture, 9 in the place of", 0..9);
         met.expect("capture, the same PDU with a day", BESIDE);
+        met.expect("entry, 9", NO_KEYS);
+        met.expect("entry, 9 in the place of", [0, 7, 11]);
+        met.expect("entry, each index of", COUNTS);
         for part in [1, 2] {
             met.expect(&format!("reload, part {part}"), DEFINITIONS);
         }
@@ -277,6 +289,51 @@ impl Calls {
         self.met.meet("capture, the same PDU with a day", beside);
     }
 
+    /// The entry at an index: its key, and its length in bits and day.
+    pub fn entry(
+        &mut self,
+        rng: &mut Rng,
+        archive: &[u8],
+        index: usize,
+        key_words: usize,
+    ) -> Result<([u32; KEY_WORDS], Restored), Refused> {
+        let mut lent = words(rng, key_words);
+        let before = Behind { number: (rng.draw() as usize, rng.bits(32)), spot: random_spot(rng) };
+        let mut after = before;
+        let (bits, day) = &mut after.number;
+        let library = boc::ffi::entry(archive, index, lent.library(), bits, day, &mut after.spot);
+        let expected = reference::entry(archive, index, lent.reference());
+        let numbers = expected.map(|Restored { bits, day }| (bits, day.into()));
+        self.compare("entry", (library, after), before, numbers, &lent);
+        self.count("entry", archive, expected);
+        if expected == Err(Refusal::Range.into()) {
+            self.met.meet("entry, 9", key_words);
+            let other = reference::entry(archive, index, &mut [0; KEY_WORDS]);
+            self.met.meet("entry, 9 in the place of", other.map_or_else(Refused::number, |_| 0));
+        }
+        let restored = expected?;
+        Ok((*lent.library().first_chunk().expect("it is a key"), restored))
+    }
+
+    /// Each entry of a legal archive by its index, and restored by its key; and none beyond the last.
+    pub fn each_entry(&mut self, rng: &mut Rng, archive: &Archive) {
+        let bytes = archive.bytes();
+        for (index, Entry { user, part, day, pdu }) in archive.entries.iter().enumerate() {
+            let [network, ssi] = *user;
+            let rest = Restored { bits: pdu.bits, day: *day };
+            let found = self.entry(rng, &bytes, index, KEY_WORDS);
+            assert_eq!(found, Ok(([network, ssi, *part], rest)), "{:?}", self.case);
+            let restored = self.restore(rng, &bytes, *user, *part, pdu.bytes.len());
+            assert_eq!(restored, Ok(rest), "{:?}", self.case);
+        }
+        let count = archive.entries.len();
+        for index in beyond(count) {
+            let found = self.entry(rng, &bytes, index, KEY_WORDS);
+            assert_eq!(found, Err(Refusal::NotHeld.into()), "{:?}", self.case);
+        }
+        self.met.meet("entry, each index of", count);
+    }
+
     pub fn restore_any_room(&mut self, rng: &mut Rng, archive: &[u8], user: [u32; 2], part: u32) {
         let needed = reference::restore(archive, user[0], user[1], part, &mut self.scratch);
         let room = room(rng, needed.map_or(20, |restored| restored.bits.div_ceil(8)));
@@ -423,5 +480,9 @@ impl Calls {
             let length = if rng.one_in(50) { rng.below(REQUEST_WORDS) } else { REQUEST_WORDS };
             self.decide(rng, bytes, &words[..length]);
         }
+        let count = archive.entries.len();
+        let index = if rng.one_in(6) { rng.pick(&beyond(count)) } else { rng.below(count.max(1)) };
+        let key_words = if rng.one_in(20) { rng.pick(&NO_KEYS) } else { KEY_WORDS };
+        let _ = self.entry(rng, bytes, index, key_words);
     }
 }

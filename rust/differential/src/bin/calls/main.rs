@@ -1,4 +1,4 @@
-//! Compares the nine calls of the library with the reference: `calls [SEED]`.
+//! Compares the calls of the library with the reference: `calls [SEED]`.
 //!
 //! Each case lends both sides equal buffers of random content and compares the answers, every byte or word of
 //! every buffer, margins before and after what was lent, and the numbers behind the last pointers: a length,
@@ -6,7 +6,8 @@
 //! met, each refusal of a PDU that has a place, each value of each code of each PDU and each reserved one, 7
 //! for each damage to an archive and for each fault in one, and an archive accepted with other bits of a day;
 //! 6, 8 and 9 for each reason that capture can have, 9 in the place of each of its other answers, and the same
-//! PDU captured with a lower, the same and a higher day; a reload of each part under each definition type, 9
+//! PDU captured with a lower, the same and a higher day; each index of archives of 0, 1, 64 and 512 entries,
+//! 9 for each wrong count of a key's words and in the place of each other answer of entry; a reload of each part under each definition type, 9
 //! and 12 for each reason that either reload can have; each decision for a visitor from another network, and a
 //! visitor's call that is decided otherwise with the home network for the visitor's own. One that was never
 //! met is a failure too.
@@ -16,13 +17,13 @@
 use std::process::ExitCode;
 
 use differential::*;
-use reference::layout::RECORD_WORDS;
+use reference::layout::{KEY_WORDS, RECORD_WORDS};
 
 mod calls;
 mod lent;
 mod values;
 
-use calls::Calls;
+use calls::{Calls, COUNTS, NO_KEYS};
 
 /// A kind of cases, how many there are, and what one does.
 type Kind = (&'static str, u64, fn(&mut Calls, &mut Rng));
@@ -30,7 +31,7 @@ type Kind = (&'static str, u64, fn(&mut Calls, &mut Rng));
 /// How many records of each PDU type are tried with each value of each element.
 const SAMPLES: u64 = 30;
 
-const KINDS: [Kind; 10] = [
+const KINDS: [Kind; 11] = [
     ("PDUs", 400_000, pdus),
     ("records", 300_000, records),
     ("empty archives", 5_000, empties),
@@ -41,6 +42,7 @@ const KINDS: [Kind; 10] = [
     ("changed PDUs", 60, changed_pdus),
     ("changed elements", SAMPLES * FORMS.len() as u64, changed_elements),
     ("changed archives", 2, changed_archives),
+    ("entries", 40 * COUNTS.len() as u64, entries),
 ];
 
 fn pdus(calls: &mut Calls, rng: &mut Rng) {
@@ -208,6 +210,8 @@ fn changed_archives(calls: &mut Calls, rng: &mut Rng) {
             calls.reload(rng, bytes, &as_define, 100);
             calls.reload(rng, bytes, &as_external, 100);
             calls.decide(rng, bytes, &words);
+            let index = calls.change % MAX_ENTRIES;
+            let _ = calls.entry(rng, bytes, index, KEY_WORDS);
         }
     };
     for length in 0..whole.len() {
@@ -220,6 +224,26 @@ fn changed_archives(calls: &mut Calls, rng: &mut Rng) {
             flipped[bit / 8] ^= 0x80 >> (bit % 8);
             try_calls(calls, &flipped, damage);
             flipped[bit / 8] = whole[bit / 8];
+        }
+    }
+}
+
+/// An archive of each count: each index and those beyond the last; the same of the damaged archive, and with
+/// counts of words that are no key's.
+fn entries(calls: &mut Calls, rng: &mut Rng) {
+    let count = COUNTS[calls.case.2 as usize % COUNTS.len()];
+    let archive = Archive::random(rng, count, if count == MAX_ENTRIES { Size::Small } else { Size::Any });
+    calls.each_entry(rng, &archive);
+    let (damage, damaged) = archive.damaged(rng);
+    calls.damage = Some(damage);
+    for index in (0..count).chain(beyond(count)) {
+        calls.change = index;
+        let _ = calls.entry(rng, &damaged, index, KEY_WORDS);
+    }
+    for key_words in NO_KEYS {
+        for index in [0, count, usize::MAX] {
+            let _ = calls.entry(rng, &archive.bytes(), index, key_words);
+            let _ = calls.entry(rng, &damaged, index, key_words);
         }
     }
 }
