@@ -215,10 +215,10 @@ static int reload_numbers(void)
     return number != BOC_LOSS;
 }
 
-/* Decides a call for which all but the destination is set here, and compares the decision. */
+/* Decides a call for which all but the destination is set here, by both engines, and compares the decisions. */
 static int decide(const char *call, uint32_t request[BOC_REQUEST_WORDS], uint32_t expected)
 {
-    uint32_t decision;
+    uint32_t decision, in_place;
     struct spot spot;
 
     request[BOC_USER_NETWORK] = HOME;
@@ -227,10 +227,14 @@ static int decide(const char *call, uint32_t request[BOC_REQUEST_WORDS], uint32_
     if (refused(call,
                 boc_decide(store.buffers[store.current], store.length, request, BOC_REQUEST_WORDS, &decision,
                            &spot.entry, &spot.place),
+                &spot) ||
+        refused(call,
+                boc_decide_in_place(store.buffers[store.current], store.length, request, BOC_REQUEST_WORDS, &in_place,
+                                    &spot.entry, &spot.place),
                 &spot))
         return 1;
     printf("speech to %s: %s\n", call, boc_decision_text(decision));
-    return decision != expected;
+    return decision != expected || in_place != decision;
 }
 
 static int decide_identity(const char *call, uint32_t ssi, uint32_t expected)

@@ -426,6 +426,14 @@ uint32_t boc_decide(const uint8_t *archive, size_t archive_len, const uint32_t *
                     uint32_t *decision, size_t *entry, size_t *place);
 
 /*
+ * The same decision, refusals and places for every archive and request, without a record: the part is walked bit by
+ * bit where it stands in the archive. It needs less stack than boc_decide, and less time.
+ */
+BOC_CHECKED
+uint32_t boc_decide_in_place(const uint8_t *archive, size_t archive_len, const uint32_t *request, size_t request_words,
+                             uint32_t *decision, size_t *entry, size_t *place);
+
+/*
  * Writes the listing of an archive to the front of `out` as text with no zero byte at its end, and its length in bytes
  * to `length`: `home H entries N`, then for each entry `NETWORK SSI part P bits B day D`, each on a line, in decimal.
  * Refuses, in this order: BOC_ARCHIVE; BOC_ROOM.

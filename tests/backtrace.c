@@ -62,6 +62,10 @@ static uint32_t reloads_external(void)
     return boc_reload_external(closed, archive_len, 1, USER, BOC_ADDITION, 0, 0, out, sizeof out, &number,
                                &entry, &place);
 }
+static uint32_t decides_in_place(void)
+{
+    return boc_decide_in_place(closed, archive_len, request, BOC_REQUEST_WORDS, &decision, &entry, &place);
+}
 static uint32_t decides(void)
 {
     return boc_decide(closed, archive_len, request, BOC_REQUEST_WORDS, &decision, &entry, &place);
@@ -80,6 +84,7 @@ static const struct {
     {"boc_capture, buffer", captures_to}, {"boc_entry, archive", gives_entry}, {"boc_entry, key", gives_entry_to},
     {"boc_restore", restores_to}, {"boc_reload", reloads_to},
     {"boc_reload_external", reloads_external}, {"boc_decide", decides}, {"boc_contents", lists_to},
+    {"boc_decide_in_place", decides_in_place},
 };
 
 static sigjmp_buf fault;

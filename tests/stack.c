@@ -4,7 +4,7 @@
  * for one user and for eight; archives of 512 entries and of 65,536 bytes, asked about their last entry. It is tried
  * accepted, and refused as late as it can be: at the last element, for the last byte of room, for the last entry.
  * Prints a Markdown table; ends with status 1 if an answer is not the one that is expected, or a call uses more than
- * its limit: 5 KiB for a decision, which unpacks a record, 6 KiB for either reload, which makes a second one of it, and
+ * its limit: 5 KiB for boc_decide, which unpacks a record, 6 KiB for either reload, which makes a second one of it, and
  * 1 KiB for every other call. With a word behind its name it makes the same calls on the stack that it has and measures
  * nothing, for valgrind, which follows no stack of one's own.
  */
@@ -65,9 +65,15 @@ static uint32_t decides(void)
 {
     return boc_decide(archive, archive_len, request, BOC_REQUEST_WORDS, &decision, &at_entry, &at_place);
 }
+static uint32_t decides_in_place(void)
+{
+    return boc_decide_in_place(archive, archive_len, request, BOC_REQUEST_WORDS, &decision, &at_entry, &at_place);
+}
 static uint32_t lists(void) { return boc_contents(archive, archive_len, out, room, &number, &at_entry, &at_place); }
 
-enum call { READ, WRITE, EMPTY, CAPTURE, ENTRY, RESTORE, RELOAD, RELOAD_EXTERNAL, DECIDE, CONTENTS, CALLS };
+enum call {
+    READ, WRITE, EMPTY, CAPTURE, ENTRY, RESTORE, RELOAD, RELOAD_EXTERNAL, DECIDE, DECIDE_IN_PLACE, CONTENTS, CALLS
+};
 static struct {
     const char *name;
     uint32_t (*call)(void);
@@ -82,6 +88,7 @@ static struct {
     {"boc_reload", reloads, TWO_RECORDS, 0},
     {"boc_reload_external", reloads_external, TWO_RECORDS, 0},
     {"boc_decide", decides, ONE_RECORD, 0},
+    {"boc_decide_in_place", decides_in_place, SMALL, 0},
     {"boc_contents", lists, SMALL, 0},
 };
 
@@ -441,14 +448,18 @@ static void prepare_request(uint32_t destination)
     request[BOC_GROUP_SSI] = TOP - 1;
 }
 
-/* Decides such a call. */
+/* Decides such a call, by each engine. */
 static void decide(uint32_t destination, uint32_t decided)
 {
-    prepare_request(destination);
-    expect(DECIDE, BOC_OK);
-    same("the decision", decision, decided);
-    request[BOC_GROUP_SSI] = BOC_NETWORK_LIMIT;
-    expect(DECIDE, BOC_RANGE);
+    enum call call;
+
+    for (call = DECIDE; call <= DECIDE_IN_PLACE; call++) {
+        prepare_request(destination);
+        expect(call, BOC_OK);
+        same("the decision", decision, decided);
+        request[BOC_GROUP_SSI] = BOC_NETWORK_LIMIT;
+        expect(call, BOC_RANGE);
+    }
 }
 
 /* Reloads the last entry: any list would be lost under a removal; what a replacement answers. */
@@ -529,6 +540,7 @@ static void refuse_each(uint32_t held)
     expect(RELOAD, BOC_ARCHIVE);
     expect(RELOAD_EXTERNAL, BOC_ARCHIVE);
     expect(DECIDE, BOC_ARCHIVE);
+    expect(DECIDE_IN_PLACE, BOC_ARCHIVE);
     expect(CONTENTS, BOC_ARCHIVE);
 }
 

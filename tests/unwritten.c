@@ -220,7 +220,7 @@ static void reload_and_compare(uint32_t ssi, uint32_t part, const uint32_t *reco
 /* A call to identity 1/100 or number 0, which the part restricts if it has entries; it has no group. */
 static void decide(uint32_t ssi, uint32_t part, uint32_t count)
 {
-    uint32_t request[BOC_REQUEST_WORDS] = {HOME, ssi, BOC_SERVICE_SPEECH};
+    uint32_t request[BOC_REQUEST_WORDS] = {HOME, ssi, BOC_SERVICE_SPEECH}, decision;
     struct behind *behind = fresh(sizeof *behind);
 
     request[BOC_DESTINATION] = part == BOC_NUMBER_PART ? BOC_TO_NUMBER : BOC_TO_IDENTITY;
@@ -234,6 +234,13 @@ static void decide(uint32_t ssi, uint32_t part, uint32_t count)
         expect("excepted", behind->decision == BOC_ALLOWED);
     else
         expect("barred", behind->decision == (count > 0 ? BOC_BARRED_DESTINATION : BOC_BARRED_SERVICE));
+    decision = behind->decision;
+    free(behind);
+    behind = fresh(sizeof *behind);
+    expect("boc_decide_in_place",
+           boc_decide_in_place(archive, archive_len, request, BOC_REQUEST_WORDS, &behind->decision, &behind->entry,
+                               &behind->place) == BOC_OK);
+    expect("the same decision", behind->decision == decision);
     free(behind);
 }
 

@@ -111,6 +111,10 @@ static void lend(void *none)
            boc_decide(none, 0, request, BOC_REQUEST_WORDS, &decision, &entry, &place), BOC_ARCHIVE);
     expect("boc_decide, no words",
            boc_decide(archive, archive_len, none, 0, &decision, &entry, &place), BOC_RANGE);
+    expect("boc_decide_in_place, no archive",
+           boc_decide_in_place(none, 0, request, BOC_REQUEST_WORDS, &decision, &entry, &place), BOC_ARCHIVE);
+    expect("boc_decide_in_place, no words",
+           boc_decide_in_place(archive, archive_len, none, 0, &decision, &entry, &place), BOC_RANGE);
 
     expect("boc_contents, no archive", boc_contents(none, 0, out, sizeof out, &n, &entry, &place), BOC_ARCHIVE);
     expect("boc_contents, no buffer", boc_contents(archive, archive_len, none, 0, &n, &entry, &place), BOC_ROOM);

@@ -4,3 +4,4 @@ pub mod Bodies
 pub mod Rules
 pub mod Checked
 pub mod Put
+pub mod Found

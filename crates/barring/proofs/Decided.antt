@@ -5,10 +5,11 @@ use mathlib.Core.List.{List}
 use Prim.Native.Nat.{ℕ, _+_, _≤_}
 use native.Mathlib.Omega.{arith}
 use lib.ListN.{length, take, drop}
-use lib.Dec.{leb, ltb}
-use Rattle.bits.specs.Bits.{pick}
+use lib.Dec.{leb, ltb, eqb}
+use borrow.Author.Tests.{eqb-true}
+use Rattle.bits.specs.Bits.{pick, guard}
 use Rattle.bits.specs.Frame.{bytesFor}
-use Rattle.bits.proofs.Tests.{both}
+use Rattle.bits.proofs.Tests.{both, never}
 use Rattle.bits.specs.declared.BitCount.{BitCount}
 use Rattle.reader.specs.Read.{readIs}
 use Rattle.rules.specs.Request.{requestRefusal, isUser}
@@ -22,6 +23,7 @@ use Rattle.archive.specs.Restoring.{fetchIs}
 use Rattle.archive.specs.declared.Fetched.{Fetched}
 use Rattle.archive.specs.declared.Fetched.the-variants.{Body}
 use Rattle.archive.specs.declared.Fetched.the-variants as fetched
+use Rattle.archive.specs.Refusals.{plain}
 use Rattle.archive.specs.Checking.{checkIs}
 use Rattle.archive.specs.declared.refusal.Refusal.{Refusal}
 use Rattle.archive.specs.declared.checking.Checked.the-variants as checked
@@ -29,9 +31,11 @@ use Rattle.archive.proofs.Model.Checked.{archive-checked}
 use Rattle.archive.proofs.Calls.Fetch.{BodyIs, fetch-damaged, fetch-missing, fetch-found}
 use Rattle.archive.proofs.Calls.Capture.{home-read}
 use Rattle.barring.specs.Decision.{decisionOf}
-use Rattle.barring.specs.Decide.{partFor, judgedBy, keyFor, partIn, decideIs}
+use Rattle.barring.specs.Decide.{partFor, judgedBy, judgedAt, judgingPart, keyFor, partIn, decideIs}
 use Rattle.barring.specs.Inner.{rulingOfBody}
+use Rattle.barring.specs.declared.Decision.{Decision}
 use Rattle.barring.specs.declared.Decision.the-variants.{NotHeld, Refused}
+use Rattle.barring.specs.declared.JudgingPart.the-variants.{At, Answered}
 
 user-first : (a b c d e f : Bool) → pick {A = ℕ} (a && b && c && d && e && f) 0 9 ≡ 0 → a ≡ true
 user-first true b c d e f h = refl
@@ -82,3 +86,38 @@ module _ (b : List ℕ) (q : Request) (e : requestRefusal q ≡ 0) where
 
   pub decide-damaged : {f : Refusal} → fetchedFor ≡ fetched.Refused f → Refused f ≡ decideIs b q
   decide-damaged f = not-archive b q e (fetch-damaged b _ (request-ranged q e) f)
+
+-- ---- the part that judges, or the answer
+
+module _ (b : List ℕ) (q : Request) where
+  pub part-fetched : {f : Fetched} → requestRefusal q ≡ 0 → fetchIs b (keyFor q) ≡ f → judgedAt f ≡ judgingPart b q
+  unfolding judgingPart
+  part-fetched e f = rw (e, f)
+
+  out-of-range : eqb (requestRefusal q) 0 ≡ false → Refused (plain (requestRefusal q)) ≡ decideIs b q
+  unfolding decideIs
+  out-of-range r = rw r
+
+  pub part-at : {at : ℕ} {n : BitCount} → judgingPart b q ≡ At at n
+      → (requestRefusal q ≡ 0) × (day : ℕ) × (fetchIs b (keyFor q) ≡ Body at n day)
+  unfolding judgingPart
+  part-at {at} {n} = go (eqb (requestRefusal q) 0) refl (fetchIs b (keyFor q)) refl
+    where
+      go : (t : Bool) → eqb (requestRefusal q) 0 ≡ t → (f : Fetched) → fetchIs b (keyFor q) ≡ f
+          → guard t (Answered (Refused (plain (requestRefusal q)))) (judgedAt f) ≡ At at n
+          → (requestRefusal q ≡ 0) × (day : ℕ) × (fetchIs b (keyFor q) ≡ Body at n day)
+      go true r (Body p m day) f e = (eqb-true _ 0 r, day, f ∙ cc)
+      go true r fetched.NotHeld f e = never cc
+      go true r (fetched.Refused g) f e = never cc
+      go false r f g e = never cc
+
+  pub part-answered : {d : Decision} → judgingPart b q ≡ Answered d → d ≡ decideIs b q
+  unfolding judgingPart
+  part-answered {d} = go (eqb (requestRefusal q) 0) refl (fetchIs b (keyFor q)) refl
+    where
+      go : (t : Bool) → eqb (requestRefusal q) 0 ≡ t → (f : Fetched) → fetchIs b (keyFor q) ≡ f
+          → guard t (Answered (Refused (plain (requestRefusal q)))) (judgedAt f) ≡ Answered d → d ≡ decideIs b q
+      go true r (Body p m day) f e = never cc
+      go true r fetched.NotHeld f e = cc (decide-missing b q (eqb-true _ 0 r) f)
+      go true r (fetched.Refused g) f e = cc (decide-damaged b q (eqb-true _ 0 r) f)
+      go false r f g e = cc (out-of-range r)

@@ -14,11 +14,15 @@ use Rattle.archive.specs.Model.{Held}
 use Rattle.archive.specs.Reading.{reading}
 use Rattle.archive.specs.Refusals.{plain}
 use Rattle.archive.specs.Checking.{checkIs, ifArchive}
-use Rattle.archive.specs.Restoring.{lookup}
+use Rattle.archive.specs.Restoring.{fetchIs, lookup}
 use Rattle.archive.specs.declared.contents.Key.{Key}
+use Rattle.archive.specs.declared.Fetched.{Fetched}
+use Rattle.archive.specs.declared.Fetched.the-variants as fetched
 use Rattle.barring.specs.Decision.{decisionOf}
 use Rattle.barring.specs.declared.Decision.{Decision}
 use Rattle.barring.specs.declared.Decision.the-variants.{NotHeld, Refused}
+use Rattle.barring.specs.declared.JudgingPart.{JudgingPart}
+use Rattle.barring.specs.declared.JudgingPart.the-variants.{At, Answered}
 
 -- an identity is judged by the user's identity part, an external number by the number part
 unfoldable pub partFor : Destination → ℕ
@@ -37,6 +41,15 @@ keyFor q = record { network = q .user .network; ssi = q .user .ssi; part = partF
 -- that part, as an archive holds it
 abbrev pub partIn : List ℕ → Request → Option Held
 partIn b q = lookup (keyFor q) (reading b .held)
+
+-- where the body stands that is fetched; or the answer, where there is none
+abbrev pub judgedAt : Fetched → JudgingPart
+judgedAt (fetched.Body at n day) = At at n
+judgedAt fetched.NotHeld = Answered NotHeld
+judgedAt (fetched.Refused f) = Answered (Refused f)
+
+unfoldable pub judgingPart : List ℕ → Request → JudgingPart
+judgingPart b q = guard (eqb (requestRefusal q) 0) (Answered (Refused (plain (requestRefusal q)))) (judgedAt (fetchIs b (keyFor q)))
 
 unfoldable pub decideIs : List ℕ → Request → Decision
 decideIs b q =

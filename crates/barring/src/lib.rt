@@ -14,7 +14,7 @@ ghost use Prim.Native.Nat.{_+_, _≤_};
 ghost use lib.ListN.{length};
 ghost use Rattle.bits.specs.Frame.{bytesFor};
 ghost use Rattle.barring.specs.Decision.{decisionOf};
-ghost use Rattle.barring.specs.Decide.{partFor, decideIs};
+ghost use Rattle.barring.specs.Decide.{partFor, judgingPart, decideIs};
 ghost use Rattle.barring.specs.Inner.{rulingOfBody};
 
 // The answer to a request: allowed; barred, with its cause; the part that judges it is not held; or refused.
@@ -56,17 +56,23 @@ fn ruling_of_body(archive: &[u8], at: usize, n: BitCount, request: Request) -> D
     decision_of(rules::rule(part, archive::home(archive), request))
 }
 
-// Whether the archive bars the call: 9 before 7, then the part of the request's user.
-pub fn decide(archive: &[u8], request: Request) -> Decision
-    ensures { λ r. ⌜ r ≡ decideIs (now (archive .entry)) request ⌝ }
+// Where the part stands that judges a request: the place of its body in the archive, and its length in bits. Or the answer, where there is none.
+pub enum JudgingPart {
+    At(usize, BitCount),
+    Answered(Decision),
+}
+
+// The part that judges a request: 9 before 7, then the part of the request's user.
+pub fn judging_part(archive: &[u8], request: Request) -> JudgingPart
+    ensures { λ r. ⌜ r ≡ judgingPart (now (archive .entry)) request ⌝ }
 {
     let number = request_refusal(request);
     if number != 0 {
-        return Decision::Refused(Refusal {
+        return JudgingPart::Answered(Decision::Refused(Refusal {
             number,
             entry: EntryPlace::Nowhere,
             place: BitPlace::Nowhere,
-        });
+        }));
     }
     let user = request.user;
     let destination = request.destination;
@@ -77,8 +83,18 @@ pub fn decide(archive: &[u8], request: Request) -> Decision
         part,
     };
     match archive::fetch(archive, key) {
-        Fetched::Body(at, n, _) => ruling_of_body(archive, at, n, request),
-        Fetched::NotHeld => Decision::NotHeld,
-        Fetched::Refused(refusal) => Decision::Refused(refusal),
+        Fetched::Body(at, n, _) => JudgingPart::At(at, n),
+        Fetched::NotHeld => JudgingPart::Answered(Decision::NotHeld),
+        Fetched::Refused(refusal) => JudgingPart::Answered(Decision::Refused(refusal)),
+    }
+}
+
+// Whether the archive bars the call.
+pub fn decide(archive: &[u8], request: Request) -> Decision
+    ensures { λ r. ⌜ r ≡ decideIs (now (archive .entry)) request ⌝ }
+{
+    match judging_part(archive, request) {
+        JudgingPart::At(at, n) => ruling_of_body(archive, at, n, request),
+        JudgingPart::Answered(decision) => decision,
     }
 }

@@ -17,18 +17,18 @@ module _ {A : Type 0} {answer is told : A} (e : answer ≡ is) (t : answer ≡ t
   pub left : {B : Type 0} (f : A → B → B) {x old : B} → x ≡ f told old → x ≡ f is old
   left f {old = old} h = said (λ x. f x old) h
 
-  -- behind three of them: a length or a decision, the entry and the place
-  pub behind : (number entry place : A → ℕ → ℕ) {n i p old oldEntry oldPlace : ℕ}
-      → n ≡ number told old → i ≡ entry told oldEntry → p ≡ place told oldPlace
-      → (n ≡ number is old) × ((i ≡ entry is oldEntry) × (p ≡ place is oldPlace))
-  behind number entry place h k l = (left number h, (left entry k, left place l))
+-- an answer that was told is the call's: the number, and the numbers behind the pointers
+pub told-on : {A : Type 0} {answer is : A} → answer ≡ is → (number : A → ℕ) (length entry place : A → ℕ → ℕ) {r n i p old oldEntry oldPlace : ℕ}
+    → (r ≡ number answer) × ((n ≡ length answer old) × ((i ≡ entry answer oldEntry) × (p ≡ place answer oldPlace)))
+    → (r ≡ number is) × ((n ≡ length is old) × ((i ≡ entry is oldEntry) × (p ≡ place is oldPlace)))
+told-on {A} e number length entry place {old = old} {oldEntry = oldEntry} {oldPlace = oldPlace} (h, (k, (l, m))) = (
+  h ∙ ap number e,
+  (k ∙ ap (λ (x : A). length x old) e, (l ∙ ap (λ (x : A). entry x oldEntry) e, m ∙ ap (λ (x : A). place x oldPlace) e)),
+)
 
--- an answer that was told is the call's: the number, what it left, and the numbers behind the pointers
+-- and what it left
 pub passed-on : {A : Type 0} {answer is : A} → answer ≡ is → (number : A → ℕ) (length entry place : A → ℕ → ℕ) {r n i p old oldEntry oldPlace : ℕ}
     {out out′ : List ℕ} → out ≡ out′
     → (r ≡ number answer) × ((n ≡ length answer old) × ((i ≡ entry answer oldEntry) × (p ≡ place answer oldPlace)))
     → (r ≡ number is) × ((out ≡ out′) × ((n ≡ length is old) × ((i ≡ entry is oldEntry) × (p ≡ place is oldPlace))))
-passed-on {A} e number length entry place {old = old} {oldEntry = oldEntry} {oldPlace = oldPlace} left (h, (k, (l, m))) = (
-  h ∙ ap number e,
-  (left, (k ∙ ap (λ (x : A). length x old) e, (l ∙ ap (λ (x : A). entry x oldEntry) e, m ∙ ap (λ (x : A). place x oldPlace) e))),
-)
+passed-on e number length entry place left t = let q = told-on e number length entry place t in (q .0, (left, q .1))

@@ -20,6 +20,7 @@ use words::request;
 ghost use mathlib.Core.Path.{_≡_};
 ghost use lib.ListN.{length};
 ghost use Rattle.reader.specs.Words.{readWords};
+ghost use Rattle.archive.specs.Refusals.{plain};
 ghost use Rattle.archive.specs.Keeping.{emptyOut, captureOut};
 ghost use Rattle.archive.specs.Restoring.{restoreOut};
 ghost use Rattle.archive.specs.Listing.{listOut};
@@ -108,7 +109,7 @@ fn tell_restored(
     }
 }
 
-// And one that is a length in bits.
+// One that is a length in bits.
 fn tell_reloaded(answer: Reloaded, bits: &mut usize, entry: &mut usize, place: &mut usize) -> u32
     ensures { λ r. ⌜ r ≡ reloadedNumber answer ⌝ }
     ensures { λ _. ⌜ now (bits .exit) ≡ reloadedLength answer (now (bits .entry)) ⌝ }
@@ -161,6 +162,41 @@ fn tell_listed(
         },
         Listed::Refused(refusal) => refuse(refusal, entry, place),
     }
+}
+
+// And a decision: 0 to 2 barred with that cause, 3 allowed, 4 not held.
+fn tell_decided(answer: Decision, decision: &mut u32, entry: &mut usize, place: &mut usize) -> u32
+    ensures { λ r. ⌜ r ≡ decidedNumber answer ⌝ }
+    ensures { λ _. ⌜ now (decision .exit) ≡ decidedVerdict answer (now (decision .entry)) ⌝ }
+    ensures { λ _. ⌜ now (entry .exit) ≡ decidedEntry answer (now (entry .entry)) ⌝ }
+    ensures { λ _. ⌜ now (place .exit) ≡ decidedPlace answer (now (place .entry)) ⌝ }
+{
+    match answer {
+        Decision::Barred(cause) => {
+            *decision = cause;
+            0
+        },
+        Decision::Allowed => {
+            *decision = 3;
+            0
+        },
+        Decision::NotHeld => {
+            *decision = 4;
+            0
+        },
+        Decision::Refused(refusal) => refuse(refusal, entry, place),
+    }
+}
+
+// The answer to words that are no request's.
+fn no_request() -> Decision
+    ensures { λ r. ⌜ r ≡ Decision.Refused (plain 9) ⌝ }
+{
+    Decision::Refused(Refusal {
+        number: 9,
+        entry: EntryPlace::Nowhere,
+        place: BitPlace::Nowhere,
+    })
 }
 
 // Reads the PDU of `bits` bits in `pdu`; its record goes to `record`.
@@ -367,25 +403,32 @@ pub extern "C" fn boc_decide(
 {
     let spelt = request::request_from(request);
     if !spelt.given {
-        *entry = NOWHERE;
-        *place = NOWHERE;
-        return 9;
+        return tell_decided(no_request(), decision, entry, place);
     }
-    match barring::decide(archive, spelt.asked) {
-        Decision::Barred(cause) => {
-            *decision = cause;
-            0
-        },
-        Decision::Allowed => {
-            *decision = 3;
-            0
-        },
-        Decision::NotHeld => {
-            *decision = 4;
-            0
-        },
-        Decision::Refused(refusal) => refuse(refusal, entry, place),
+    let answer = barring::decide(archive, spelt.asked);
+    tell_decided(answer, decision, entry, place)
+}
+
+// The same without unpacking: the second engine walks the part's bits in the archive.
+#[no_mangle]
+pub extern "C" fn boc_decide_in_place(
+    archive: &[u8],
+    request: &[u32],
+    decision: &mut u32,
+    entry: &mut usize,
+    place: &mut usize,
+) -> u32
+    ensures { λ r. ⌜ r ≡ decidedNumber (decideAnswer (now (archive .entry)) (now (request .entry))) ⌝ }
+    ensures { λ _. ⌜ now (decision .exit) ≡ decidedVerdict (decideAnswer (now (archive .entry)) (now (request .entry))) (now (decision .entry)) ⌝ }
+    ensures { λ _. ⌜ now (entry .exit) ≡ decidedEntry (decideAnswer (now (archive .entry)) (now (request .entry))) (now (entry .entry)) ⌝ }
+    ensures { λ _. ⌜ now (place .exit) ≡ decidedPlace (decideAnswer (now (archive .entry)) (now (request .entry))) (now (place .entry)) ⌝ }
+{
+    let spelt = request::request_from(request);
+    if !spelt.given {
+        return tell_decided(no_request(), decision, entry, place);
     }
+    let walked = in_place::decide(archive, spelt.asked);
+    tell_decided(walked, decision, entry, place)
 }
 
 // Lists an archive as text; its length in bytes goes to `length`.

@@ -1,4 +1,4 @@
--- Each of the eight calls for C keeps its promise, by those of the functions that it passes on. Assumes nothing.
+-- Each of the eleven calls for C keeps its promise, by those of the functions that it passes on. Assumes nothing.
 use mathlib.Core.Path.{_≡_, refl, sym, ap, _∙_, subst}
 use mathlib.Core.Bool.{Bool, true, false}
 use mathlib.Core.List.{List, [], _∷_, _++_}

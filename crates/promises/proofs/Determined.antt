@@ -11,5 +11,6 @@ pub mod Rules
 pub mod Archive
 pub mod Words
 pub mod Barring
+pub mod InPlace
 pub mod Reload
 pub mod Boc

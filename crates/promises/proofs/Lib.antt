@@ -12,3 +12,4 @@ pub mod Retired
 pub mod Sequences
 pub mod Determined
 pub mod Days
+pub mod Engines

@@ -31,7 +31,7 @@ use Rattle.reload.specs.Reload.{reloadedRefusal, recordOf, reloadIs, reloadOut}
 use Rattle.reload.specs.declared.Definition.{Definition}
 use Rattle.reload.specs.declared.Target.{Target}
 use Rattle.reload.proofs.Standing.{define-stands}
-use Rattle.reload.proofs.Held.{held-agrees}
+use Rattle.archive.proofs.Model.Found.{held-agrees}
 use Rattle.boc.specs.Calls.{reloadedLength}
 use Rattle.promises.specs.Answers.{OneOf}
 use Rattle.promises.specs.Archive as archive

@@ -1,4 +1,4 @@
--- Demand 1 as C meets it, about the ten calls of include/boc.h: each returns 0 or a number of its list, exactly then. If it is not 0, the
+-- Demand 1 as C meets it, about the eleven calls of include/boc.h: each returns 0 or a number of its list, exactly then. If it is not 0, the
 -- lent memory and the length, day or decision behind its pointer are what they were, and the pointers to entry and place hold those of the refusal,
 -- or BOC_NOWHERE; if it is 0, its pointer holds exactly the length, the day or the decision, and entry and place are what they were.
 use mathlib.Core.Path.{_≡_}
@@ -170,7 +170,7 @@ abbrev pub ReloadExternal : List ℕ → ℕ → ℕ → ℕ → ℕ → ℕ →
 ReloadExternal archive network ssi definition delivery acknowledgement =
     Reloads DefineExternal archive (keyOf network ssi 2) (definitionOf definition delivery acknowledgement)
 
--- boc_decide: 0, 9 for words that are no request's or a request out of its range, 7
+-- boc_decide and boc_decide_in_place, whose contracts are in the same words: 0, 9 for words that are no request's or a request out of its range, 7
 pub record Decide (archive words : List ℕ) (old entry place : ℕ) : Type 0 where
   pub table : let answer = decideAnswer archive words in
       Exactly numberOf (decidedRefusal answer) (0 ∷ 9 ∷ 7 ∷ []) (Checked (plain 9) (OfRequest words) (decision.Given archive (requestFrom words)))

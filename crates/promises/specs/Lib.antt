@@ -17,3 +17,4 @@ pub mod Retired
 pub mod Sequences
 pub mod Determined
 pub mod Days
+pub mod Engines

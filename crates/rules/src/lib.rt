@@ -10,16 +10,19 @@ use lists::is_excepted;
 use lists::is_outside;
 use lists::is_restricted;
 use matching::covers;
+pub use matching::in_range;
+pub use matching::is_covering;
+pub use matching::is_entry;
 use request::Request;
 ghost use mathlib.Core.Path.{_≡_};
 ghost use Rattle.rules.specs.Rule.{ruling, sixRules};
 
 // Rejection causes (table 38).
-const OUTSIDE_GROUP: u32 = 0;
+pub const OUTSIDE_GROUP: u32 = 0;
 
-const RESTRICTED_SERVICE: u32 = 1;
+pub const RESTRICTED_SERVICE: u32 = 1;
 
-const RESTRICTED_ADDRESS: u32 = 2;
+pub const RESTRICTED_ADDRESS: u32 = 2;
 
 // What a part says of a call: allowed; or barred, with its cause.
 pub enum Ruling {

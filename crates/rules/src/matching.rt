@@ -13,7 +13,7 @@ ghost use Rattle.bits.specs.Lists.{some};
 ghost use Rattle.rules.specs.Matching.{isEntry, inRange, identityAmong, numberAmong, isCovering, covered};
 
 // A single entry is this user.
-fn is_entry(e: Identity, missing: u32, u: User) -> bool
+pub fn is_entry(e: Identity, missing: u32, u: User) -> bool
     ensures { λ r. ⌜ r ≡ isEntry missing u e ⌝ }
 {
     if network_of(missing, e) != u.network {
@@ -23,7 +23,7 @@ fn is_entry(e: Identity, missing: u32, u: User) -> bool
 }
 
 // A range, both ends included, has this user.
-fn in_range(first: Identity, last: Identity, missing: u32, u: User) -> bool
+pub fn in_range(first: Identity, last: Identity, missing: u32, u: User) -> bool
     ensures { λ r. ⌜ r ≡ inRange missing u first last ⌝ }
 {
     if network_of(missing, first) != u.network {
@@ -95,7 +95,7 @@ pub(crate) fn number_among(list: Numbers, length: DigitCount, digits: [u8; 24]) 
 }
 
 // A listed service covers this one: 0 is all applicable services.
-fn is_covering(listed: u32, service: u32) -> bool
+pub fn is_covering(listed: u32, service: u32) -> bool
     ensures { λ r. ⌜ r ≡ isCovering service listed ⌝ }
 {
     if listed == 0 {

@@ -1,6 +1,7 @@
 // A request: who calls, by which service, to whom, and in which group (document 01, "The barring rule").
 use bits::DigitCount;
 ghost use mathlib.Core.Path.{_≡_};
+ghost use Prim.Native.Nat.{_<_};
 ghost use lib.ListN.{take, drop};
 ghost use Rattle.bits.specs.Lists.{every};
 ghost use Rattle.rules.specs.Request.{isUser, isService, isDestination, isGroup, isDigit, isUnused, digitsUsed, requestRefusal};
@@ -87,28 +88,32 @@ fn used_are_digits(digits: [u8; 24], length: DigitCount) -> bool
     ensures { λ r. ⌜ r ≡ every isDigit (take (length .0) digits) ⌝ }
 {
     let n = bits::least(length.0 as usize, 24);
+    let mut refused = 0u32;
     let mut i: usize = 0;
     while i < n {
-        if grammar::site::digit_refusal(digits[i] as u32) != 0 {
-            return false;
-        }
+        refused += grammar::site::digit_refusal(digits[i] as u32);
         i += 1;
     }
-    true
+    refused == 0
+}
+
+fn wide(digit: u8) -> u32
+    ensures { λ r. ⌜ (r ≡ digit) × (r < 256) ⌝ }
+{
+    digit as u32
 }
 
 // Each place that is not used is zero.
 fn unused_are_zero(digits: [u8; 24], length: DigitCount) -> bool
     ensures { λ r. ⌜ r ≡ every isUnused (drop (length .0) digits) ⌝ }
 {
+    let mut sum = 0u32;
     let mut i = bits::least(length.0 as usize, 24);
     while i < 24 {
-        if digits[i] != 0 {
-            return false;
-        }
+        sum += wide(digits[i]);
         i += 1;
     }
-    true
+    sum == 0
 }
 
 // 9 for a request out of its range, otherwise 0.

@@ -178,21 +178,74 @@ fn verify(archive: &[u8]) {
     );
 }
 
-fn decide(line: &[u8], archive: &[u8]) {
-    let mut words = [0u32; 34];
+// What an engine tells: its answer, and the decision.
+pub struct Told {
+    pub number: u32,
+    pub entry: usize,
+    pub place: usize,
+    pub verdict: u32,
+}
+
+fn by_record(archive: &[u8], words: &[u32; 34]) -> Told {
     let mut verdict: u32 = 0;
     let mut entry = show::FULL_PLACE;
     let mut place = show::FULL_PLACE;
-    input::numbers_at(line, 7, &mut words);
-    let number = boc::boc_decide(archive, &words, &mut verdict, &mut entry, &mut place);
+    let number = boc::boc_decide(archive, words, &mut verdict, &mut entry, &mut place);
+    Told {
+        number,
+        entry,
+        place,
+        verdict,
+    }
+}
+
+fn in_place(archive: &[u8], words: &[u32; 34]) -> Told {
+    let mut verdict: u32 = 0;
+    let mut entry = show::FULL_PLACE;
+    let mut place = show::FULL_PLACE;
+    let number = boc::boc_decide_in_place(archive, words, &mut verdict, &mut entry, &mut place);
+    Told {
+        number,
+        entry,
+        place,
+        verdict,
+    }
+}
+
+fn differ(one: Told, other: Told) -> bool {
+    if one.number != other.number {
+        return true;
+    }
+    if one.entry != other.entry {
+        return true;
+    }
+    if one.place != other.place {
+        return true;
+    }
+    one.verdict != other.verdict
+}
+
+fn tell(told: Told) {
     show::decision(
         Answer {
-            number,
-            entry,
-            place,
+            number: told.number,
+            entry: told.entry,
+            place: told.place,
         },
-        verdict,
+        told.verdict,
     );
+}
+
+fn decide(line: &[u8], archive: &[u8]) {
+    let mut words = [0u32; 34];
+    input::numbers_at(line, 7, &mut words);
+    let told = by_record(archive, &words);
+    let again = in_place(archive, &words);
+    tell(told);
+    if differ(told, again) {
+        io::write_all(1, b", in place ");
+        tell(again);
+    }
 }
 
 fn print(line: &[u8], bytes: &[u8]) {

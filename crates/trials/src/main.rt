@@ -1,4 +1,4 @@
-// Runs cases through the nine calls, a line of standard input each, and prints a line for each.
+// Runs cases through the calls, all but `boc_entry`, a line of standard input each, and prints a line for each.
 //
 // `BITS HEX` is the PDU of so many bits in these bytes: its refusal; or its record, each word that is not zero as `INDEX:VALUE`, and the PDU that
 // is written of it. These speak of the PDU given last and of its record, which is zero after a refusal:
@@ -18,7 +18,8 @@
 //                                    the same as a DEFINE with this definition type and these two bits
 //   reload_external NETWORK SSI DEFINITION DELIVERY ACKNOWLEDGEMENT ROOM
 //                                    a held number part as a DEFINE EXTERNAL
-//   decide WORD,WORD,..              the decision on the request in these words; no digits are 0, and so are words left out
+//   decide WORD,WORD,..              the decision on the request in these words; no digits are 0, and so are words left out. Both engines are
+//                                    asked, and what the second says follows where it is something else
 //   verify                           the listing of the held archive, its length and sum
 //   print FROM TO                    the bytes of the held archive's buffer from FROM up to TO
 //   overwrite AT HEX                 other bytes in that buffer

@@ -131,7 +131,7 @@ fn read_and_write(rng: &mut Rng) {
 }
 
 /// Capture in place of the last entry, restore of it, each reload that it has, the listing, and a decision by
-/// it.
+/// it with each engine.
 fn on_archive(archive: &Archive) -> Vec<(&'static str, Times)> {
     let held = archive.bytes();
     let held = held.as_slice();
@@ -169,18 +169,6 @@ fn on_archive(archive: &Archive) -> Vec<(&'static str, Times)> {
         call[request::LENGTH] = 24;
         call[request::FIRST_DIGIT..][..24].fill(7);
     }
-    let decide = Times::of::<u8>(
-        0,
-        |_| {
-            let (number, decision) =
-                through(|decision, spot| boc::ffi::decide(black_box(held), black_box(&call), decision, spot));
-            (number, decision as usize)
-        },
-        |_| {
-            let decided = reference::decide(black_box(held), black_box(&call));
-            answer(decided.map(|decision| decision.number() as usize))
-        },
-    );
     let mut times = vec![("capture", capture), ("restore", restore)];
     // As a replacement that is delivered and acknowledged. No part with numbers is a DEFINE, and no identity
     // part a DEFINE EXTERNAL.
@@ -190,8 +178,29 @@ fn on_archive(archive: &Archive) -> Vec<(&'static str, Times)> {
             times.push((reload.call(), reloads(held, &reload)));
         }
     }
-    times.extend([("contents", contents), ("decide", decide)]);
+    times.push(("contents", contents));
+    for (engine, decide) in [("decide", boc::ffi::decide as Engine), ("decide_in_place", boc::ffi::decide_in_place)] {
+        times.push((engine, decisions(held, &call, decide)));
+    }
     times
+}
+
+/// One of the two engines, as a C call.
+type Engine = fn(&[u8], &[u32], &mut u32, &mut Spot) -> u32;
+
+fn decisions(held: &[u8], call: &[u32; REQUEST_WORDS], decide: Engine) -> Times {
+    Times::of::<u8>(
+        0,
+        |_| {
+            let (number, decision) =
+                through(|decision, spot| decide(black_box(held), black_box(call), decision, spot));
+            (number, decision as usize)
+        },
+        |_| {
+            let decided = reference::decide(black_box(held), black_box(call));
+            answer(decided.map(|decision| decision.number() as usize))
+        },
+    )
 }
 
 fn reloads(held: &[u8], reload: &Reload) -> Times {

@@ -99,6 +99,15 @@ mod c {
             entry: *mut usize,
             place: *mut usize,
         ) -> u32;
+        pub fn boc_decide_in_place(
+            archive: *const u8,
+            archive_len: usize,
+            request: *const u32,
+            request_words: usize,
+            decision: *mut u32,
+            entry: *mut usize,
+            place: *mut usize,
+        ) -> u32;
         pub fn boc_contents(
             archive: *const u8,
             archive_len: usize,
@@ -273,6 +282,20 @@ pub fn decide(archive: &[u8], request: &[u32], decision: &mut u32, Spot { entry,
     let (held, held_len) = (archive.as_ptr(), archive.len());
     // SAFETY: slices and references, as above.
     unsafe { c::boc_decide(held, held_len, request.as_ptr(), request.len(), decision, entry, place) }
+}
+
+/// `boc_decide_in_place`.
+pub fn decide_in_place(
+    archive: &[u8],
+    request: &[u32],
+    decision: &mut u32,
+    Spot { entry, place }: &mut Spot,
+) -> u32 {
+    let (held, held_len) = (archive.as_ptr(), archive.len());
+    // SAFETY: slices and references, as above.
+    unsafe {
+        c::boc_decide_in_place(held, held_len, request.as_ptr(), request.len(), decision, entry, place)
+    }
 }
 
 /// `boc_contents`.

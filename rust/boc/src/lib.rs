@@ -42,7 +42,7 @@
 //!     group: None,
 //! };
 //! assert_eq!(decide(archive, &call(100))?, Decision::RestrictedDestination);
-//! assert_eq!(decide(archive, &call(150))?, Decision::Allowed);
+//! assert_eq!(decide_in_place(archive, &call(150))?, Decision::Allowed);
 //!
 //! let mut back = [0; PDU_BYTES];
 //! assert_eq!(restore(archive, user, Part::Identity, &mut back), Ok(Restored { bits, day }));
@@ -209,8 +209,17 @@ pub fn reload_external(
 ///
 /// Refuses with [`Range`](Refusal::Range), then with [`Archive`](Refusal::Archive).
 pub fn decide(archive: &[u8], request: &Request) -> Result<Decision, Refused> {
-    let number = answer(|decision, spot| ffi::decide(archive, &request.to_words(), decision, spot))?;
-    Ok(Decision::from_number(number).expect("what is decided is a decision"))
+    decided(answer(|decision, spot| ffi::decide(archive, &request.to_words(), decision, spot)))
+}
+
+/// The same as [`decide`] for every archive and call, without unpacking the part: it needs less stack, and
+/// less time.
+pub fn decide_in_place(archive: &[u8], request: &Request) -> Result<Decision, Refused> {
+    decided(answer(|decision, spot| ffi::decide_in_place(archive, &request.to_words(), decision, spot)))
+}
+
+fn decided(number: Result<u32, Refused>) -> Result<Decision, Refused> {
+    Ok(Decision::from_number(number?).expect("what is decided is a decision"))
 }
 
 /// Writes the listing of an archive to the front of `out` as text; answers its length in bytes.

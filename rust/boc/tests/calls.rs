@@ -336,16 +336,18 @@ fn an_archive_lists_restores_and_decides() {
         destination: Destination::Number("112".parse().unwrap()),
         group: None,
     };
-    assert_eq!(decide(&archive, &to_number), Ok(Decision::NotHeld));
-    let archive = captured(&number_part(), &archive).unwrap();
-    assert_eq!(decide(&archive, &to_number), Ok(Decision::RestrictedDestination));
     let elsewhere = Request { destination: Destination::Number("113".parse().unwrap()), ..to_number };
-    assert_eq!(decide(&archive, &elsewhere).map(Decision::cause), Ok(Some(RejectionCause::OutsideGroup)));
     let in_group = Request { group: Some(Party { network: 2, ssi: 500 }), ..elsewhere };
-    assert_eq!(decide(&archive, &in_group), Ok(Decision::Allowed));
-    assert_eq!(Decision::Allowed.cause(), None);
     let all = Request { service: Service::All, ..in_group };
-    assert_eq!(decide(&archive, &all), refused(Refusal::Range, None, None));
+    let both = captured(&number_part(), &archive).unwrap();
+    for engine in [decide, decide_in_place] {
+        assert_eq!(engine(&archive, &to_number), Ok(Decision::NotHeld));
+        assert_eq!(engine(&both, &to_number), Ok(Decision::RestrictedDestination));
+        assert_eq!(engine(&both, &elsewhere).map(Decision::cause), Ok(Some(RejectionCause::OutsideGroup)));
+        assert_eq!(engine(&both, &in_group), Ok(Decision::Allowed));
+        assert_eq!(engine(&both, &all), refused(Refusal::Range, None, None));
+    }
+    assert_eq!(Decision::Allowed.cause(), None);
 }
 
 #[test]

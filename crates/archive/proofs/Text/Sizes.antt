@@ -41,8 +41,15 @@ line-size home h k a d =
     let part : e .key .part < 10 = omega (arith, ap (λ (y : Key). y .part) (a .key), part-is (readIs (h .body) n .found) (a .may) .1) in
     let bits : n < 10000 = omega (arith, accepted-framed (h .body) n (a .accepted) .short) in
     let day : e .day < 100000 = omega arith in
-    omega (arith, length-line e, within 7 (e .key .network) network, within 7 (e .key .ssi) ssi, within 0 (e .key .part) part, within 3 n bits,
-    within 4 (e .day) day)
+    omega (
+      arith,
+      length-line e,
+      within 7 (e .key .network) network,
+      within 7 (e .key .ssi) ssi,
+      within 0 (e .key .part) part,
+      within 3 n bits,
+      within 4 (e .day) day,
+    )
 
 lines-size : (home last : ℕ) (hs : List Held) → home < 16777216 → keepsRules home last hs ≡ true → length (lines hs) ≤ 45 * length hs
 unfolding lines

@@ -1,64 +1,30 @@
--- 9 comes before 7; then each answer of the archive is the definition's own case. Assumes nothing.
-use mathlib.Core.Path.{_≡_, sym, ap, _∙_}
-use Prim.Native.Nat.{ℕ}
+-- The part that judges is read, or the answer is passed on. Assumes nothing.
+use mathlib.Core.Path.{_≡_, sym, _∙_}
 use borrow.Author.Needs.{needs}
-use borrow.Author.Tests.{ne-eqb}
 use denote.Ref.{now}
-use Rattle.rules.specs.Request.{requestRefusal}
-use Rattle.archive.specs.Restoring.{fetchIs}
-use Rattle.barring.specs.Decide.{keyFor, decideIs}
-use Rattle.barring.proofs.Decided.{body-within, decide-body, decide-missing, decide-damaged}
+use Rattle.barring.specs.Decide.{judgingPart}
+use Rattle.barring.proofs.Decided.{body-within, decide-body, part-at, part-answered}
 use Rattle.barring.proofs.decide.Statement.{statement}
 use Rattle.barring.proofs.decide.Tie as tie
 
-returns : tie.Need-returns
-unfolding decideIs
-returns c = rw (← c .before .request-refusal .ensures, ne-eqb _ _ (c .if1 .taken))
-
--- the request is in range
-ranged : (c : tie.After-fetch) → requestRefusal (c .before .before .before .before .before .before .args .request) ≡ 0
-ranged c = let d = c .before .before .before in sym (d .before .request-refusal .ensures) ∙ d .if1 .left
-
--- and its part was fetched
-fetches : (c : tie.After-fetch) →
-    let a = c .before .before .before .before .before .before .args in
-    fetchIs (now (a .archive)) (keyFor (a .request)) ≡ c .fetch .result
-fetches c =
-    let a = c .before .before .before .before .before .before .args in
-    sym
-    (c .fetch .ensures
-    ∙ ap (λ (part : ℕ). fetchIs (now (a .archive)) (record { network = a .request .user .network; ssi = a .request .user .ssi; part = part }))
-    (c .before .part-for .ensures))
+judged : (c : tie.After-judging-part) → let a = c .before .before .args in judgingPart (now (a .archive)) (a .request) ≡ c .judging-part .result
+judged c = sym (c .judging-part .ensures)
 
 ruling-of-body-requires : tie.Need-ruling-of-body-requires
 ruling-of-body-requires c κs =
-    let f = c .before .before .before in
-    body-within _ _ (ranged f) _ _ (fetches f ∙ c .before .at .given .1)
+    let p = part-at _ _ (judged (c .before .before .before) ∙ c .before .at .given .1) in
+    body-within _ _ (p .0) _ _ (p .2)
+
+returns : tie.Need-returns
+returns c =
+    let a = c .before .before in
+    let p = part-at _ _ (judged (a .before .before) ∙ a .at .given .1) in
+    c .ruling-of-body .ensures ∙ decide-body _ _ (p .0) _ _ (p .2)
 
 returns-2 : tie.Need-returns-2
-returns-2 c =
-    let a = c .before .before in
-    let f = a .before .before in
-    c .ruling-of-body .ensures ∙ decide-body _ _ (ranged f) _ _ (fetches f ∙ a .at .given .1)
-
-returns-3 : tie.Need-returns-3
-returns-3 c = let f = c .before .before in decide-missing _ _ (ranged f) (fetches f ∙ c .enum-told .given .1)
-
-returns-4 : tie.Need-returns-4
-returns-4 c = let f = c .before .before .before in decide-damaged _ _ (ranged f) (fetches f ∙ c .before .refusal .given .1)
+returns-2 c = part-answered _ _ (judged (c .before .before .before) ∙ c .before .decision .given .1)
 
 pub decide-spec : {M : Type 1} → statement M
 decide-spec =
     tie.close
-    (tie.spec
-    (λ c κs. search needs)
-    returns
-    (λ c κs. search needs)
-    (λ c κs. search needs)
-    (λ c. search needs)
-    ruling-of-body-requires
-    (λ c. search needs)
-    (λ c. search needs)
-    returns-2
-    returns-3
-    returns-4)
+    (tie.spec (λ c κs. search needs) (λ c. search needs) ruling-of-body-requires (λ c. search needs) returns returns-2)

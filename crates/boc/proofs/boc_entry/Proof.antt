@@ -25,9 +25,13 @@ returns-2 c =
     let e = answer (tell .before .before .before .before .before .before) in
     let told = tell .tell-listed .ensures in (
       said e refl listedNumber (told .0),
-      (left e refl listedKey (told .1 .0),
-      (left e refl listedLength (told .1 .1 .0),
-      (left e refl listedDay (told .1 .1 .1 .0), (left e refl listedEntry (told .1 .1 .1 .1 .0), left e refl listedPlace (told .1 .1 .1 .1 .1))))),
+      (
+        left e refl listedKey (told .1 .0),
+        (
+          left e refl listedLength (told .1 .1 .0),
+          (left e refl listedDay (told .1 .1 .1 .0), (left e refl listedEntry (told .1 .1 .1 .1 .0), left e refl listedPlace (told .1 .1 .1 .1 .1))),
+        ),
+      ),
     )
 
 pub boc-entry-spec : {M : Type 1} → statement M

@@ -1,4 +1,4 @@
--- Each of the ten calls for C has one possible outcome: the number it returns, the buffer, and the numbers behind its pointers.
+-- Each of the eleven calls for C has one possible outcome: the number it returns, the buffer, and the numbers behind its pointers.
 use Rattle.boc.proofs as boc
 use Rattle.promises.specs.Determined.{Determined, by-equations}
 
@@ -15,12 +15,52 @@ pub boc-capture-determined : Determined boc.boc_capture.Kinds.ps boc.boc_capture
 boc-capture-determined = by-equations (λ κs a x v p. (p .0, λ i. (tt, (tt, (tt, (tt, (p .1 .0 i, (p .1 .1 .0 i, (p .1 .1 .1 .0 i, (p .1 .1 .1 .1 i, tt))))))))))
 
 pub boc-entry-determined : Determined boc.boc_entry.Kinds.ps boc.boc_entry.Kinds.r boc.boc_entry.Reads.Learnt
-boc-entry-determined = by-equations (λ κs a x v p. (p .0, λ i. (tt, (tt, (p .1 .0 i, (p .1 .1 .0 i, (p .1 .1 .1 .0 i,
-    (p .1 .1 .1 .1 .0 i, (p .1 .1 .1 .1 .1 i, tt)))))))))
+boc-entry-determined = by-equations (λ κs a x v p. (
+  p .0,
+  λ i. (
+    tt,
+    (
+      tt,
+      (
+        p .1 .0 i,
+        (
+          p .1 .1 .0 i,
+          (
+            p .1 .1 .1 .0 i,
+            (p .1 .1 .1 .1 .0 i, (p .1 .1 .1 .1 .1 i, tt)),
+          ),
+        ),
+      ),
+    ),
+  ),
+))
 
 pub boc-restore-determined : Determined boc.boc_restore.Kinds.ps boc.boc_restore.Kinds.r boc.boc_restore.Reads.Learnt
-boc-restore-determined = by-equations (λ κs a x v p. (p .0, λ i. (tt, (tt, (tt, (tt, (p .1 .0 i, (p .1 .1 .0 i, (p .1 .1 .1 .0 i,
-    (p .1 .1 .1 .1 .0 i, (p .1 .1 .1 .1 .1 i, tt)))))))))))
+boc-restore-determined = by-equations (λ κs a x v p. (
+  p .0,
+  λ i. (
+    tt,
+    (
+      tt,
+      (
+        tt,
+        (
+          tt,
+          (
+            p .1 .0 i,
+            (
+              p .1 .1 .0 i,
+              (
+                p .1 .1 .1 .0 i,
+                (p .1 .1 .1 .1 .0 i, (p .1 .1 .1 .1 .1 i, tt)),
+              ),
+            ),
+          ),
+        ),
+      ),
+    ),
+  ),
+))
 
 pub boc-reload-determined : Determined boc.boc_reload.Kinds.ps boc.boc_reload.Kinds.r boc.boc_reload.Reads.Learnt
 boc-reload-determined = by-equations (λ κs a x v p. (p .0, λ i. (tt, (tt, (tt, (tt, (tt, (tt, (tt, (p .1 .0 i, (p .1 .1 .0 i, (p .1 .1 .1 .0 i, (p .1 .1 .1 .1 i, tt)))))))))))))
@@ -30,6 +70,9 @@ boc-reload-external-determined = by-equations (λ κs a x v p. (p .0, λ i. (tt,
 
 pub boc-decide-determined : Determined boc.boc_decide.Kinds.ps boc.boc_decide.Kinds.r boc.boc_decide.Reads.Learnt
 boc-decide-determined = by-equations (λ κs a x v p. (p .0, λ i. (tt, (tt, (p .1 .0 i, (p .1 .1 .0 i, (p .1 .1 .1 i, tt)))))))
+
+pub boc-decide-in-place-determined : Determined boc.boc_decide_in_place.Kinds.ps boc.boc_decide_in_place.Kinds.r boc.boc_decide_in_place.Reads.Learnt
+boc-decide-in-place-determined = by-equations (λ κs a x v p. (p .0, λ i. (tt, (tt, (p .1 .0 i, (p .1 .1 .0 i, (p .1 .1 .1 i, tt)))))))
 
 pub boc-contents-determined : Determined boc.boc_contents.Kinds.ps boc.boc_contents.Kinds.r boc.boc_contents.Reads.Learnt
 boc-contents-determined = by-equations (λ κs a x v p. (p .0, λ i. (tt, (p .1 .0 i, (p .1 .1 .0 i, (p .1 .1 .1 .0 i, (p .1 .1 .1 .1 i, tt)))))))

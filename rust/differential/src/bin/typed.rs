@@ -325,6 +325,7 @@ fn decides(cases: &mut Cases, rng: &mut Rng, held: &[u8], user: [u32; 2]) {
     let expected = cases.expected(number);
     let decided = expected.map(|number| value(DECISIONS, number).expect("it is a decision"));
     assert_eq!(boc::decide(held, &request), decided, "{:?}", cases.case);
+    assert_eq!(boc::decide_in_place(held, &request), decided, "{:?}", cases.case);
     if let (Ok(number), Ok(decision)) = (expected, decided) {
         assert_eq!(decision.cause(), value(REJECTION_CAUSES, number), "{:?}", cases.case);
         cases.met.meet("decide, decision", number);

@@ -1,23 +1,28 @@
--- The invariant: what is left to test decides the answer. Assumes nothing.
+-- The invariant: what was refused so far and what is left to test decide the answer. Assumes nothing.
 use native.Mathlib.Omega.{arith}
-use mathlib.Core.Path.{_≡_, refl, ap, _∙_}
-use Prim.Native.Nat.{_-_, _≤_}
+use mathlib.Core.Path.{_≡_, refl, sym, ap, _∙_, subst}
+use mathlib.Core.Bool.{_&&_}
+use Prim.Native.Nat.{ℕ, _-_, _*_, _≤_}
 use lib.ListN.{take}
 use lib.Seq.{slice}
+use lib.Dec.{eqb, leb}
 use borrow.Author.Needs.{needs}
-use borrow.Author.Tests.{eq-eqb, ne-eqb}
 use Rattle.bits.specs.Lists.{every}
+use Rattle.bits.proofs.Tests.{by-test}
 use Rattle.bits.proofs.Lists.{take-used}
+use Rattle.grammar.specs.SiteSheet.{digitRefusal}
+use Rattle.grammar.proofs.Codes.{digit-refusal}
 use Rattle.rules.specs.Request.{isDigit}
-use Rattle.rules.proofs.Search.{stays, fails, every-end}
+use Rattle.rules.proofs.Search.{summed, sum-end}
 use Rattle.rules.proofs.request.used_are_digits.Statement.{statement}
 use Rattle.rules.proofs.request.used_are_digits.Tie as tie
 
 abbrev Inv-loop : tie.InvT-loop
-Inv-loop digits n i₀ i = (i ≤ n) × (every isDigit (slice i n digits) ≡ every isDigit (take n digits))
+Inv-loop digits n refused₀ i₀ refused i =
+    (i ≤ n) × ((refused ≤ 3 * i) × (eqb refused 0 && every isDigit (slice i n digits) ≡ every isDigit (take n digits)))
 
 abbrev μ-loop : tie.MeasureT-loop
-μ-loop digits n i₀ i = n - i
+μ-loop digits n refused₀ i₀ refused i = n - i
 
 -- the places that are used have the digits that the length takes
 whole : (c : tie.After-least Inv-loop μ-loop)
@@ -25,31 +30,27 @@ whole : (c : tie.After-least Inv-loop μ-loop)
     ≡ every isDigit (take (c .before .before .args .length .0) (c .before .before .args .t1))
 whole c = let a = c .before .before .args in ap (every isDigit) (take-used (a .t1) (a .length .0) (omega arith) (c .least .ensures))
 
-loop-holds : tie.Need-loop-holds Inv-loop μ-loop
-loop-holds c = (omega arith, refl)
-
-returns : tie.Need-returns Inv-loop μ-loop
-unfolding isDigit
-returns c =
-    let d = c .before .before in
-    let a = d .before .before .before .before .args in
-    fails isDigit (a .t1) 0 (d .loop-test .taken) (omega arith) (rw (← c .before .digit-refusal .ensures) (ne-eqb _ _ (c .if1 .taken)))
-    (d .before .loop .inv .1) ∙ whole (d .before .before)
+small : (d : ℕ) {r : ℕ} → r ≡ digitRefusal d → r ≤ 3
+small d e = subst (λ (x : ℕ). x ≤ 3) (sym (e ∙ digit-refusal d)) (by-test (λ (x : ℕ). x ≤ 3) (leb d 12) (omega arith) (omega arith))
 
 loop-again : tie.Need-loop-again Inv-loop μ-loop
 unfolding isDigit
 loop-again c =
-    let d = c .before .before in
-    let a = d .before .before .before .before .args in (
+    let d = c .before .before .before in
+    let a = d .before .before .args in
+    let inv = c .before .before .loop .inv in (
       omega arith,
-      stays isDigit (a .t1) 0 (d .loop-test .taken) (omega arith) (rw (← c .before .digit-refusal .ensures) (eq-eqb _ _ (c .if1 .left)))
-          (d .before .loop .inv .1),
+      (
+        omega (arith, small _ (c .digit-refusal .ensures)),
+        summed isDigit (a .t1) 0 (c .before .loop-test .taken) (omega arith) (c .before .before .loop .refused)
+            (c .digit-refusal .result) (ap (λ (x : ℕ). eqb x 0) (sym (c .digit-refusal .ensures))) (inv .1 .1),
+      ),
     )
 
-returns-2 : tie.Need-returns-2 Inv-loop μ-loop
-returns-2 c =
+returns : tie.Need-returns Inv-loop μ-loop
+returns c =
     let a = c .before .before .before .before .args in
-    every-end (c .loop-test .left) isDigit (a .t1) (c .before .loop .inv .1) ∙ whole (c .before .before)
+    sum-end (c .loop-test .left) isDigit (a .t1) (c .before .loop .refused) (c .before .loop .inv .1 .1) ∙ whole (c .before .before)
 
 pub used-are-digits-spec : {M : Type 1} → statement M
 used-are-digits-spec =
@@ -59,12 +60,12 @@ used-are-digits-spec =
     μ-loop
     (λ c. search needs)
     (λ c κs. search needs)
-    loop-holds
+    (λ c. (omega arith, (omega arith, refl)))
     (λ c. search needs)
     (λ c. search needs)
     (λ c κs. search needs)
-    returns
+    (λ c. omega (arith, small _ (c .digit-refusal .ensures)))
     (λ c. search needs)
     (λ c. search needs)
     loop-again
-    returns-2)
+    returns)

@@ -21,11 +21,15 @@ const CALLS: &[(&str, &[u32])] = &[
     ("reload", &[0, 7, 8, 9, 11, 12]),
     ("reload_external", &[0, 7, 8, 9, 11, 12]),
     ("decide", &[0, 7, 9]),
+    ("decide_in_place", &[0, 7, 9]),
     ("contents", &[0, 7, 8]),
 ];
 
 /// The refusals of a PDU that have a place.
 const PLACED: [u32; 4] = [2, 3, 4, 5];
+
+/// One of the two engines that decide.
+type Engine = fn(&[u8], &[u32], &mut u32, &mut Spot) -> u32;
 
 /// What a visitor's own network tells apart from the home network.
 const TELLS: [&str; 2] = ["destination", "group"];
@@ -392,14 +396,19 @@ impl Calls {
         }
     }
 
+    /// Both engines on the same request.
     pub fn decide(&mut self, rng: &mut Rng, archive: &[u8], request: &[u32]) {
         let before = Behind { number: rng.bits(32), spot: random_spot(rng) };
-        let mut after = before;
-        let library = boc::ffi::decide(archive, request, &mut after.number, &mut after.spot);
         let expected = reference::decide(archive, request).map(|decision| decision.number());
-        let nothing = Lent::<u8>::new(vec![0; 2 * MARGIN]);
-        self.compare("decide", (library, after), before, expected, &nothing);
-        self.count("decide", archive, expected);
+        let engines: [(&str, Engine); 2] =
+            [("decide", boc::ffi::decide), ("decide_in_place", boc::ffi::decide_in_place)];
+        for (call, engine) in engines {
+            let mut after = before;
+            let library = engine(archive, request, &mut after.number, &mut after.spot);
+            let nothing = Lent::<u8>::new(vec![0; 2 * MARGIN]);
+            self.compare(call, (library, after), before, expected, &nothing);
+            self.count(call, archive, expected);
+        }
         if let Ok(decision) = expected {
             self.met.meet("decide, decision", decision);
             self.visitor(archive, request, decision);
