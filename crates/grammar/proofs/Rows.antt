@@ -19,7 +19,7 @@ use Rattle.codec.specs.Codec.{Codec, first}
 use Rattle.codec.specs.Parts.{numberFault, number, absent, element, seq, tested, shaped}
 use Rattle.codec.specs.Reading.{Found, got, readAt}
 use Rattle.codec.proofs.Windows.{number-in-window}
-use Rattle.codec.proofs.Seen.{Seen, read, seen-number, seen-element, seen-absent, seen-seq, seen-shaped}
+use Rattle.codec.proofs.Seen.{Seen, seen-number, seen-element, seen-absent, seen-seq, seen-shaped}
 use Rattle.grammar.specs.SiteSheet.{askedRefusal, resultRefusal, acknowledgementRefusal, definitionRefusal, definedRefusal, distributedRefusal}
 use Rattle.grammar.specs.SiteSheet.{causeRefusal, between}
 use Rattle.grammar.specs.Grammar.{Three, none, toFigures, figures, restOf, tables}

@@ -27,7 +27,8 @@ use Rattle.archive.proofs.Calls.Limits.{counted}
 use Rattle.archive.proofs.Calls.Capture.{as-placed, placed-whole, capture-leaves}
 use Rattle.promises.specs.Days.{HoldsAt, dayPlace, Promise}
 use Rattle.promises.proofs.Archive.Laying.{archive-is, archive-read}
-use Rattle.promises.proofs.Archive.Indexing.{there}
+use Rattle.promises.proofs.Archive.Finding.{among-kept}
+use Rattle.promises.proofs.Archive.Indexing.{among-joined}
 
 -- ---- in an archive that keeps the rules
 
@@ -38,7 +39,7 @@ module _ (home : ℕ) (h : Held) (post : List Held) where
   put-there x e last [] k = rw (le-ltb (rank h) (rank x) (omega (arith, e)), eq-eqb (rank h) (rank x) (sym e))
   put-there x e last (y ∷ pre) k =
       let u = kept home last y (pre ++ (h ∷ post)) k in
-      let above = there home h post (rank y) pre (u .others) .0 in
+      let above = among-kept home (rank y) h (pre ++ (h ∷ post)) (u .others) (among-joined h pre post) .0 in
       rw (lt-ltb (rank y) (rank x) (omega (arith, e, above))) (ap (λ (l : List Held). y ∷ l) (put-there x e (rank y) pre (u .others)))
 
 -- ---- the bytes around a day
@@ -88,7 +89,10 @@ module _ (b s : List ℕ) (n index day : ℕ) (y : Bytes b) (k : HoldsAt b s n i
   rules = subst (λ (hs : List Held). keepsRules home 0 hs ≡ true) held-is (archive-formed b ok .rules)
 
   agrees : bodies.Agrees home (k .here)
-  agrees = bodies.agrees-says home (k .here) (there home (k .here) (k .stands .after) 0 (k .stands .before) rules .1)
+  agrees =
+      let s = k .stands in
+      bodies.agrees-says home (k .here)
+      (among-kept home 0 (k .here) (s .before ++ (k .here ∷ s .after)) rules (among-joined (k .here) (s .before) (s .after)) .1)
 
   -- what the PDU is held as is what is held, on that day
   same : heldFor home s n day ≡ on (k .here) day

@@ -1,8 +1,8 @@
 -- What is promised of visitors: a part that judges is filed under the network of the user who calls. Assumes nothing.
-use mathlib.Core.Path.{_≡_, refl, sym, ap, _∙_, subst}
-use mathlib.Core.Logic.{_⊎_, inl, inr, ⊎-elim}
+use mathlib.Core.Path.{_≡_, refl, sym, ap, _∙_}
+use mathlib.Core.Logic.{_⊎_, inl, inr}
 use mathlib.Core.Bool.{Bool, true, false}
-use mathlib.Core.List.{List, [], _∷_, List·Memᴰ, List·Memᴰ·cases-cons, List·Memᴰ·not-nil}
+use mathlib.Core.List.{List}
 use mathlib.Core.Option.{Option, none, some}
 use Prim.Native.Nat.{ℕ}
 use lib.Dec.{eqb}
@@ -16,16 +16,14 @@ use Rattle.rules.specs.Rule.{missingIn, ruling, sixRules}
 use Rattle.rules.specs.declared.request.Destination.{Destination}
 use Rattle.rules.specs.declared.request.Destination.the-variants.{Identity, Number}
 use Rattle.rules.specs.declared.request.Request.{Request}
-use Rattle.archive.specs.Model.{Held, rank}
-use Rattle.archive.specs.Filing.{keepsRules, bodyAgrees}
+use Rattle.archive.specs.Model.{Held}
 use Rattle.archive.specs.Reading.{reading, isArchive}
 use Rattle.archive.specs.Refusals.{plain}
 use Rattle.archive.specs.Checking.{checkIs, ifArchive}
 use Rattle.archive.specs.declared.checking.Checked.{Checked}
 use Rattle.archive.specs.declared.checking.Checked.the-variants as checked
 use Rattle.archive.proofs.Model.Checked.{checked-archive}
-use Rattle.archive.proofs.Model.Rules.{kept, archive-formed}
-use Rattle.archive.proofs.Model.Bodies as bodies
+use Rattle.archive.proofs.Model.Found.{held-agrees, held-named}
 use Rattle.archive.specs.declared.contents.Key.{Key}
 use Rattle.barring.specs.Decide.{partFor, keyFor, judgedBy, partIn, decideIs}
 use Rattle.barring.specs.Decision.{decisionOf}
@@ -34,7 +32,7 @@ use Rattle.barring.specs.declared.Decision.the-variants.{Refused}
 use Rattle.promises.specs.Archive.{affectedUser}
 use Rattle.promises.specs.Archive as said
 use Rattle.promises.specs.Visitors.{judgedWith, decideWith, Promise}
-use Rattle.promises.proofs.Archive.Finding.{found}
+use Rattle.promises.proofs.Archive.Finding.{ranged-is}
 use Rattle.promises.proofs.Demand1.Decision as decision
 
 -- ---- a part
@@ -64,14 +62,6 @@ module _ (home : ℕ) (r : Record) (q : Request) where
 
 -- ---- a decision
 
--- an entry of an archive agrees with its body
-among-agrees : (home last : ℕ) (h : Held) (hs : List Held) → keepsRules home last hs ≡ true → List·Memᴰ h hs → bodyAgrees home h ≡ true
-among-agrees home last h [] k m = absurd (List·Memᴰ·not-nil m)
-among-agrees home last h (x ∷ xs) k m =
-    let u = kept home last x xs k in
-    ⊎-elim (λ e. subst (λ (y : Held). bodyAgrees home y ≡ true) (sym e) (u .agrees)) (λ t. among-agrees home (rank x) h xs (u .others) t)
-    (List·Memᴰ·cases-cons m)
-
 -- the part that judges is 1 or 2
 which : (d : Destination) → (partFor d ≡ 1) ⊎ (partFor d ≡ 2)
 unfolding partFor
@@ -90,11 +80,9 @@ module _ (b : List ℕ) (q : Request) where
     judged none e = refl
     judged (some h) e =
         let home = reading b .home in
-        let d = found (keyFor q) b ok ranged h .0 e in
-        let a = bodies.agrees-says home h (among-agrees home 0 h (reading b .held) (archive-formed b ok .rules) (d .among)) in
         let r = readIs (h .body) (h .entry .bits .0) .found in
         let n : missingIn home r ≡ q .user .network =
-        sym (ap (λ (k : Key). k .network) (a .key)) ∙ ap (λ (k : Key). k .network) (d .for) in
+        ap (λ (k : Key). k .network) (sym (held-agrees b ok (keyFor q) e .key) ∙ held-named b ok (keyFor q) e (ranged-is (keyFor q) ranged)) in
         ap decisionOf (read-with home r q (q .user .network) n)
 
   -- the answer, after the two tests

@@ -9,7 +9,7 @@ use lib.Seq.{drop-at}
 use Rattle.bits.specs.Bits.{bitsOf}
 use Rattle.bits.proofs.Numbers.{length-bitsOf, bitsOf-add, bitsOf-mod}
 use Rattle.codec.specs.Parts.{number, seq}
-use Rattle.grammar.specs.Grammar.{services, partOf, noPart, fromRecord}
+use Rattle.grammar.specs.Grammar.{services, partOf, fromRecord}
 use Rattle.grammar.specs.Rows.{formOf, partIn, figuresOf, widthOf, runOf}
 use Rattle.grammar.specs.declared.site.PduType.{PduType}
 use Rattle.grammar.proofs.Rows.{no-lists, narrow, figures-print}

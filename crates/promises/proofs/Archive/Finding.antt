@@ -1,5 +1,5 @@
 -- A user and part in range, and what is held for it: as tests and as statements. Assumes nothing.
-use mathlib.Core.Path.{_≡_, refl, sym, ap, _∙_}
+use mathlib.Core.Path.{_≡_, refl, sym, ap, _∙_, subst}
 use mathlib.Core.Logic.{_↔_, ⊎-elim}
 use mathlib.Core.Bool.{Bool, true, false}
 use mathlib.Core.List.{List, [], _∷_, List·Memᴰ, List·Memᴰ·head, List·Memᴰ·tail, List·Memᴰ·cases-cons, List·Memᴰ·not-nil}
@@ -11,7 +11,7 @@ use borrow.Author.Tests.{eq-eqb, ne-eqb}
 use Rattle.bits.specs.Bits.{pick}
 use Rattle.bits.proofs.Tests.{never}
 use Rattle.archive.specs.Model.{Held, rankOf, rank, inRange}
-use Rattle.archive.specs.Filing.{keepsRules}
+use Rattle.archive.specs.Filing.{bodyAgrees, keepsRules}
 use Rattle.archive.specs.Reading.{reading, isArchive}
 use Rattle.archive.specs.Restoring.{lookup}
 use Rattle.archive.proofs.Model.Rules.{AllFit, and-fit, kept, all-fit, archive-formed}
@@ -32,12 +32,14 @@ ranged-is k r =
     ⊎-elim (λ e. keys.in-range k (r .network) (r .ssi) (omega (arith, e)) (omega (arith, e)))
     (λ e. keys.in-range k (r .network) (r .ssi) (omega (arith, e)) (omega (arith, e))) (r .part)
 
-among-above : (home last : ℕ) (h : Held) (hs : List Held) → keepsRules home last hs ≡ true → List·Memᴰ h hs → last < rank h
-among-above home last h [] k m = absurd (List·Memᴰ·not-nil m)
-among-above home last h (x ∷ xs) k m =
+-- an entry of an archive is above what its entries rise from, and its body agrees with it
+pub among-kept : (home last : ℕ) (h : Held) (hs : List Held) → keepsRules home last hs ≡ true → List·Memᴰ h hs
+    → (last < rank h) × (bodyAgrees home h ≡ true)
+among-kept home last h [] k m = absurd (List·Memᴰ·not-nil m)
+among-kept home last h (x ∷ xs) k m =
     let u = kept home last x xs k in
-    ⊎-elim (λ e. omega (arith, u .rises, ap rank e)) (λ t. omega (arith, u .rises, among-above home (rank x) h xs (u .others) t))
-    (List·Memᴰ·cases-cons m)
+    ⊎-elim (λ e. (omega (arith, u .rises, ap rank e), subst (λ (y : Held). bodyAgrees home y ≡ true) (sym e) (u .agrees)))
+    (λ t. let r = among-kept home (rank x) h xs (u .others) t in (omega (arith, u .rises, r .0), r .1)) (List·Memᴰ·cases-cons m)
 
 module _ (k : Key) where
   look : (home last : ℕ) (h : Held) (hs : List Held) → keepsRules home last hs ≡ true → rank h ≡ rankOf k → List·Memᴰ h hs → lookup k hs ≡ some h
@@ -47,7 +49,7 @@ module _ (k : Key) where
       ⊎-elim
       (λ f. ap (λ (t : Bool). pick t (some x) (lookup k xs)) (eq-eqb _ _ (ap rank (sym f) ∙ e)) ∙ ap some (sym f))
       (λ t.
-      let l : rank x < rank h = among-above home (rank x) h xs (u .others) t in
+      let l : rank x < rank h = among-kept home (rank x) h xs (u .others) t .0 in
       ap (λ (t : Bool). pick t (some x) (lookup k xs)) (ne-eqb (rank x) (rankOf k) (λ q. omega (arith, l, e, q)))
       ∙ look home (rank x) h xs (u .others) e t)
       (List·Memᴰ·cases-cons m)

@@ -1,4 +1,4 @@
--- What stands at an index of an archive: in its order, agreeing with its entry, and held for its user and part. Assumes nothing.
+-- What stands at an index of an archive is one of its entries, in range, and the only one there. Assumes nothing.
 use mathlib.Core.Path.{_≡_, refl, ap, subst}
 use mathlib.Core.Bool.{true}
 use mathlib.Core.List.{List, [], _∷_, _++_, List·Memᴰ, List·Memᴰ·head, List·Memᴰ·tail}
@@ -8,34 +8,24 @@ use native.Mathlib.Nat.{not-suc-le-zero}
 use native.Mathlib.Omega.{arith}
 use lib.ListN.{length}
 use Rattle.bits.proofs.Tests.{never}
-use Rattle.archive.specs.Model.{Held, rank, inRange}
-use Rattle.archive.specs.Filing.{bodyAgrees, keepsRules}
+use Rattle.archive.specs.Model.{Held, inRange}
+use Rattle.archive.specs.Filing.{keepsRules}
 use Rattle.archive.specs.Restoring.{heldNth}
 use Rattle.archive.proofs.Model.Checked.{agrees-ranged}
-use Rattle.archive.proofs.Model.Rules.{kept}
 use Rattle.promises.specs.Archive.{StandsAt}
+use Rattle.promises.proofs.Archive.Finding.{among-kept}
 
--- an entry behind others is above them all, and its body agrees with it
-pub there : (home : ℕ) (h : Held) (post : List Held) (last : ℕ) (pre : List Held) → keepsRules home last (pre ++ (h ∷ post)) ≡ true
-    → (last < rank h) × (bodyAgrees home h ≡ true)
-there home h post last [] k = let u = kept home last h post k in (u .rises, u .agrees)
-there home h post last (x ∷ pre) k =
-    let u = kept home last x (pre ++ (h ∷ post)) k in
-    let t = there home h post (rank x) pre (u .others) in
-    (omega (arith, u .rises, t .0), t .1)
-
--- so its user and part are in range
-pub stands-ranged : (home : ℕ) (hs : List Held) (index : ℕ) (h : Held) → home < 16777216 → keepsRules home 0 hs ≡ true → StandsAt hs index h
-    → inRange (h .entry .key) ≡ true
-stands-ranged home hs index h small rules s =
-    agrees-ranged home h small (there home h (s .after) 0 (s .before) (subst (λ (l : List Held). keepsRules home 0 l ≡ true) (s .split) rules) .1)
-
-among-joined : (h : Held) (pre post : List Held) → List·Memᴰ h (pre ++ (h ∷ post))
+pub among-joined : (h : Held) (pre post : List Held) → List·Memᴰ h (pre ++ (h ∷ post))
 among-joined h [] post = List·Memᴰ·head refl
 among-joined h (x ∷ pre) post = List·Memᴰ·tail (among-joined h pre post)
 
 pub stands-among : {hs : List Held} {index : ℕ} {h : Held} → StandsAt hs index h → List·Memᴰ h hs
 stands-among {h = h} s = rw (s .split) (among-joined h (s .before) (s .after))
+
+-- so its user and part are in range
+pub stands-ranged : (home : ℕ) (hs : List Held) (index : ℕ) (h : Held) → home < 16777216 → keepsRules home 0 hs ≡ true → StandsAt hs index h
+    → inRange (h .entry .key) ≡ true
+stands-ranged home hs index h small rules s = agrees-ranged home h small (among-kept home 0 h hs rules (stands-among s) .1)
 
 -- ---- by its index
 
