@@ -9,14 +9,14 @@ use lib.ListN.{length, take}
 use lib.Dec.{leb}
 use borrow.Author.Tests.{le-leb}
 use Rattle.bits.specs.Bits.{pick}
-use Rattle.bits.specs.Frame.{bytesFor}
+use Rattle.bits.specs.Frame.{bytes_for}
 use Rattle.archive.specs.Model.{Held, Archive, in_range}
-use Rattle.archive.specs.Filing.{sameKey}
-use Rattle.archive.specs.Reading.{reading, isArchive}
+use Rattle.archive.specs.Filing.{same_key}
+use Rattle.archive.specs.Reading.{reading, is_archive}
 use Rattle.archive.specs.Refusals.{plain}
-use Rattle.archive.specs.Keeping.{over, emptyIs, emptyOut, heldFor, captured, captureOut}
-use Rattle.archive.specs.Restoring.{lookup, delivered, body_of, restoreIs, restores, restoreOut}
-use Rattle.archive.specs.History.{Offer, keptOf, answerTo, after, afterAll, offeredFor, latest, lastAccepted}
+use Rattle.archive.specs.Keeping.{over, empty_is, empty_out, held_for, captured, capture_out}
+use Rattle.archive.specs.Restoring.{lookup, delivered, body_of, restore_is, restores, restore_out}
+use Rattle.archive.specs.History.{Offer, kept_of, answer_to, after, after_all, offered_for, latest, last_accepted}
 use Rattle.archive.specs.declared.contents.Key.{Key}
 use Rattle.archive.specs.declared.Stored.{Stored}
 use Rattle.archive.specs.declared.Stored.TheVariants.{Bytes, Refused}
@@ -36,51 +36,51 @@ Matches none (some o) = ⊥
 Matches (some h) none = ⊥
 
 module _ (k : Key) (r : in_range k ≡ true) where
-  abbrev heldIn : List ℕ → Option Held
-  heldIn b = lookup k (reading b).held
+  abbrev held_in : List ℕ → Option Held
+  held_in b = lookup k (reading b).held
 
-  step : (b : List ℕ) (o : Offer) (last : Option Offer) → isArchive b ≡ true → Matches (heldIn b) last
-      → (isArchive (after b o) ≡ true) × (Matches (heldIn (after b o)) (latest (answerTo b o) (sameKey (offeredFor b o) k) o last))
+  step : (b : List ℕ) (o : Offer) (last : Option Offer) → is_archive b ≡ true → Matches (held_in b) last
+      → (is_archive (after b o) ≡ true) × (Matches (held_in (after b o)) (latest (answer_to b o) (same_key (offered_for b o) k) o last))
   unfolding after
-  step b o last ok m = go (answerTo b o) refl
+  step b o last ok m = go (answer_to b o) refl
     where
       now : (x : Stored) → List ℕ
-      now x = keptOf x b (captureOut b o.pdu o.bits o.day o.lent)
+      now x = kept_of x b (capture_out b o.pdu o.bits o.day o.lent)
 
-      picked : (p : Bool) {l : Option Held} → l ≡ pick p (some (heldFor (reading b).home o.pdu o.bits o.day)) (heldIn b) → (n : ℕ)
+      picked : (p : Bool) {l : Option Held} → l ≡ pick p (some (held_for (reading b).home o.pdu o.bits o.day)) (held_in b) → (n : ℕ)
           → Matches l (latest (Bytes n) p o last)
       picked true e n = subst (λ (l : Option Held). Matches l (some o)) (sym e) (refl, refl, refl)
       picked false e n = subst (λ (l : Option Held). Matches l last) (sym e) m
 
-      go : (x : Stored) → answerTo b o ≡ x
-          → (isArchive (now (answerTo b o)) ≡ true) × (Matches (heldIn (now (answerTo b o))) (latest (answerTo b o) (sameKey (offeredFor b o) k) o last))
+      go : (x : Stored) → answer_to b o ≡ x
+          → (is_archive (now (answer_to b o)) ≡ true) × (Matches (held_in (now (answer_to b o))) (latest (answer_to b o) (same_key (offered_for b o) k) o last))
       go (Bytes n) e =
-          rw e (new-archive b o.pdu o.bits o.day n o.lent e, picked (sameKey (offeredFor b o) k) (held_after b o.pdu o.bits o.day n o.lent e k r) n)
+          rw e (new-archive b o.pdu o.bits o.day n o.lent e, picked (same_key (offered_for b o) k) (held_after b o.pdu o.bits o.day n o.lent e k r) n)
       go (Refused k) e = rw e (ok, m)
 
-  steps : (b : List ℕ) (os : List Offer) (last : Option Offer) → isArchive b ≡ true → Matches (heldIn b) last
-      → (isArchive (afterAll b os) ≡ true) × (Matches (heldIn (afterAll b os)) (lastAccepted k b last os))
-  unfolding afterAll lastAccepted
+  steps : (b : List ℕ) (os : List Offer) (last : Option Offer) → is_archive b ≡ true → Matches (held_in b) last
+      → (is_archive (after_all b os) ≡ true) × (Matches (held_in (after_all b os)) (last_accepted k b last os))
+  unfolding after_all last_accepted
   steps b [] last ok m = (ok, m)
   steps b (o ∷ os) last ok m =
       let s = step b o last ok m in
-      steps (after b o) os (latest (answerTo b o) (sameKey (offeredFor b o) k) o last) s.0 s.1
+      steps (after b o) os (latest (answer_to b o) (same_key (offered_for b o) k) o last) s.0 s.1
 
 -- ---- what restoring gives
 
 -- of the last PDU accepted: its bits and its day, or 11 if there was none
 abbrev pub given_of : Option Offer → ℕ → Restored
 given_of none room = restored.Refused (plain 11)
-given_of (some o) room = pick (leb (bytesFor o.bits) room) (restored.Bits (record { 0 = o.bits }) o.day) (restored.Refused (plain 8))
+given_of (some o) room = pick (leb (bytes_for o.bits) room) (restored.Bits (record { 0 = o.bits }) o.day) (restored.Refused (plain 8))
 
-abbrev pub pduOf : Option Offer → List ℕ
-pduOf none = []
-pduOf (some o) = o.pdu
+abbrev pub pdu_of : Option Offer → List ℕ
+pdu_of none = []
+pdu_of (some o) = o.pdu
 
-gives : (l : Option Held) (last : Option Offer) (room : ℕ) → Matches l last → (delivered l room ≡ given_of last room) × (body_of l ≡ pduOf last)
+gives : (l : Option Held) (last : Option Offer) (room : ℕ) → Matches l last → (delivered l room ≡ given_of last room) × (body_of l ≡ pdu_of last)
 gives none none room m = (refl, refl)
 gives (some h) (some o) room m =
-    ((λ i. pick (leb (bytesFor (m.1 i).0) room) (restored.Bits (m.1 i) (m.2 i)) (restored.Refused (plain 8))), m.0)
+    ((λ i. pick (leb (bytes_for (m.1 i).0) room) (restored.Bits (m.1 i) (m.2 i)) (restored.Refused (plain 8))), m.0)
 gives none (some o) room m = absurd m
 gives (some h) none room m = absurd m
 
@@ -89,55 +89,55 @@ gives (some h) none room m = absurd m
 -- a capture keeps the home network
 same_home : (b : List ℕ) (o : Offer) → (reading (after b o)).home ≡ (reading b).home
 unfolding after captured
-same_home b o = go (answerTo b o) refl
+same_home b o = go (answer_to b o) refl
   where
-    go : (x : Stored) → answerTo b o ≡ x → (reading (keptOf (answerTo b o) b (captureOut b o.pdu o.bits o.day o.lent))).home ≡ (reading b).home
+    go : (x : Stored) → answer_to b o ≡ x → (reading (kept_of (answer_to b o) b (capture_out b o.pdu o.bits o.day o.lent))).home ≡ (reading b).home
     go (Bytes n) e = rw e (ap (λ (a : Archive). a.home) (new-reads b o.pdu o.bits o.day n o.lent e))
     go (Refused k) e = rw e
 
-home-kept : (b : List ℕ) (os : List Offer) → (reading (afterAll b os)).home ≡ (reading b).home
-unfolding afterAll
+home-kept : (b : List ℕ) (os : List Offer) → (reading (after_all b os)).home ≡ (reading b).home
+unfolding after_all
 home-kept b [] = refl
 home-kept b (o ∷ os) = home-kept (after b o) os ∙ same_home b o
 
 -- from an empty archive, for any offers: what is held for a user and part is the last PDU accepted for them
 pub record Kept (home : ℕ) (b : List ℕ) (k : Key) (last : Option Offer) : Type 0 where
-  pub archive : isArchive b ≡ true
+  pub archive : is_archive b ≡ true
   pub home-is : (reading b).home ≡ home
   pub held : Matches (lookup k (reading b).held) last
 
-pub kept : (home : ℕ) (lent : List ℕ) (m : ℕ) → emptyIs home (length lent) ≡ Bytes m → (os : List Offer) (k : Key) → in_range k ≡ true
-    → Kept home (afterAll (take m (emptyOut home lent)) os) k (lastAccepted k (take m (emptyOut home lent)) none os)
+pub kept : (home : ℕ) (lent : List ℕ) (m : ℕ) → empty_is home (length lent) ≡ Bytes m → (os : List Offer) (k : Key) → in_range k ≡ true
+    → Kept home (after_all (take m (empty_out home lent)) os) k (last_accepted k (take m (empty_out home lent)) none os)
 kept home lent m e os k r =
-    let start = take m (emptyOut home lent) in
+    let start = take m (empty_out home lent) in
     let z = empty_holds home lent m e in
-    let none-held : Matches (heldIn k r start) none = subst (λ (a : Archive). Matches (lookup k a.held) none) (sym z.1) tt in
+    let none-held : Matches (held_in k r start) none = subst (λ (a : Archive). Matches (lookup k a.held) none) (sym z.1) tt in
     let s = steps k r start os none z.0 none-held in
     record { archive = s.0; home-is = home-kept start os ∙ ap (λ (a : Archive). a.home) z.1; held = s.1 }
 
 -- and restoring gives it, or 11
-module _ (home : ℕ) (lent : List ℕ) (m : ℕ) (e : emptyIs home (length lent) ≡ Bytes m) (os : List Offer) (k : Key) (r : in_range k ≡ true)
+module _ (home : ℕ) (lent : List ℕ) (m : ℕ) (e : empty_is home (length lent) ≡ Bytes m) (os : List Offer) (k : Key) (r : in_range k ≡ true)
     (out : List ℕ) where
   abbrev pub start : List ℕ
-  start = take m (emptyOut home lent)
+  start = take m (empty_out home lent)
 
   abbrev pub last : Option Offer
-  last = lastAccepted k start none os
+  last = last_accepted k start none os
 
-  pub history : (restoreIs (afterAll start os) k (length out) ≡ given_of last (length out))
-      × (restoreOut (afterAll start os) k out ≡ restores (given_of last (length out)) (pduOf last) out)
+  pub history : (restore_is (after_all start os) k (length out) ≡ given_of last (length out))
+      × (restore_out (after_all start os) k out ≡ restores (given_of last (length out)) (pdu_of last) out)
   history =
       let held = kept home lent m e os k r in
-      let g = gives (heldIn k r (afterAll start os)) last (length out) held.held in
-      let x = as-delivered (afterAll start os) k (length out) r held.archive ∙ g.0 in
-      (x, restore-leaves (afterAll start os) k out x ∙ ap (λ (w : List ℕ). restores (given_of last (length out)) w out) g.1)
+      let g = gives (held_in k r (after_all start os)) last (length out) held.held in
+      let x = as-delivered (after_all start os) k (length out) r held.archive ∙ g.0 in
+      (x, restore-leaves (after_all start os) k out x ∙ ap (λ (w : List ℕ). restores (given_of last (length out)) w out) g.1)
 
   -- none was accepted for them: 11, and no byte changed
-  pub never : last ≡ none → (restoreIs (afterAll start os) k (length out) ≡ restored.Refused (plain 11)) × (restoreOut (afterAll start os) k out ≡ out)
+  pub never : last ≡ none → (restore_is (after_all start os) k (length out) ≡ restored.Refused (plain 11)) × (restore_out (after_all start os) k out ≡ out)
   never n = rw n at history
 
   -- otherwise, with room for it, exactly the bits of the last, and its day
-  pub always : (o : Offer) → last ≡ some o → bytesFor o.bits ≤ length out
-      → (restoreIs (afterAll start os) k (length out) ≡ restored.Bits (record { 0 = o.bits }) o.day)
-      × (restoreOut (afterAll start os) k out ≡ over o.pdu out)
-  always o l h = rw (l, le-leb (bytesFor o.bits) (length out) h) at history
+  pub always : (o : Offer) → last ≡ some o → bytes_for o.bits ≤ length out
+      → (restore_is (after_all start os) k (length out) ≡ restored.Bits (record { 0 = o.bits }) o.day)
+      × (restore_out (after_all start os) k out ≡ over o.pdu out)
+  always o l h = rw (l, le-leb (bytes_for o.bits) (length out) h) at history

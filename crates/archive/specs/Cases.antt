@@ -2,15 +2,15 @@
 -- rule, and the listing.
 use Rattle.std.specs.Prelude.{◌≡◌, refl, true, false, List, [], ◌∷◌, ◌++◌, ℕ, take, replicate}
 use Rattle.std.proofs.Math.Option.{none, some}
-use Rattle.archive.specs.Model.{Held, headerBytes, entryBytes, length_of, withinLimits, in_range}
-use Rattle.archive.specs.Filing.{filingOf, bodyAgrees}
-use Rattle.archive.specs.Reading.{home_of, count_of, entryAt, isArchive}
-use Rattle.archive.specs.Refusals.{plain, ofBody}
-use Rattle.archive.specs.Checking.{checkIs}
-use Rattle.archive.specs.Keeping.{emptyIs, put}
-use Rattle.archive.specs.Restoring.{heldNth, entryIs, fetchIs, restoreIs, restoreOut}
-use Rattle.archive.specs.History.{Offer, after, afterAll, lastAccepted}
-use Rattle.archive.specs.Listing.{digits, decimal, item, twoItems, firstLine, line, lines, listing, faultText, toldOf}
+use Rattle.archive.specs.Model.{Held, header_bytes, entry_bytes, length_of, within_limits, in_range}
+use Rattle.archive.specs.Filing.{filing_of, body_agrees}
+use Rattle.archive.specs.Reading.{home_of, count_of, entry_at, is_archive}
+use Rattle.archive.specs.Refusals.{plain, of_body}
+use Rattle.archive.specs.Checking.{check_is}
+use Rattle.archive.specs.Keeping.{empty_is, put}
+use Rattle.archive.specs.Restoring.{held_nth, entry_is, fetch_is, restore_is, restore_out}
+use Rattle.archive.specs.History.{Offer, after, after_all, last_accepted}
+use Rattle.archive.specs.Listing.{digits, decimal, item, two_items, first_line, line, lines, listing, fault_text, told_of}
 use Rattle.archive.specs.Examples.{calls}
 use Rattle.archive.specs.declared.contents.Key.{Key}
 use Rattle.archive.specs.declared.contents.Entry.{Entry}
@@ -26,31 +26,31 @@ use Rattle.archive.specs.declared.Restored.TheVariants as restored
 abbrev key : ℕ → ℕ → ℕ → Key
 key network ssi part = record { network = network; ssi = ssi; part = part }
 
-abbrev entryOn : ℕ → ℕ → ℕ → ℕ → ℕ → Entry
-entryOn day network ssi part bits = record { key = key network ssi part; bits = record { 0 = bits }; day = day }
+abbrev entry_on : ℕ → ℕ → ℕ → ℕ → ℕ → Entry
+entry_on day network ssi part bits = record { key = key network ssi part; bits = record { 0 = bits }; day = day }
 
 abbrev entry : ℕ → ℕ → ℕ → ℕ → Entry
-entry = entryOn 300
+entry = entry_on 300
 
 -- ---- bytes and limits
 
 -- each number in its place, the most significant byte first, and back
-header : (headerBytes 0x010203 0x0102 ≡ 1 ∷ 2 ∷ 3 ∷ 1 ∷ 2 ∷ [])
+header : (header_bytes 0x010203 0x0102 ≡ 1 ∷ 2 ∷ 3 ∷ 1 ∷ 2 ∷ [])
     × (home_of (1 ∷ 2 ∷ 3 ∷ 4 ∷ 5 ∷ []) ≡ 0x010203) × (count_of (1 ∷ 2 ∷ 3 ∷ 4 ∷ 5 ∷ []) ≡ 0x0405)
-unfolding headerBytes home_of
+unfolding header_bytes home_of
 header = (refl, refl, refl)
 
-contents : (entryBytes (entryOn 0x0a0b 0x010203 0x040506 7 0x0809) ≡ 1 ∷ 2 ∷ 3 ∷ 4 ∷ 5 ∷ 6 ∷ 7 ∷ 8 ∷ 9 ∷ 10 ∷ 11 ∷ [])
-    × (entryAt (0 ∷ 1 ∷ 2 ∷ 3 ∷ 4 ∷ 5 ∷ 6 ∷ 7 ∷ 8 ∷ 9 ∷ 10 ∷ 11 ∷ []) 1 ≡ entryOn 0x0a0b 0x010203 0x040506 7 0x0809)
-unfolding entryBytes
+contents : (entry_bytes (entry_on 0x0a0b 0x010203 0x040506 7 0x0809) ≡ 1 ∷ 2 ∷ 3 ∷ 4 ∷ 5 ∷ 6 ∷ 7 ∷ 8 ∷ 9 ∷ 10 ∷ 11 ∷ [])
+    × (entry_at (0 ∷ 1 ∷ 2 ∷ 3 ∷ 4 ∷ 5 ∷ 6 ∷ 7 ∷ 8 ∷ 9 ∷ 10 ∷ 11 ∷ []) 1 ≡ entry_on 0x0a0b 0x010203 0x040506 7 0x0809)
+unfolding entry_bytes
 contents = (refl, refl)
 
-limits : (withinLimits 512 65536 ≡ true) × (withinLimits 513 65536 ≡ false) × (withinLimits 512 65537 ≡ false)
+limits : (within_limits 512 65536 ≡ true) × (within_limits 513 65536 ≡ false) × (within_limits 512 65537 ≡ false)
 limits = (refl, refl, refl)
 
 -- home networks and lent buffers from both sides
-empties : (emptyIs 16777215 5 ≡ stored.Bytes 5) × (emptyIs 16777216 5 ≡ stored.Refused (plain 9)) × (emptyIs 0 4 ≡ stored.Refused (plain 8))
-unfolding emptyIs
+empties : (empty_is 16777215 5 ≡ stored.Bytes 5) × (empty_is 16777216 5 ≡ stored.Refused (plain 9)) × (empty_is 0 4 ≡ stored.Refused (plain 8))
+unfolding empty_is
 empties = (refl, refl, refl)
 
 -- users and parts from both sides
@@ -103,8 +103,8 @@ abbrev failed : Offer
 failed = offer (0x49 ∷ 0x82 ∷ 0x00 ∷ 0x00 ∷ 0x0a ∷ 0x61 ∷ 0x20 ∷ []) 51 301
 
 -- the first once more, of a day that is none
-abbrev tooLate : Offer
-tooLate = offer first.pdu 63 65536
+abbrev too_late : Offer
+too_late = offer first.pdu 63 65536
 
 -- user 7/4, numbers, of the last day
 abbrev visitor : Offer
@@ -114,7 +114,7 @@ abbrev nothing : List ℕ
 nothing = 0x00 ∷ 0x00 ∷ 0x01 ∷ 0x00 ∷ 0x00 ∷ []
 
 abbrev offers : List Offer
-offers = first ∷ visitor ∷ second ∷ failed ∷ tooLate ∷ []
+offers = first ∷ visitor ∷ second ∷ failed ∷ too_late ∷ []
 
 -- 47 bytes: the second PDU of user 1/5, part 1, of 66 bits, and the visitor's
 abbrev kept : List ℕ
@@ -125,67 +125,67 @@ kept =
     0x49 ∷ 0x82 ∷ 0x00 ∷ 0x00 ∷ 0x0a ∷ 0x22 ∷ 0x4c ∷ 0x00 ∷ 0x00 ∷
     0x49 ∷ 0x82 ∷ 0x00 ∷ 0x00 ∷ 0x09 ∷ 0x00 ∷ 0x00 ∷ 0x07 ∷ 0x41 ∷ 0x60 ∷ 0x00 ∷ []
 
-history : afterAll nothing offers ≡ kept
-unfolding calls bodyAgrees filingOf after afterAll
+history : after_all nothing offers ≡ kept
+unfolding calls body_agrees filing_of after after_all
 history = refl
 
 -- the last accepted of user 1/5 is the second, not the first, nor the failed one, nor the one of no day; the visitor's stays; no other user or
 -- part has one
-last-accepted : (lastAccepted (key 1 5 1) nothing none offers ≡ some second)
-    × (lastAccepted (key 7 4 2) nothing none offers ≡ some visitor)
-    × (lastAccepted (key 1 5 2) nothing none offers ≡ none)
-    × (lastAccepted (key 1 4 2) nothing none offers ≡ none)
-unfolding calls bodyAgrees filingOf after afterAll lastAccepted
+last-accepted : (last_accepted (key 1 5 1) nothing none offers ≡ some second)
+    × (last_accepted (key 7 4 2) nothing none offers ≡ some visitor)
+    × (last_accepted (key 1 5 2) nothing none offers ≡ none)
+    × (last_accepted (key 1 4 2) nothing none offers ≡ none)
+unfolding calls body_agrees filing_of after after_all last_accepted
 last-accepted = (refl, refl, refl, refl)
 
 -- where their bodies begin, and their days; nothing is held for another part, or in an empty archive; one byte more or less, and no header, is no archive
-fetched : (fetchIs kept (key 1 5 1) ≡ Body 27 (record { 0 = 66 }) 299)
-    × (fetchIs kept (key 7 4 2) ≡ Body 36 (record { 0 = 87 }) 65535)
-    × (fetchIs kept (key 7 4 1) ≡ NotHeld)
-    × (fetchIs nothing (key 1 5 1) ≡ NotHeld)
-    × (fetchIs (kept ++ (0x00 ∷ [])) (key 1 5 1) ≡ fetch.Refused (plain 7))
-    × (fetchIs (take 46 kept) (key 1 5 1) ≡ fetch.Refused (plain 7))
-    × (fetchIs [] (key 1 5 1) ≡ fetch.Refused (plain 7))
-unfolding calls bodyAgrees filingOf fetchIs in_range
+fetched : (fetch_is kept (key 1 5 1) ≡ Body 27 (record { 0 = 66 }) 299)
+    × (fetch_is kept (key 7 4 2) ≡ Body 36 (record { 0 = 87 }) 65535)
+    × (fetch_is kept (key 7 4 1) ≡ NotHeld)
+    × (fetch_is nothing (key 1 5 1) ≡ NotHeld)
+    × (fetch_is (kept ++ (0x00 ∷ [])) (key 1 5 1) ≡ fetch.Refused (plain 7))
+    × (fetch_is (take 46 kept) (key 1 5 1) ≡ fetch.Refused (plain 7))
+    × (fetch_is [] (key 1 5 1) ≡ fetch.Refused (plain 7))
+unfolding calls body_agrees filing_of fetch_is in_range
 fetched = (refl, refl, refl, refl, refl, refl, refl)
 
 -- the entries by their index, and none beyond the last; what is no archive has none
-entries : (entryIs kept 0 ≡ listed.Entry (entryOn 299 1 5 1 66))
-    × (entryIs kept 1 ≡ listed.Entry (entryOn 65535 7 4 2 87))
-    × (entryIs kept 2 ≡ listed.Refused (plain 11))
-    × (entryIs nothing 0 ≡ listed.Refused (plain 11))
-    × (entryIs (take 46 kept) 2 ≡ listed.Refused (plain 7))
-unfolding calls bodyAgrees filingOf entryIs heldNth
+entries : (entry_is kept 0 ≡ listed.Entry (entry_on 299 1 5 1 66))
+    × (entry_is kept 1 ≡ listed.Entry (entry_on 65535 7 4 2 87))
+    × (entry_is kept 2 ≡ listed.Refused (plain 11))
+    × (entry_is nothing 0 ≡ listed.Refused (plain 11))
+    × (entry_is (take 46 kept) 2 ≡ listed.Refused (plain 7))
+unfolding calls body_agrees filing_of entry_is held_nth
 entries = (refl, refl, refl, refl, refl)
 
 -- what is restored, and the byte after it stays
 
-restored-visitor : (restoreIs kept (key 7 4 2) 11 ≡ restored.Bits (record { 0 = 87 }) 65535)
-    × (restoreOut kept (key 7 4 2) (replicate 12 0xff)
+restored-visitor : (restore_is kept (key 7 4 2) 11 ≡ restored.Bits (record { 0 = 87 }) 65535)
+    × (restore_out kept (key 7 4 2) (replicate 12 0xff)
     ≡ 0x49 ∷ 0x82 ∷ 0x00 ∷ 0x00 ∷ 0x09 ∷ 0x00 ∷ 0x00 ∷ 0x07 ∷ 0x41 ∷ 0x60 ∷ 0x00 ∷ 0xff ∷ [])
-unfolding calls bodyAgrees filingOf restoreIs restoreOut in_range
+unfolding calls body_agrees filing_of restore_is restore_out in_range
 restored-visitor = (refl, refl)
 
 -- ---- what breaks a rule, each in an archive of one or two PDUs of home network 1
 
-abbrev ofTwo : List ℕ → List ℕ → List ℕ
-ofTwo contents bodies = (0x00 ∷ 0x00 ∷ 0x01 ∷ 0x00 ∷ 0x02 ∷ []) ++ (contents ++ bodies)
+abbrev of_two : List ℕ → List ℕ → List ℕ
+of_two contents bodies = (0x00 ∷ 0x00 ∷ 0x01 ∷ 0x00 ∷ 0x02 ∷ []) ++ (contents ++ bodies)
 
-abbrev ofOne : List ℕ → List ℕ → List ℕ
-ofOne contents body = (0x00 ∷ 0x00 ∷ 0x01 ∷ 0x00 ∷ 0x01 ∷ []) ++ (contents ++ body)
+abbrev of_one : List ℕ → List ℕ → List ℕ
+of_one contents body = (0x00 ∷ 0x00 ∷ 0x01 ∷ 0x00 ∷ 0x01 ∷ []) ++ (contents ++ body)
 
 -- user 5 and the visitor in their order, and the other way round; user 5 twice; a body of another part, SSI, network or length than its entry; a
 -- failed interrogation
-rules : (isArchive (ofTwo (entryBytes (entry 1 5 1 63) ++ entryBytes (entry 7 4 2 87)) (first.pdu ++ visitor.pdu)) ≡ true)
-    × (isArchive (ofTwo (entryBytes (entry 7 4 2 87) ++ entryBytes (entry 1 5 1 63)) (visitor.pdu ++ first.pdu)) ≡ false)
-    × (isArchive (ofTwo (entryBytes (entry 1 5 1 63) ++ entryBytes (entry 1 5 1 63)) (first.pdu ++ first.pdu)) ≡ false)
-    × (isArchive (ofOne (entryBytes (entry 1 5 1 63)) first.pdu) ≡ true)
-    × (isArchive (ofOne (entryBytes (entry 1 5 2 63)) first.pdu) ≡ false)
-    × (isArchive (ofOne (entryBytes (entry 1 6 1 63)) first.pdu) ≡ false)
-    × (isArchive (ofOne (entryBytes (entry 2 5 1 63)) first.pdu) ≡ false)
-    × (isArchive (ofOne (entryBytes (entry 1 5 1 62)) first.pdu) ≡ false)
-    × (isArchive (ofOne (entryBytes (entry 1 5 3 51)) failed.pdu) ≡ false)
-unfolding calls bodyAgrees filingOf
+rules : (is_archive (of_two (entry_bytes (entry 1 5 1 63) ++ entry_bytes (entry 7 4 2 87)) (first.pdu ++ visitor.pdu)) ≡ true)
+    × (is_archive (of_two (entry_bytes (entry 7 4 2 87) ++ entry_bytes (entry 1 5 1 63)) (visitor.pdu ++ first.pdu)) ≡ false)
+    × (is_archive (of_two (entry_bytes (entry 1 5 1 63) ++ entry_bytes (entry 1 5 1 63)) (first.pdu ++ first.pdu)) ≡ false)
+    × (is_archive (of_one (entry_bytes (entry 1 5 1 63)) first.pdu) ≡ true)
+    × (is_archive (of_one (entry_bytes (entry 1 5 2 63)) first.pdu) ≡ false)
+    × (is_archive (of_one (entry_bytes (entry 1 6 1 63)) first.pdu) ≡ false)
+    × (is_archive (of_one (entry_bytes (entry 2 5 1 63)) first.pdu) ≡ false)
+    × (is_archive (of_one (entry_bytes (entry 1 5 1 62)) first.pdu) ≡ false)
+    × (is_archive (of_one (entry_bytes (entry 1 5 3 51)) failed.pdu) ≡ false)
+unfolding calls body_agrees filing_of
 rules = (refl, refl, refl, refl, refl, refl, refl, refl, refl)
 
 -- ---- what the check says
@@ -195,56 +195,56 @@ damaged = 0x00 ∷ 0x82 ∷ 0x00 ∷ 0x00 ∷ 0x09 ∷ 0x00 ∷ 0x00 ∷ 0x07 �
 
 -- the contents of user 5 and the visitor, and the other way round
 abbrev rising : List ℕ
-rising = entryBytes (entry 1 5 1 63) ++ entryBytes (entry 7 4 2 87)
+rising = entry_bytes (entry 1 5 1 63) ++ entry_bytes (entry 7 4 2 87)
 
 abbrev falling : List ℕ
-falling = entryBytes (entry 7 4 2 87) ++ entryBytes (entry 1 5 1 63)
+falling = entry_bytes (entry 7 4 2 87) ++ entry_bytes (entry 1 5 1 63)
 
 -- 7 with an entry and a place: an SS type that is not 6, at 0, in the second body; in both, the first counts; no bits, which end before the
 -- SS type; a service that is missing, at 48
-bodies-refused : (checkIs (ofTwo rising (first.pdu ++ damaged)) ≡ check.Refused (ofBody 1 (At 0)))
-    × (checkIs (ofTwo rising ((0x49 ∷ 0x80 ∷ replicate 6 0) ++ damaged)) ≡ check.Refused (ofBody 0 (At 11)))
-    × (checkIs (ofOne (entryBytes (entry 1 5 1 0)) []) ≡ check.Refused (ofBody 0 (At 0)))
-    × (checkIs (ofOne (entryBytes (entry 1 5 1 48)) (take 6 first.pdu)) ≡ check.Refused (ofBody 0 (At 48)))
-unfolding calls bodyAgrees filingOf
+bodies-refused : (check_is (of_two rising (first.pdu ++ damaged)) ≡ check.Refused (of_body 1 (At 0)))
+    × (check_is (of_two rising ((0x49 ∷ 0x80 ∷ replicate 6 0) ++ damaged)) ≡ check.Refused (of_body 0 (At 11)))
+    × (check_is (of_one (entry_bytes (entry 1 5 1 0)) []) ≡ check.Refused (of_body 0 (At 0)))
+    × (check_is (of_one (entry_bytes (entry 1 5 1 48)) (take 6 first.pdu)) ≡ check.Refused (of_body 0 (At 48)))
+unfolding calls body_agrees filing_of
 bodies-refused = (refl, refl, refl, refl)
 
 -- 7 with an entry and no place: a legal body of another user; a failed interrogation; a nonzero unused bit; 4,097 bits
-bodies-unfit : (checkIs (ofOne (entryBytes (entry 1 6 1 63)) first.pdu) ≡ check.Refused (ofBody 0 Nowhere))
-    × (checkIs (ofOne (entryBytes (entry 1 5 1 51)) failed.pdu) ≡ check.Refused (ofBody 0 Nowhere))
-    × (checkIs (ofOne (entryBytes (entry 1 5 1 62)) (take 7 first.pdu ++ (0x03 ∷ []))) ≡ check.Refused (ofBody 0 Nowhere))
-    × (checkIs (ofOne (entryBytes (entry 1 5 1 4097)) (replicate 513 0)) ≡ check.Refused (ofBody 0 Nowhere))
-unfolding calls bodyAgrees filingOf
+bodies-unfit : (check_is (of_one (entry_bytes (entry 1 6 1 63)) first.pdu) ≡ check.Refused (of_body 0 Nowhere))
+    × (check_is (of_one (entry_bytes (entry 1 5 1 51)) failed.pdu) ≡ check.Refused (of_body 0 Nowhere))
+    × (check_is (of_one (entry_bytes (entry 1 5 1 62)) (take 7 first.pdu ++ (0x03 ∷ []))) ≡ check.Refused (of_body 0 Nowhere))
+    × (check_is (of_one (entry_bytes (entry 1 5 1 4097)) (replicate 513 0)) ≡ check.Refused (of_body 0 Nowhere))
+unfolding calls body_agrees filing_of
 bodies-unfit = (refl, refl, refl, refl)
 
 -- 7 with neither, though a body is at fault too: keys that fall, a key twice, part 3, a byte more or less, an entry too many in the header
-shapes : (checkIs (ofTwo falling (damaged ++ first.pdu)) ≡ check.Refused (plain 7))
-    × (checkIs (ofTwo (entryBytes (entry 7 4 2 87) ++ entryBytes (entry 7 4 2 87)) (damaged ++ damaged)) ≡ check.Refused (plain 7))
-    × (checkIs (ofOne (entryBytes (entry 1 5 3 51)) failed.pdu) ≡ check.Refused (plain 7))
-    × (checkIs (ofTwo rising (damaged ++ (first.pdu ++ (0x00 ∷ [])))) ≡ check.Refused (plain 7))
-    × (checkIs (ofTwo rising (first.pdu ++ take 10 damaged)) ≡ check.Refused (plain 7))
-    × (checkIs (ofTwo (entryBytes (entry 1 5 1 63)) first.pdu) ≡ check.Refused (plain 7))
-unfolding calls bodyAgrees filingOf
+shapes : (check_is (of_two falling (damaged ++ first.pdu)) ≡ check.Refused (plain 7))
+    × (check_is (of_two (entry_bytes (entry 7 4 2 87) ++ entry_bytes (entry 7 4 2 87)) (damaged ++ damaged)) ≡ check.Refused (plain 7))
+    × (check_is (of_one (entry_bytes (entry 1 5 3 51)) failed.pdu) ≡ check.Refused (plain 7))
+    × (check_is (of_two rising (damaged ++ (first.pdu ++ (0x00 ∷ [])))) ≡ check.Refused (plain 7))
+    × (check_is (of_two rising (first.pdu ++ take 10 damaged)) ≡ check.Refused (plain 7))
+    × (check_is (of_two (entry_bytes (entry 1 5 1 63)) first.pdu) ≡ check.Refused (plain 7))
+unfolding calls body_agrees filing_of
 shapes = (refl, refl, refl, refl, refl, refl)
 
 -- and where `contents` says it is: `entry 1 bit 0`, `entry 0`, nothing
-told : (toldOf (ofTwo rising (first.pdu ++ damaged)) ≡ 101 ∷ 110 ∷ 116 ∷ 114 ∷ 121 ∷ 32 ∷ 49 ∷ 32 ∷ 98 ∷ 105 ∷ 116 ∷ 32 ∷ 48 ∷ 10 ∷ [])
-    × (toldOf (ofOne (entryBytes (entry 1 6 1 63)) first.pdu) ≡ 101 ∷ 110 ∷ 116 ∷ 114 ∷ 121 ∷ 32 ∷ 48 ∷ 10 ∷ [])
-    × (toldOf (ofTwo falling (damaged ++ first.pdu)) ≡ [])
-unfolding calls bodyAgrees filingOf toldOf faultText twoItems item decimal digits
+told : (told_of (of_two rising (first.pdu ++ damaged)) ≡ 101 ∷ 110 ∷ 116 ∷ 114 ∷ 121 ∷ 32 ∷ 49 ∷ 32 ∷ 98 ∷ 105 ∷ 116 ∷ 32 ∷ 48 ∷ 10 ∷ [])
+    × (told_of (of_one (entry_bytes (entry 1 6 1 63)) first.pdu) ≡ 101 ∷ 110 ∷ 116 ∷ 114 ∷ 121 ∷ 32 ∷ 48 ∷ 10 ∷ [])
+    × (told_of (of_two falling (damaged ++ first.pdu)) ≡ [])
+unfolding calls body_agrees filing_of told_of fault_text two_items item decimal digits
 told = (refl, refl, refl)
 
 -- ---- the listing of the least and the greatest numbers
 
-abbrev linedUp : ℕ → ℕ → ℕ → ℕ → ℕ → Held
-linedUp day network ssi part bits = record { entry = entryOn day network ssi part bits; body = [] }
+abbrev lined_up : ℕ → ℕ → ℕ → ℕ → ℕ → Held
+lined_up day network ssi part bits = record { entry = entry_on day network ssi part bits; body = [] }
 
 -- `home 0 entries 2`, `0 0 part 1 bits 63 day 0`, `16777215 16777215 part 2 bits 2456 day 65535`
-listing-2 : listing (record { home = 0; held = linedUp 0 0 0 1 63 ∷ linedUp 65535 16777215 16777215 2 2456 ∷ [] }) ≡
+listing-2 : listing (record { home = 0; held = lined_up 0 0 0 1 63 ∷ lined_up 65535 16777215 16777215 2 2456 ∷ [] }) ≡
     104 ∷ 111 ∷ 109 ∷ 101 ∷ 32 ∷ 48 ∷ 32 ∷ 101 ∷ 110 ∷ 116 ∷ 114 ∷ 105 ∷ 101 ∷ 115 ∷ 32 ∷ 50 ∷ 10 ∷
     48 ∷ 32 ∷ 48 ∷ 32 ∷ 112 ∷ 97 ∷ 114 ∷ 116 ∷ 32 ∷ 49 ∷ 32 ∷ 98 ∷ 105 ∷ 116 ∷ 115 ∷ 32 ∷ 54 ∷ 51 ∷ 32 ∷ 100 ∷ 97 ∷ 121 ∷ 32 ∷ 48 ∷ 10 ∷
     49 ∷ 54 ∷ 55 ∷ 55 ∷ 55 ∷ 50 ∷ 49 ∷ 53 ∷ 32 ∷ 49 ∷ 54 ∷ 55 ∷ 55 ∷ 55 ∷ 50 ∷ 49 ∷ 53 ∷
     32 ∷ 112 ∷ 97 ∷ 114 ∷ 116 ∷ 32 ∷ 50 ∷ 32 ∷ 98 ∷ 105 ∷ 116 ∷ 115 ∷ 32 ∷ 50 ∷ 52 ∷ 53 ∷ 54 ∷
     32 ∷ 100 ∷ 97 ∷ 121 ∷ 32 ∷ 54 ∷ 53 ∷ 53 ∷ 51 ∷ 53 ∷ 10 ∷ []
-unfolding listing twoItems firstLine lines line item decimal digits
+unfolding listing two_items first_line lines line item decimal digits
 listing-2 = refl

@@ -2,39 +2,39 @@
 use Rattle.std.specs.Prelude.{Bool, true, ◌&&◌, List, [], ◌∷◌, ℕ, suc, length, ltb, eqb}
 use Rattle.bits.specs.Bits.{pick, guard}
 use Rattle.walk.specs.declared.BitPlace.{BitPlace}
-use Rattle.reader.specs.Read.{refusalOf, readIs}
-use Rattle.archive.specs.Model.{Held, rank, in_range, isDay, length_of, withinLimits}
-use Rattle.archive.specs.Filing.{bodyAgrees}
+use Rattle.reader.specs.Read.{refusal_of, read_is}
+use Rattle.archive.specs.Model.{Held, rank, in_range, is_day, length_of, within_limits}
+use Rattle.archive.specs.Filing.{body_agrees}
 use Rattle.archive.specs.Reading.{reading}
-use Rattle.archive.specs.Refusals.{plain, ofBody}
+use Rattle.archive.specs.Refusals.{plain, of_body}
 use Rattle.archive.specs.declared.refusal.Refusal.{Refusal}
 use Rattle.archive.specs.declared.checking.Checked.{Checked}
 use Rattle.archive.specs.declared.checking.Checked.TheVariants.{Archive, Refused}
 
 -- every key is in range, they rise strictly, from above a rank on, and every entry has a day, as two bytes always do
-unfoldable pub inOrder : ℕ → List Held → Bool
-inOrder last [] = true
-inOrder last (h ∷ hs) = ltb last (rank h) && (in_range h.entry.key && (isDay h.entry.day && inOrder (rank h) hs))
+unfoldable pub in_order : ℕ → List Held → Bool
+in_order last [] = true
+in_order last (h ∷ hs) = ltb last (rank h) && (in_range h.entry.key && (is_day h.entry.day && in_order (rank h) hs))
 
 -- header, contents and file length are right, whatever the bodies
-unfoldable pub hasShape : List ℕ → Bool
-hasShape b =
-    ltb (reading b).home 16777216 && (withinLimits (length (reading b).held) (length_of (reading b))
-    && (inOrder 0 (reading b).held && eqb (length_of (reading b)) (length b)))
+unfoldable pub has_shape : List ℕ → Bool
+has_shape b =
+    ltb (reading b).home 16777216 && (within_limits (length (reading b).held) (length_of (reading b))
+    && (in_order 0 (reading b).held && eqb (length_of (reading b)) (length b)))
 
 -- where a body is refused: nowhere if it is a legal PDU, and where it is not framed
-abbrev pub bodyPlace : Held → BitPlace
-bodyPlace h = (refusalOf (readIs h.body h.entry.bits.0).answer).place
+abbrev pub body_place : Held → BitPlace
+body_place h = (refusal_of (read_is h.body h.entry.bits.0).answer).place
 
 -- the first body at fault, from the entry at an index on
-unfoldable pub bodiesFrom : ℕ → ℕ → List Held → Checked
-bodiesFrom home i [] = Archive
-bodiesFrom home i (h ∷ hs) = pick (bodyAgrees home h) (bodiesFrom home (suc i) hs) (Refused (ofBody i (bodyPlace h)))
+unfoldable pub bodies_from : ℕ → ℕ → List Held → Checked
+bodies_from home i [] = Archive
+bodies_from home i (h ∷ hs) = pick (body_agrees home h) (bodies_from home (suc i) hs) (Refused (of_body i (body_place h)))
 
-unfoldable pub checkIs : List ℕ → Checked
-checkIs b = guard (hasShape b) (Refused (plain 7)) (bodiesFrom (reading b).home 0 (reading b).held)
+unfoldable pub check_is : List ℕ → Checked
+check_is b = guard (has_shape b) (Refused (plain 7)) (bodies_from (reading b).home 0 (reading b).held)
 
 -- go on with an archive, or pass the refusal on
-abbrev pub ifArchive : {A : Type 0} → Checked → (Refusal → A) → A → A
-ifArchive Archive refused rest = rest
-ifArchive (Refused f) refused rest = refused f
+abbrev pub if_archive : {A : Type 0} → Checked → (Refusal → A) → A → A
+if_archive Archive refused rest = rest
+if_archive (Refused f) refused rest = refused f

@@ -2,18 +2,18 @@
 -- around the new entry and body; the lines of a listing.
 use Rattle.std.specs.Prelude.{Bool, ◌&&◌, List, [], ◌∷◌, ◌++◌, ℕ, zero, suc, ◌+◌, ◌-◌, ◌*◌, ◌≤◌, ◌<◌, length, take, drop, ltb, leb, eqb}
 use Rattle.bits.specs.Bits.{pick, guard}
-use Rattle.bits.specs.Frame.{bytesFor}
-use Rattle.grammar.specs.Grammar.{networkOf}
+use Rattle.bits.specs.Frame.{bytes_for}
+use Rattle.grammar.specs.Grammar.{network_of}
 use Rattle.walk.specs.declared.BitPlace.{BitPlace}
 use Rattle.walk.specs.declared.Head.{Head}
 use Rattle.walk.specs.declared.Walked.{Walked}
 use Rattle.walk.specs.declared.Walked.TheVariants as walked
 use Rattle.judging.specs.Judge.{holdable}
-use Rattle.archive.specs.Model.{Held, Archive, rank_of, rank, in_range, headerWidth, entryWidth, headerBytes, entryBytes, bodySize, sizes}
-use Rattle.archive.specs.Reading.{home_of, count_of, entryAt, heldFrom, reading}
-use Rattle.archive.specs.Refusals.{plain, ofPdu, ofBody}
-use Rattle.archive.specs.Filing.{bodyAgrees}
-use Rattle.archive.specs.Checking.{bodyPlace, inOrder}
+use Rattle.archive.specs.Model.{Held, Archive, rank_of, rank, in_range, header_width, entry_width, header_bytes, entry_bytes, body_size, sizes}
+use Rattle.archive.specs.Reading.{home_of, count_of, entry_at, held_from, reading}
+use Rattle.archive.specs.Refusals.{plain, of_pdu, of_body}
+use Rattle.archive.specs.Filing.{body_agrees}
+use Rattle.archive.specs.Checking.{body_place, in_order}
 use Rattle.archive.specs.Keeping.{with}
 use Rattle.archive.specs.Listing.{line}
 use Rattle.archive.specs.declared.contents.Key.{Key}
@@ -30,36 +30,36 @@ use Rattle.archive.specs.declared.filing.Filing.TheVariants.{Under, Nowhere}
 -- ---- filing
 
 -- the key of an accepted PDU with this head; nowhere if no archive entry may hold it
-unfoldable pub filingUnder : ℕ → Head → Filing
-filingUnder home h = pick (holdable h) (Under (record { network = networkOf home h.user; ssi = h.user.ssi; part = h.result })) Nowhere
+unfoldable pub filing_under : ℕ → Head → Filing
+filing_under home h = pick (holdable h) (Under (record { network = network_of home h.user; ssi = h.user.ssi; part = h.result })) Nowhere
 
 -- the walk's refusal, with the number 0 for none
-abbrev pub walkedRefusal : Walked → Refusal
-walkedRefusal (walked.Accepted h) = plain 0
-walkedRefusal (walked.Refused f) = ofPdu f
+abbrev pub walked_refusal : Walked → Refusal
+walked_refusal (walked.Accepted h) = plain 0
+walked_refusal (walked.Refused f) = of_pdu f
 
 -- whether a body agrees with its entry, and the place of its refusal if not
-unfoldable pub agreementIs : ℕ → Held → Agreement
-agreementIs home h = pick (bodyAgrees home h) Agrees (Fault (bodyPlace h))
+unfoldable pub agreement_is : ℕ → Held → Agreement
+agreement_is home h = pick (body_agrees home h) Agrees (Fault (body_place h))
 
 -- the archive of some bytes with a body under an entry
-abbrev pub filedIn : List ℕ → Entry → List ℕ → Archive
-filedIn b e body = with (reading b) (record { entry = e; body = body })
+abbrev pub filed_in : List ℕ → Entry → List ℕ → Archive
+filed_in b e body = with (reading b) (record { entry = e; body = body })
 
 -- ---- the shape
 
 -- an entry may stand behind one of a rank, with so many bytes left for its body
-unfoldable pub mayFollow : Entry → ℕ → ℕ → Bool
-mayFollow e last room = ltb last (rank_of e.key) && leb (bytesFor e.bits.0) room
+unfoldable pub may_follow : Entry → ℕ → ℕ → Bool
+may_follow e last room = ltb last (rank_of e.key) && leb (bytes_for e.bits.0) room
 
 -- the n entries from a place on are in order, and their bodies, from another place on, end with the bytes
-unfoldable pub restShape : List ℕ → ℕ → ℕ → ℕ → ℕ → Bool
-restShape b last n at off = inOrder last (heldFrom b n at off) && eqb (off + sizes (heldFrom b n at off)) (length b)
+unfoldable pub rest_shape : List ℕ → ℕ → ℕ → ℕ → ℕ → Bool
+rest_shape b last n at off = in_order last (held_from b n at off) && eqb (off + sizes (held_from b n at off)) (length b)
 
 -- what a body at fault comes to, for the entry of a key at an index, before the n entries from a place on
-unfoldable pub faultIs : List ℕ → Key → ℕ → ℕ → ℕ → ℕ → BitPlace → Checked
-faultIs b k n at off index place =
-    guard (in_range k && restShape b (rank_of k) n at off) (checked.Refused (plain 7)) (checked.Refused (ofBody index place))
+unfoldable pub fault_is : List ℕ → Key → ℕ → ℕ → ℕ → ℕ → BitPlace → Checked
+fault_is b k n at off index place =
+    guard (in_range k && rest_shape b (rank_of k) n at off) (checked.Refused (plain 7)) (checked.Refused (of_body index place))
 
 -- ---- the place of a key, by its rank
 
@@ -67,29 +67,29 @@ faultIs b k n at off index place =
 abbrev pub place_of : ℕ → ℕ → Entry → Place
 place_of at off e = record { at = at; off = off; entries = 1; bits = e.bits; day = e.day }
 
-abbrev pub gapAt : ℕ → ℕ → Place
-gapAt at off = record { at = at; off = off; entries = 0; bits = record { 0 = 0 }; day = 0 }
+abbrev pub gap_at : ℕ → ℕ → Place
+gap_at at off = record { at = at; off = off; entries = 0; bits = record { 0 = 0 }; day = 0 }
 
 -- the search, by order: the entry of the key, or the gap where it would go
 unfoldable pub seek : ℕ → ℕ → ℕ → List Held → Place
-seek r at off [] = gapAt at off
+seek r at off [] = gap_at at off
 seek r at off (h ∷ hs) =
     pick (ltb (rank h) r)
-    (seek r (at + entryWidth) (off + bodySize h) hs)
-    (pick (eqb (rank h) r) (place_of at off h.entry) (gapAt at off))
+    (seek r (at + entry_width) (off + body_size h) hs)
+    (pick (eqb (rank h) r) (place_of at off h.entry) (gap_at at off))
 
 -- ---- a new entry and body for those at a place
 
 -- where the contents and the bodies go on after the place
 abbrev pub next_at : Place → ℕ
-next_at p = p.at + entryWidth * p.entries
+next_at p = p.at + entry_width * p.entries
 
 abbrev pub rest_at : Place → ℕ
-rest_at p = p.off + bytesFor p.bits.0
+rest_at p = p.off + bytes_for p.bits.0
 
 -- the place lies within an archive's bytes
 pub record Within (p : Place) (b : List ℕ) : Type 0 where
-  pub first : headerWidth ≤ p.at
+  pub first : header_width ≤ p.at
   pub contents : next_at p ≤ p.off
   pub bodies : rest_at p ≤ length b
   pub small : length b ≤ 65536
@@ -106,31 +106,31 @@ pub record EntryFits (e : Entry) : Type 0 where
   pub day : e.day < 65536
 
 -- header, contents before the place, the new entry
-unfoldable pub frontOf : List ℕ → ℕ → ℕ → Entry → List ℕ
-frontOf b at count e = headerBytes (home_of b) count ++ take (at - headerWidth) (drop headerWidth b) ++ entryBytes e
+unfoldable pub front_of : List ℕ → ℕ → ℕ → Entry → List ℕ
+front_of b at count e = header_bytes (home_of b) count ++ take (at - header_width) (drop header_width b) ++ entry_bytes e
 
 -- contents after it and bodies before it, which stand side by side; the new body; bodies after it
-unfoldable pub backOf : List ℕ → Place → List ℕ → List ℕ
-backOf b p body =
+unfoldable pub back_of : List ℕ → Place → List ℕ → List ℕ
+back_of b p body =
     take (p.off - next_at p) (drop (next_at p) b) ++ body ++ take (length b - rest_at p) (drop (rest_at p) b)
 
 abbrev pub spliced : List ℕ → Place → ℕ → Entry → List ℕ → List ℕ
-spliced b p count e body = frontOf b p.at count e ++ backOf b p body
+spliced b p count e body = front_of b p.at count e ++ back_of b p body
 
 -- its length, from the place on and in all
-abbrev pub backLength : List ℕ → Place → ℕ → ℕ
-backLength b p size = p.off - next_at p + size + (length b - rest_at p)
+abbrev pub back_length : List ℕ → Place → ℕ → ℕ
+back_length b p size = p.off - next_at p + size + (length b - rest_at p)
 
-abbrev pub splicedLength : List ℕ → Place → ℕ → ℕ
-splicedLength b p size = p.at + entryWidth + backLength b p size
+abbrev pub spliced_length : List ℕ → Place → ℕ → ℕ
+spliced_length b p size = p.at + entry_width + back_length b p size
 
 -- ---- the listing
 
 -- the lines of n entries whose contents begin at a place of an archive's bytes
 unfoldable pub lines_from : List ℕ → ℕ → ℕ → List ℕ
 lines_from b zero at = []
-lines_from b (suc n) at = line (entryAt b at) ++ lines_from b n (at + entryWidth)
+lines_from b (suc n) at = line (entry_at b at) ++ lines_from b n (at + entry_width)
 
 -- the lines of all entries
-abbrev pub linesIn : List ℕ → List ℕ
-linesIn b = lines_from b (count_of b) headerWidth
+abbrev pub lines_in : List ℕ → List ℕ
+lines_in b = lines_from b (count_of b) header_width

@@ -1,24 +1,24 @@
 -- What `empty` and `capture` answer, and what they leave in the lent buffer.
 use Rattle.std.specs.Prelude.{◌&&◌, List, [], ◌∷◌, ◌++◌, ℕ, length, drop, ltb, leb, eqb}
 use Rattle.bits.specs.Bits.{pick, guard}
-use Rattle.reader.specs.Read.{readIs}
+use Rattle.reader.specs.Read.{read_is}
 use Rattle.reader.specs.declared.Answer.{Answer}
 use Rattle.reader.specs.declared.Answer.TheVariants as reader
-use Rattle.judging.specs.Judge.{mayHold}
-use Rattle.archive.specs.Model.{Held, Archive, rank, isDay, headerWidth, bytes_of, length_of, withinLimits}
-use Rattle.archive.specs.Filing.{filedKey}
+use Rattle.judging.specs.Judge.{may_hold}
+use Rattle.archive.specs.Model.{Held, Archive, rank, is_day, header_width, bytes_of, length_of, within_limits}
+use Rattle.archive.specs.Filing.{filed_key}
 use Rattle.archive.specs.Reading.{reading}
-use Rattle.archive.specs.Refusals.{plain, ofPdu}
-use Rattle.archive.specs.Checking.{checkIs, ifArchive}
+use Rattle.archive.specs.Refusals.{plain, of_pdu}
+use Rattle.archive.specs.Checking.{check_is, if_archive}
 use Rattle.archive.specs.declared.contents.Entry.{Entry}
 use Rattle.archive.specs.declared.refusal.Refusal.{Refusal}
 use Rattle.archive.specs.declared.Stored.{Stored}
 use Rattle.archive.specs.declared.Stored.TheVariants.{Bytes, Refused}
 
 -- document 01's number of an answer, 0 for success, with its entry and its place
-abbrev pub storedRefusal : Stored → Refusal
-storedRefusal (Bytes n) = plain 0
-storedRefusal (Refused f) = f
+abbrev pub stored_refusal : Stored → Refusal
+stored_refusal (Bytes n) = plain 0
+stored_refusal (Refused f) = f
 
 -- these bytes first, and the buffer's own after them
 abbrev pub over : List ℕ → List ℕ → List ℕ
@@ -31,14 +31,14 @@ leaves (Refused f) w out = out
 
 -- ---- empty: 9 for a home network out of range, then 8
 
-abbrev pub emptyOf : ℕ → Archive
-emptyOf home = record { home = home; held = [] }
+abbrev pub empty_of : ℕ → Archive
+empty_of home = record { home = home; held = [] }
 
-unfoldable pub emptyIs : ℕ → ℕ → Stored
-emptyIs home room = guard (ltb home 16777216) (Refused (plain 9)) (guard (leb headerWidth room) (Refused (plain 8)) (Bytes headerWidth))
+unfoldable pub empty_is : ℕ → ℕ → Stored
+empty_is home room = guard (ltb home 16777216) (Refused (plain 9)) (guard (leb header_width room) (Refused (plain 8)) (Bytes header_width))
 
-unfoldable pub emptyOut : ℕ → List ℕ → List ℕ
-emptyOut home out = leaves (emptyIs home (length out)) (bytes_of (emptyOf home)) out
+unfoldable pub empty_out : ℕ → List ℕ → List ℕ
+empty_out home out = leaves (empty_is home (length out)) (bytes_of (empty_of home)) out
 
 -- ---- capture
 
@@ -51,33 +51,33 @@ abbrev pub with : Archive → Held → Archive
 with a h = record { home = a.home; held = put h a.held }
 
 -- the entry of a PDU of n bits, taken on a day, and what it is held as
-abbrev pub entryFor : ℕ → List ℕ → ℕ → ℕ → Entry
-entryFor home s n day = record { key = filedKey home (readIs s n).found; bits = record { 0 = n }; day = day }
+abbrev pub entry_for : ℕ → List ℕ → ℕ → ℕ → Entry
+entry_for home s n day = record { key = filed_key home (read_is s n).found; bits = record { 0 = n }; day = day }
 
-abbrev pub heldFor : ℕ → List ℕ → ℕ → ℕ → Held
-heldFor home s n day = record { entry = entryFor home s n day; body = s }
+abbrev pub held_for : ℕ → List ℕ → ℕ → ℕ → Held
+held_for home s n day = record { entry = entry_for home s n day; body = s }
 
 -- the archive after the capture: the day given is kept, even when lower than the old one
 unfoldable pub captured : List ℕ → List ℕ → ℕ → ℕ → Archive
-captured b s n day = with (reading b) (heldFor (reading b).home s n day)
+captured b s n day = with (reading b) (held_for (reading b).home s n day)
 
 -- the reader's refusal is passed on
-abbrev pub ifAccepted : Answer → Stored → Stored
-ifAccepted reader.Accepted r = r
-ifAccepted (reader.Refused f) r = Refused (ofPdu f)
+abbrev pub if_accepted : Answer → Stored → Stored
+if_accepted reader.Accepted r = r
+if_accepted (reader.Refused f) r = Refused (of_pdu f)
 
 -- 8 for one entry too many, or a result over the limit or the lent buffer
 unfoldable pub placed : Archive → ℕ → Stored
-placed a room = guard (withinLimits (length a.held) (length_of a) && leb (length_of a) room) (Refused (plain 8)) (Bytes (length_of a))
+placed a room = guard (within_limits (length a.held) (length_of a) && leb (length_of a) room) (Refused (plain 8)) (Bytes (length_of a))
 
 -- 9 for a day above 65,535, 7, the PDU's own, 6, 8
-unfoldable pub captureIs : List ℕ → List ℕ → ℕ → ℕ → ℕ → Stored
-captureIs b s n day room =
-    guard (isDay day) (Refused (plain 9))
-    (ifArchive (checkIs b) Refused
-    (ifAccepted (readIs s n).answer
-    (guard (mayHold (readIs s n).found) (Refused (plain 6))
+unfoldable pub capture_is : List ℕ → List ℕ → ℕ → ℕ → ℕ → Stored
+capture_is b s n day room =
+    guard (is_day day) (Refused (plain 9))
+    (if_archive (check_is b) Refused
+    (if_accepted (read_is s n).answer
+    (guard (may_hold (read_is s n).found) (Refused (plain 6))
     (placed (captured b s n day) room))))
 
-unfoldable pub captureOut : List ℕ → List ℕ → ℕ → ℕ → List ℕ → List ℕ
-captureOut b s n day out = leaves (captureIs b s n day (length out)) (bytes_of (captured b s n day)) out
+unfoldable pub capture_out : List ℕ → List ℕ → ℕ → ℕ → List ℕ → List ℕ
+capture_out b s n day out = leaves (capture_is b s n day (length out)) (bytes_of (captured b s n day)) out

@@ -4,7 +4,7 @@ use Rattle.bits.specs.Bits.{pick, guard}
 use Rattle.archive.specs.Model.{Held, Archive}
 use Rattle.archive.specs.Reading.{reading}
 use Rattle.archive.specs.Refusals.{plain}
-use Rattle.archive.specs.Checking.{checkIs, ifArchive}
+use Rattle.archive.specs.Checking.{check_is, if_archive}
 use Rattle.archive.specs.Keeping.{over, leaves}
 use Rattle.walk.specs.declared.BitPlace.{BitPlace}
 use Rattle.walk.specs.declared.BitPlace.TheVariants as bit
@@ -33,40 +33,40 @@ decimal n = digits 20 n
 -- ---- words
 
 -- `home `
-abbrev pub homeWord : List ℕ
-homeWord = 104 ∷ 111 ∷ 109 ∷ 101 ∷ 32 ∷ []
+abbrev pub home_word : List ℕ
+home_word = 104 ∷ 111 ∷ 109 ∷ 101 ∷ 32 ∷ []
 
 -- ` entries `
-abbrev pub entriesWord : List ℕ
-entriesWord = 32 ∷ 101 ∷ 110 ∷ 116 ∷ 114 ∷ 105 ∷ 101 ∷ 115 ∷ 32 ∷ []
+abbrev pub entries_word : List ℕ
+entries_word = 32 ∷ 101 ∷ 110 ∷ 116 ∷ 114 ∷ 105 ∷ 101 ∷ 115 ∷ 32 ∷ []
 
 -- a space
 abbrev pub space : List ℕ
 space = 32 ∷ []
 
 -- ` part `
-abbrev pub partWord : List ℕ
-partWord = 32 ∷ 112 ∷ 97 ∷ 114 ∷ 116 ∷ 32 ∷ []
+abbrev pub part_word : List ℕ
+part_word = 32 ∷ 112 ∷ 97 ∷ 114 ∷ 116 ∷ 32 ∷ []
 
 -- ` bits `
-abbrev pub bitsWord : List ℕ
-bitsWord = 32 ∷ 98 ∷ 105 ∷ 116 ∷ 115 ∷ 32 ∷ []
+abbrev pub bits_word : List ℕ
+bits_word = 32 ∷ 98 ∷ 105 ∷ 116 ∷ 115 ∷ 32 ∷ []
 
 -- ` day `
-abbrev pub dayWord : List ℕ
-dayWord = 32 ∷ 100 ∷ 97 ∷ 121 ∷ 32 ∷ []
+abbrev pub day_word : List ℕ
+day_word = 32 ∷ 100 ∷ 97 ∷ 121 ∷ 32 ∷ []
 
 -- `entry `
-abbrev pub entryWord : List ℕ
-entryWord = 101 ∷ 110 ∷ 116 ∷ 114 ∷ 121 ∷ 32 ∷ []
+abbrev pub entry_word : List ℕ
+entry_word = 101 ∷ 110 ∷ 116 ∷ 114 ∷ 121 ∷ 32 ∷ []
 
 -- ` bit `
-abbrev pub bitWord : List ℕ
-bitWord = 32 ∷ 98 ∷ 105 ∷ 116 ∷ 32 ∷ []
+abbrev pub bit_word : List ℕ
+bit_word = 32 ∷ 98 ∷ 105 ∷ 116 ∷ 32 ∷ []
 
 -- LF
-abbrev pub lineEnd : List ℕ
-lineEnd = 10 ∷ []
+abbrev pub line_end : List ℕ
+line_end = 10 ∷ []
 
 -- ---- lines
 
@@ -75,69 +75,69 @@ unfoldable pub item : ℕ → List ℕ → List ℕ
 item n word = decimal n ++ word
 
 -- a line of two numbers, each after its word
-unfoldable pub twoItems : List ℕ → ℕ → List ℕ → ℕ → List ℕ
-twoItems word n other m = word ++ (item n other ++ item m lineEnd)
+unfoldable pub two_items : List ℕ → ℕ → List ℕ → ℕ → List ℕ
+two_items word n other m = word ++ (item n other ++ item m line_end)
 
 -- `home H entries N`
-unfoldable pub firstLine : ℕ → ℕ → List ℕ
-firstLine home count = twoItems homeWord home entriesWord count
+unfoldable pub first_line : ℕ → ℕ → List ℕ
+first_line home count = two_items home_word home entries_word count
 
 -- `NETWORK SSI part P bits B day D`
 unfoldable pub line : Entry → List ℕ
 line e =
     item e.key.network space
-    ++ (item e.key.ssi partWord ++ (item e.key.part bitsWord ++ (item e.bits.0 dayWord ++ item e.day lineEnd)))
+    ++ (item e.key.ssi part_word ++ (item e.key.part bits_word ++ (item e.bits.0 day_word ++ item e.day line_end)))
 
 unfoldable pub lines : List Held → List ℕ
 lines [] = []
 lines (h ∷ hs) = line h.entry ++ lines hs
 
 unfoldable pub listing : Archive → List ℕ
-listing a = firstLine a.home (length a.held) ++ lines a.held
+listing a = first_line a.home (length a.held) ++ lines a.held
 
 -- ---- list: 7, then 8 if the lent buffer is too short
 
-unfoldable pub listIs : List ℕ → ℕ → Stored
-listIs b room =
-    ifArchive (checkIs b) Refused
+unfoldable pub list_is : List ℕ → ℕ → Stored
+list_is b room =
+    if_archive (check_is b) Refused
     (guard (leb (length (listing (reading b))) room) (Refused (plain 8))
     (Bytes (length (listing (reading b)))))
 
-unfoldable pub listOut : List ℕ → List ℕ → List ℕ
-listOut b out = leaves (listIs b (length out)) (listing (reading b)) out
+unfoldable pub list_out : List ℕ → List ℕ → List ℕ
+list_out b out = leaves (list_is b (length out)) (listing (reading b)) out
 
 -- ---- report: what the program `contents` prints, and what it tells on standard error
 
 -- `refused 7` and a line end
-abbrev pub refusedLine : List ℕ
-refusedLine = 114 ∷ 101 ∷ 102 ∷ 117 ∷ 115 ∷ 101 ∷ 100 ∷ 32 ∷ 55 ∷ lineEnd
+abbrev pub refused_line : List ℕ
+refused_line = 114 ∷ 101 ∷ 102 ∷ 117 ∷ 115 ∷ 101 ∷ 100 ∷ 32 ∷ 55 ∷ line_end
 
 -- printed: the listing of an archive; `refused 7` for what is none
-unfoldable pub reportOf : List ℕ → List ℕ
-reportOf b = ifArchive (checkIs b) (λ f. refusedLine) (listing (reading b))
+unfoldable pub report_of : List ℕ → List ℕ
+report_of b = if_archive (check_is b) (λ f. refused_line) (listing (reading b))
 
 -- told: where a body is at fault, `entry I` or `entry I bit P`; otherwise nothing
-unfoldable pub faultText : EntryPlace → BitPlace → List ℕ
-faultText entry.Nowhere p = []
-faultText (entry.At i) bit.Nowhere = entryWord ++ item i lineEnd
-faultText (entry.At i) (bit.At p) = twoItems entryWord i bitWord p
+unfoldable pub fault_text : EntryPlace → BitPlace → List ℕ
+fault_text entry.Nowhere p = []
+fault_text (entry.At i) bit.Nowhere = entry_word ++ item i line_end
+fault_text (entry.At i) (bit.At p) = two_items entry_word i bit_word p
 
-unfoldable pub toldOf : List ℕ → List ℕ
-toldOf b = ifArchive (checkIs b) (λ f. faultText f.entry f.place) []
+unfoldable pub told_of : List ℕ → List ℕ
+told_of b = if_archive (check_is b) (λ f. fault_text f.entry f.place) []
 
 -- a text's length if the lent buffer has room for it, otherwise 0
-abbrev pub lengthWithin : List ℕ → ℕ → ℕ
-lengthWithin w room = guard (leb (length w) room) 0 (length w)
+abbrev pub length_within : List ℕ → ℕ → ℕ
+length_within w room = guard (leb (length w) room) 0 (length w)
 
 -- a text at the front of the lent buffer if that has room for it, otherwise the buffer as it was
-abbrev pub textWithin : List ℕ → List ℕ → List ℕ
-textWithin w out = guard (leb (length w) (length out)) out (over w out)
+abbrev pub text_within : List ℕ → List ℕ → List ℕ
+text_within w out = guard (leb (length w) (length out)) out (over w out)
 
-unfoldable pub reportIs : List ℕ → ℕ → ℕ → Reported
-reportIs b room more = record { printed = lengthWithin (reportOf b) room; told = lengthWithin (toldOf b) more }
+unfoldable pub report_is : List ℕ → ℕ → ℕ → Reported
+report_is b room more = record { printed = length_within (report_of b) room; told = length_within (told_of b) more }
 
-unfoldable pub reportOut : List ℕ → List ℕ → List ℕ
-reportOut b out = textWithin (reportOf b) out
+unfoldable pub report_out : List ℕ → List ℕ → List ℕ
+report_out b out = text_within (report_of b) out
 
-unfoldable pub toldOut : List ℕ → List ℕ → List ℕ
-toldOut b out = textWithin (toldOf b) out
+unfoldable pub told_out : List ℕ → List ℕ → List ℕ
+told_out b out = text_within (told_of b) out

@@ -11,9 +11,9 @@ abbrev pub plain : ℕ → Refusal
 plain k = record { number = k; entry = entry.Nowhere; place = bit.Nowhere }
 
 -- of a PDU that is offered: the number and the place of its reading
-abbrev pub ofPdu : pdu.Refusal → Refusal
-ofPdu f = record { number = f.number; entry = entry.Nowhere; place = f.place }
+abbrev pub of_pdu : pdu.Refusal → Refusal
+of_pdu f = record { number = f.number; entry = entry.Nowhere; place = f.place }
 
 -- 7, where only a body is at fault: the index of its entry, and the place where the body's refusal has one
-abbrev pub ofBody : ℕ → BitPlace → Refusal
-ofBody i p = record { number = 7; entry = entry.At i; place = p }
+abbrev pub of_body : ℕ → BitPlace → Refusal
+of_body i p = record { number = 7; entry = entry.At i; place = p }

@@ -1,9 +1,9 @@
 // Whether bytes are an archive, and where a key stands in one: each one pass over the contents.
 ghost use Rattle.std.specs.Prelude.{◌≡◌, true, ◌+◌, ◌*◌, ◌≤◌, length};
-ghost use Rattle.archive.specs.Model.{rank_of, headerWidth, entryWidth};
-ghost use Rattle.archive.specs.Reading.{isArchive, bodiesAt, heldIn};
-ghost use Rattle.archive.specs.Checking.{checkIs};
-ghost use Rattle.archive.specs.Inner.{KeyFits, EntryFits, mayFollow, restShape, faultIs, seek, next_at, rest_at};
+ghost use Rattle.archive.specs.Model.{rank_of, header_width, entry_width};
+ghost use Rattle.archive.specs.Reading.{is_archive, bodies_at, held_in};
+ghost use Rattle.archive.specs.Checking.{check_is};
+ghost use Rattle.archive.specs.Inner.{KeyFits, EntryFits, may_follow, rest_shape, fault_is, seek, next_at, rest_at};
 
 use crate::contents::{ENTRY, Entry, HEADER, Key};
 use crate::filing::Agreement;
@@ -21,7 +21,7 @@ pub enum Checked {
 
 // Exactly the bytes of a well-formed archive pass. A fault of header, contents or length comes before any body's.
 pub fn check(archive: &[u8]) -> Checked
-    ensures { result ≡ checkIs archive.now }
+    ensures { result ≡ check_is archive.now }
 {
     let size = archive.len();
     if size < HEADER {
@@ -73,9 +73,9 @@ fn at_fault(
     index: usize,
     place: BitPlace,
 ) -> Checked
-    requires entries_in_bounds { (from + entryWidth * entries ≤ length archive.now) × (bodies ≤ length archive.now) × (length archive.now ≤ 65536) }
+    requires entries_in_bounds { (from + entry_width * entries ≤ length archive.now) × (bodies ≤ length archive.now) × (length archive.now ≤ 65536) }
     requires key_fits { KeyFits key }
-    ensures { result ≡ faultIs archive.now key entries from bodies index place }
+    ensures { result ≡ fault_is archive.now key entries from bodies index place }
 {
     if !contents::in_range(key) {
         return Checked::Refused(refusal::plain(7));
@@ -93,7 +93,7 @@ fn at_fault(
 // Whether an entry may stand here: its key is above a rank, and there is room for its body.
 fn may_follow(entry: Entry, last: u64, room: usize) -> bool
     requires { EntryFits entry }
-    ensures { result ≡ mayFollow entry last room }
+    ensures { result ≡ may_follow entry last room }
 {
     let key = entry.key;
     if key.rank() <= last {
@@ -105,8 +105,8 @@ fn may_follow(entry: Entry, last: u64, room: usize) -> bool
 
 // Whether the entries that are left, whatever their bodies, have the shape of an archive's.
 fn rest_has_shape(archive: &[u8], entries: usize, from: usize, bodies: usize, rank: u64) -> bool
-    requires { (from + entryWidth * entries ≤ length archive.now) × (bodies ≤ length archive.now) × (length archive.now ≤ 65536) }
-    ensures { result ≡ restShape archive.now rank entries from bodies }
+    requires { (from + entry_width * entries ≤ length archive.now) × (bodies ≤ length archive.now) × (length archive.now ≤ 65536) }
+    ensures { result ≡ rest_shape archive.now rank entries from bodies }
 {
     let mut left = entries;
     let mut at = from;
@@ -158,8 +158,8 @@ pub(crate) fn rest_of(place: Place) -> usize
 
 // The place of a key in an archive.
 pub(crate) fn find(archive: &[u8], key: Key) -> Place
-    requires { (isArchive archive.now ≡ true) × (KeyFits key) }
-    ensures { result ≡ seek (rank_of key) headerWidth (bodiesAt archive.now) (heldIn archive.now) }
+    requires { (is_archive archive.now ≡ true) × (KeyFits key) }
+    ensures { result ≡ seek (rank_of key) header_width (bodies_at archive.now) (held_in archive.now) }
 {
     let rank = key.rank();
     let mut left = contents::count(archive);

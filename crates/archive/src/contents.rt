@@ -1,7 +1,7 @@
 // The numbers, the header and the entries of an archive: their widths and their order.
 ghost use Rattle.std.specs.Prelude.{◌≡◌, ◌+◌, ◌≤◌, ◌<◌, length, get_or};
-ghost use Rattle.archive.specs.Model.{rank_of, in_range, headerWidth, entryWidth, headerBytes, entryBytes, withinLimits};
-ghost use Rattle.archive.specs.Reading.{number2, number3, home_of, entryAt};
+ghost use Rattle.archive.specs.Model.{rank_of, in_range, header_width, entry_width, header_bytes, entry_bytes, within_limits};
+ghost use Rattle.archive.specs.Reading.{number2, number3, home_of, entry_at};
 ghost use Rattle.archive.specs.Inner.{KeyFits, EntryFits};
 
 use bits::BitCount;
@@ -55,7 +55,7 @@ pub fn in_range(key: Key) -> bool
 
 // The limits of an archive: entries and bytes.
 pub(crate) fn within_limits(count: usize, size: usize) -> bool
-    ensures { result ≡ withinLimits count size }
+    ensures { result ≡ within_limits count size }
 {
     if 512 < count {
         return false;
@@ -96,7 +96,7 @@ pub fn home(archive: &[u8]) -> u32
 
 // The entry count in the header.
 pub(crate) fn count(archive: &[u8]) -> usize
-    requires { headerWidth ≤ length archive.now }
+    requires { header_width ≤ length archive.now }
     ensures { (result ≡ number2 archive.now 3) × (result < 65536) }
 {
     two(archive, 3)
@@ -105,7 +105,7 @@ pub(crate) fn count(archive: &[u8]) -> usize
 // The header of a home network and an entry count.
 pub(crate) fn header_bytes(home: u32, count: usize) -> [u8; HEADER]
     requires { (home < 16777216) × (count < 65536) }
-    ensures { result ≡ headerBytes home count }
+    ensures { result ≡ header_bytes home count }
 {
     [
         (home / 65536) as u8,
@@ -118,8 +118,8 @@ pub(crate) fn header_bytes(home: u32, count: usize) -> [u8; HEADER]
 
 // The contents entry at a place.
 pub(crate) fn entry_at(b: &[u8], at: usize) -> Entry
-    requires { at + entryWidth ≤ length b.now }
-    ensures { (result ≡ entryAt b.now at) × (EntryFits result) }
+    requires { at + entry_width ≤ length b.now }
+    ensures { (result ≡ entry_at b.now at) × (EntryFits result) }
 {
     let key = Key {
         network: three(b, at),
@@ -135,7 +135,7 @@ pub(crate) fn entry_at(b: &[u8], at: usize) -> Entry
 
 pub(crate) fn entry_bytes(entry: Entry) -> [u8; ENTRY]
     requires { EntryFits entry }
-    ensures { result ≡ entryBytes entry }
+    ensures { result ≡ entry_bytes entry }
 {
     let key = entry.key;
     [

@@ -1,8 +1,8 @@
 // The bytes of an archive after a capture, written to the lent buffer from the old archive, the new entry and the new body.
 ghost use Rattle.std.specs.Prelude.{◌≡◌, ◌+◌, ◌≤◌, ◌<◌, length};
 ghost use Rattle.bits.specs.Inner.{Laid};
-ghost use Rattle.archive.specs.Model.{headerWidth, entryWidth};
-ghost use Rattle.archive.specs.Inner.{Within, EntryFits, frontOf, backOf, spliced, backLength, splicedLength};
+ghost use Rattle.archive.specs.Model.{header_width, entry_width};
+ghost use Rattle.archive.specs.Inner.{Within, EntryFits, front_of, back_of, spliced, back_length, spliced_length};
 
 use crate::checking::Place;
 use crate::contents::{ENTRY, Entry, HEADER};
@@ -32,8 +32,8 @@ pub(crate) fn append(out: &mut [u8], at: usize, bytes: &[u8]) -> usize
 
 // Writes the header, the contents before a place and a new entry.
 fn write_front(archive: &[u8], at: usize, count: usize, entry: Entry, out: &mut [u8]) -> usize
-    requires { (headerWidth ≤ at) × (at ≤ length archive.now) × (at + entryWidth ≤ length out.old) × (count < 65536) × (EntryFits entry) }
-    ensures { Laid out.old 0 (frontOf archive.now at count entry) out.new result }
+    requires { (header_width ≤ at) × (at ≤ length archive.now) × (at + entry_width ≤ length out.old) × (count < 65536) × (EntryFits entry) }
+    ensures { Laid out.old 0 (front_of archive.now at count entry) out.new result }
 {
     let header = contents::header_bytes(contents::home(archive), count);
     let row = contents::entry_bytes(entry);
@@ -44,8 +44,8 @@ fn write_front(archive: &[u8], at: usize, count: usize, entry: Entry, out: &mut 
 
 // Writes the contents after a place with the bodies before it, a new body, and the bodies after it.
 fn write_back(archive: &[u8], place: Place, body: &[u8], at: usize, out: &mut [u8]) -> usize
-    requires { (Within place archive.now) × (at + backLength archive.now place (length body.now) ≤ length out.old) }
-    ensures { Laid out.old at (backOf archive.now place body.now) out.new result }
+    requires { (Within place archive.now) × (at + back_length archive.now place (length body.now) ≤ length out.old) }
+    ensures { Laid out.old at (back_of archive.now place body.now) out.new result }
 {
     let off = place.off;
     let next = checking::next_of(place);
@@ -58,7 +58,7 @@ fn write_back(archive: &[u8], place: Place, body: &[u8], at: usize, out: &mut [u
 // The length of the archive with a new entry and a body of so many bytes for those at a place.
 pub(crate) fn spliced_length(archive: &[u8], place: Place, size: usize) -> usize
     requires { (Within place archive.now) × (size ≤ 65536) }
-    ensures { result ≡ splicedLength archive.now place size }
+    ensures { result ≡ spliced_length archive.now place size }
 {
     let before = place.off - checking::next_of(place);
     let after = archive.len() - checking::rest_of(place);
@@ -75,7 +75,7 @@ pub(crate) fn splice(
     out: &mut [u8],
 ) -> usize
     requires within { (Within place archive.now) × (EntryFits entry) × (count < 65536) }
-    requires body_in_bounds { splicedLength archive.now place (length body.now) ≤ length out.old }
+    requires body_in_bounds { spliced_length archive.now place (length body.now) ≤ length out.old }
     ensures { Laid out.old 0 (spliced archive.now place count entry body.now) out.new result }
 {
     let at = place.at;

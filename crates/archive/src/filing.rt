@@ -1,7 +1,7 @@
 // Which PDUs an archive may hold, under which key, and whether a body agrees with its entry.
 ghost use Rattle.std.specs.Prelude.{◌≡◌};
 ghost use Rattle.archive.specs.Filing.{agrees};
-ghost use Rattle.archive.specs.Inner.{filingUnder, agreementIs};
+ghost use Rattle.archive.specs.Inner.{filing_under, agreement_is};
 
 use crate::contents::{Entry, Key};
 use grammar::site::network_of;
@@ -17,7 +17,7 @@ pub enum Filing {
 
 // The key of an accepted PDU: only an accepting INTERROGATE ACK whose affected range type is 1 has one.
 pub(crate) fn filing_of(home: u32, head: Head) -> Filing
-    ensures { result ≡ filingUnder home head }
+    ensures { result ≡ filing_under home head }
 {
     let Judged::Part(user, part) = judging::judge(head) else {
         return Filing::Nowhere;
@@ -31,7 +31,7 @@ pub(crate) fn filing_of(home: u32, head: Head) -> Filing
 
 // Whether an accepted PDU is filed under a key.
 fn is_filed_under(home: u32, head: Head, key: Key) -> bool
-    ensures { result ≡ agrees (filingUnder home head) key }
+    ensures { result ≡ agrees (filing_under home head) key }
 {
     let Filing::Under(filed) = filing_of(home, head) else {
         return false;
@@ -54,7 +54,7 @@ pub enum Agreement {
 
 // A legal PDU that is filed under its entry's key agrees, whatever the day.
 pub(crate) fn body_agreement(home: u32, entry: Entry, body: &[u8]) -> Agreement
-    ensures { result ≡ agreementIs home (record { entry = entry; body = body.now }) }
+    ensures { result ≡ agreement_is home (record { entry = entry; body = body.now }) }
 {
     let key = entry.key;
     match walk::walk(body, entry.bits) {

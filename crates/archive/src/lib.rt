@@ -8,13 +8,13 @@ mod refusal;
 
 ghost use Rattle.std.specs.Prelude.{◌≡◌, true, ◌+◌, ◌≤◌, length, take, drop, leb};
 ghost use Rattle.bits.specs.Bits.{pick};
-ghost use Rattle.bits.specs.Frame.{bytesFor};
+ghost use Rattle.bits.specs.Frame.{bytes_for};
 ghost use Rattle.archive.specs.Model.{bytes_of};
-ghost use Rattle.archive.specs.Reading.{isArchive};
+ghost use Rattle.archive.specs.Reading.{is_archive};
 ghost use Rattle.archive.specs.Refusals.{plain};
-ghost use Rattle.archive.specs.Inner.{EntryFits, filedIn};
-ghost use Rattle.archive.specs.Keeping.{leaves, emptyIs, emptyOut, placed, captureIs, captureOut};
-ghost use Rattle.archive.specs.Restoring.{entryIs, fetchIs, restores, restoreIs, restoreOut};
+ghost use Rattle.archive.specs.Inner.{EntryFits, filed_in};
+ghost use Rattle.archive.specs.Keeping.{leaves, empty_is, empty_out, placed, capture_is, capture_out};
+ghost use Rattle.archive.specs.Restoring.{entry_is, fetch_is, restores, restore_is, restore_out};
 
 use bits::BitCount;
 pub use checking::{Checked, check};
@@ -54,8 +54,8 @@ pub enum Listed {
 
 // Writes the empty archive of a home network.
 pub fn empty(home: u32, out: &mut [u8]) -> Stored
-    ensures value { result ≡ emptyIs home (length out.old) }
-    ensures out_after { out.new ≡ emptyOut home out.old }
+    ensures value { result ≡ empty_is home (length out.old) }
+    ensures out_after { out.new ≡ empty_out home out.old }
 {
     if 16777216 <= home {
         return Stored::Refused(refusal::plain(9));
@@ -69,8 +69,8 @@ pub fn empty(home: u32, out: &mut [u8]) -> Stored
 
 // Captures a PDU of n bits that was taken on a day: writes the archive with it to the lent buffer.
 pub fn capture(archive: &[u8], body: &[u8], n: BitCount, day: u32, out: &mut [u8]) -> Stored
-    ensures value { result ≡ captureIs archive.now body.now n.0 day (length out.old) }
-    ensures out_after { out.new ≡ captureOut archive.now body.now n.0 day out.old }
+    ensures value { result ≡ capture_is archive.now body.now n.0 day (length out.old) }
+    ensures out_after { out.new ≡ capture_out archive.now body.now n.0 day out.old }
 {
     if 65535 < day {
         return Stored::Refused(refusal::plain(9));
@@ -93,9 +93,9 @@ pub fn capture(archive: &[u8], body: &[u8], n: BitCount, day: u32, out: &mut [u8
 
 // Files a body under its entry, in place of what is held for its user and part.
 fn file(archive: &[u8], entry: Entry, body: &[u8], out: &mut [u8]) -> Stored
-    requires { (isArchive archive.now ≡ true) × (EntryFits entry) × (length body.now ≡ bytesFor entry.bits.0) }
-    ensures value { result ≡ placed (filedIn archive.now entry body.now) (length out.old) }
-    ensures out_after { out.new ≡ leaves result (bytes_of (filedIn archive.now entry body.now)) out.old }
+    requires { (is_archive archive.now ≡ true) × (EntryFits entry) × (length body.now ≡ bytes_for entry.bits.0) }
+    ensures value { result ≡ placed (filed_in archive.now entry body.now) (length out.old) }
+    ensures out_after { out.new ≡ leaves result (bytes_of (filed_in archive.now entry body.now)) out.old }
 {
     let key = entry.key;
     let place = checking::find(archive, key);
@@ -112,7 +112,7 @@ fn file(archive: &[u8], entry: Entry, body: &[u8], out: &mut [u8]) -> Stored
 
 // The contents entry at an index, from 0.
 pub fn entry(archive: &[u8], index: usize) -> Listed
-    ensures { result ≡ entryIs archive.now index }
+    ensures { result ≡ entry_is archive.now index }
 {
     let checked = checking::check(archive);
     if let Checked::Refused(refusal) = checked {
@@ -126,7 +126,7 @@ pub fn entry(archive: &[u8], index: usize) -> Listed
 
 // Finds the body held for a user and part.
 pub fn fetch(archive: &[u8], key: Key) -> Fetched
-    ensures { result ≡ fetchIs archive.now key }
+    ensures { result ≡ fetch_is archive.now key }
 {
     let checked = checking::check(archive);
     if let Checked::Refused(refusal) = checked {
@@ -145,9 +145,9 @@ pub fn fetch(archive: &[u8], key: Key) -> Fetched
 
 // Writes a body to the front of the lent buffer; answers with its day too.
 fn deliver(archive: &[u8], off: usize, n: BitCount, day: u32, out: &mut [u8]) -> Restored
-    requires { off + bytesFor n.0 ≤ length archive.now }
-    ensures value { result ≡ pick (leb (bytesFor n.0) (length out.old)) (Restored.Bits n day) (Restored.Refused (plain 8)) }
-    ensures out_after { out.new ≡ restores result (take (bytesFor n.0) (drop off archive.now)) out.old }
+    requires { off + bytes_for n.0 ≤ length archive.now }
+    ensures value { result ≡ pick (leb (bytes_for n.0) (length out.old)) (Restored.Bits n day) (Restored.Refused (plain 8)) }
+    ensures out_after { out.new ≡ restores result (take (bytes_for n.0) (drop off archive.now)) out.old }
 {
     let size = n.bytes();
     if out.len() < size {
@@ -160,8 +160,8 @@ fn deliver(archive: &[u8], off: usize, n: BitCount, day: u32, out: &mut [u8]) ->
 
 // Restores the PDU held for a user and part: writes its bytes to the lent buffer.
 pub fn restore(archive: &[u8], key: Key, out: &mut [u8]) -> Restored
-    ensures value { result ≡ restoreIs archive.now key (length out.old) }
-    ensures out_after { out.new ≡ restoreOut archive.now key out.old }
+    ensures value { result ≡ restore_is archive.now key (length out.old) }
+    ensures out_after { out.new ≡ restore_out archive.now key out.old }
 {
     if !in_range(key) {
         return Restored::Refused(refusal::plain(9));

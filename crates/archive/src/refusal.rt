@@ -1,7 +1,7 @@
 // Refusals of the calls on an archive: the number; of 7 the entry whose body is at fault; and the bit place in the PDU, or in that body.
 ghost use Rattle.std.specs.Prelude.{◌≡◌};
 ghost use Rattle.archive.specs.Refusals.{plain};
-ghost use Rattle.archive.specs.Inner.{walkedRefusal};
+ghost use Rattle.archive.specs.Inner.{walked_refusal};
 
 use walk::{BitPlace, Walked};
 
@@ -32,7 +32,7 @@ pub(crate) fn plain(number: u32) -> Refusal
 
 // The walk's refusal of a PDU that is offered, with the number 0 for none.
 pub(crate) fn of_walk(walked: Walked) -> Refusal
-    ensures { result ≡ walkedRefusal walked }
+    ensures { result ≡ walked_refusal walked }
 {
     match walked {
         Walked::Accepted(_) => plain(0),

@@ -1,9 +1,9 @@
 // Whether a call is barred: the decision from an archive (document 01, "The barring rule").
 ghost use Rattle.std.specs.Prelude.{◌≡◌, ◌+◌, ◌≤◌, length};
-ghost use Rattle.bits.specs.Frame.{bytesFor};
-ghost use Rattle.barring.specs.Decision.{decisionOf};
-ghost use Rattle.barring.specs.Decide.{partFor, judgingPart, decideIs};
-ghost use Rattle.barring.specs.Inner.{rulingOfBody};
+ghost use Rattle.bits.specs.Frame.{bytes_for};
+ghost use Rattle.barring.specs.Decision.{decision_of};
+ghost use Rattle.barring.specs.Decide.{part_for, judging_part, decide_is};
+ghost use Rattle.barring.specs.Inner.{ruling_of_body};
 
 use archive::{EntryPlace, Fetched, Key, Refusal};
 use bits::BitCount;
@@ -22,7 +22,7 @@ pub enum Decision {
 
 // What a part says, as the answer to a request.
 fn decision_of(ruling: Ruling) -> Decision
-    ensures { result ≡ decisionOf ruling }
+    ensures { result ≡ decision_of ruling }
 {
     match ruling {
         Ruling::Allowed => Decision::Allowed,
@@ -32,7 +32,7 @@ fn decision_of(ruling: Ruling) -> Decision
 
 // The part by which a destination is judged: 1 is the identity part, 2 the number part.
 fn part_for(destination: Destination) -> u32
-    ensures { result ≡ partFor destination }
+    ensures { result ≡ part_for destination }
 {
     match destination {
         Destination::Identity(_) => 1,
@@ -42,8 +42,8 @@ fn part_for(destination: Destination) -> u32
 
 // What the body of n bits at a place of the archive says of the call.
 fn ruling_of_body(archive: &[u8], at: usize, n: BitCount, request: Request) -> Decision
-    requires { at + bytesFor n.0 ≤ length archive.now }
-    ensures { result ≡ rulingOfBody archive.now at n.0 request }
+    requires { at + bytes_for n.0 ≤ length archive.now }
+    ensures { result ≡ ruling_of_body archive.now at n.0 request }
 {
     let end = at + n.bytes();
     let reading = pdu::read(&archive[at..end], n);
@@ -60,7 +60,7 @@ pub enum JudgingPart {
 
 // The part that judges a request: 9 before 7, then the part of the request's user.
 pub fn judging_part(archive: &[u8], request: Request) -> JudgingPart
-    ensures { result ≡ judgingPart archive.now request }
+    ensures { result ≡ judging_part archive.now request }
 {
     let number = request_refusal(request);
     if number != 0 {
@@ -87,7 +87,7 @@ pub fn judging_part(archive: &[u8], request: Request) -> JudgingPart
 
 // Whether the archive bars the call.
 pub fn decide(archive: &[u8], request: Request) -> Decision
-    ensures { result ≡ decideIs archive.now request }
+    ensures { result ≡ decide_is archive.now request }
 {
     match judging_part(archive, request) {
         JudgingPart::At(at, n) => ruling_of_body(archive, at, n, request),

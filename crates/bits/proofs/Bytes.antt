@@ -7,45 +7,45 @@ use native.Mathlib.Omega.{arith}
 use lib.ListN.{length, get_or, take, drop, set, length-append, length-take, length-drop, take-append-drop}
 use lib.Seq.{get_or-append-add, split_at, set_split, take_at, drop_at, length-take-le, take-append-le, drop-append-le}
 use Rattle.bits.specs.Bits.{value, bits_of, Bytes, bits, splice}
-use Rattle.bits.proofs.Numbers.{length-bitsOf, value-of-bits}
+use Rattle.bits.proofs.Numbers.{length-bits_of, value-of-bits}
 
 pub length-bits : (s : List ℕ) → length (bits s) ≡ 8 * length s
 unfolding bits
 length-bits [] = refl
-length-bits (b ∷ s) = omega (arith, length-append (bits_of 8 b) (bits s), length-bitsOf 8 b, length-bits s)
+length-bits (b ∷ s) = omega (arith, length-append (bits_of 8 b) (bits s), length-bits_of 8 b, length-bits s)
 
 pub length-bits-take : (n : ℕ) (s : List ℕ) → n ≤ length s → length (bits (take n s)) ≡ 8 * n
 length-bits-take n s h = omega (arith, length-bits (take n s), length-take-le n s h)
 
-pub bits-append : (s t : List ℕ) → bits (s ++ t) ≡ bits s ++ bits t
+pub bits_append : (s t : List ℕ) → bits (s ++ t) ≡ bits s ++ bits t
 unfolding bits
-bits-append [] t = refl
-bits-append (b ∷ s) t = ap (λ (l : List Bool). bits_of 8 b ++ l) (bits-append s t) ∙ sym (append_assoc (bits_of 8 b) (bits s) (bits t))
+bits_append [] t = refl
+bits_append (b ∷ s) t = ap (λ (l : List Bool). bits_of 8 b ++ l) (bits_append s t) ∙ sym (append_assoc (bits_of 8 b) (bits s) (bits t))
 
 -- around the byte at q
 pub bits-split : (s : List ℕ) (q : ℕ) → q < length s
     → bits s ≡ bits (take q s) ++ (bits_of 8 (get_or s q 0) ++ bits (drop (suc q) s))
 unfolding bits
-bits-split s q h = ap bits (split_at s q 0 h) ∙ bits-append (take q s) (get_or s q 0 ∷ drop (suc q) s)
+bits-split s q h = ap bits (split_at s q 0 h) ∙ bits_append (take q s) (get_or s q 0 ∷ drop (suc q) s)
 
 -- whole bytes at either end
 pub bits-drop : (q : ℕ) (s : List ℕ) → q ≤ length s → drop (8 * q) (bits s) ≡ bits (drop q s)
 bits-drop q s h =
-    ap (drop (8 * q)) (ap bits (sym (take-append-drop q s)) ∙ bits-append (take q s) (drop q s))
+    ap (drop (8 * q)) (ap bits (sym (take-append-drop q s)) ∙ bits_append (take q s) (drop q s))
     ∙ drop_at (bits (take q s)) (bits (drop q s)) (8 * q) (length-bits-take q s h)
 
 pub bits-take : (n : ℕ) (s : List ℕ) → n ≤ length s → take (8 * n) (bits s) ≡ bits (take n s)
 bits-take n s h =
-    ap (take (8 * n)) (ap bits (sym (take-append-drop n s)) ∙ bits-append (take n s) (drop n s))
+    ap (take (8 * n)) (ap bits (sym (take-append-drop n s)) ∙ bits_append (take n s) (drop n s))
     ∙ take_at (bits (take n s)) (bits (drop n s)) (8 * n) (length-bits-take n s h)
 
 -- to store a byte is to splice its bits
 pub bits-set : (s : List ℕ) (q x : ℕ) → q < length s → bits (set s q x) ≡ splice (bits s) (8 * q) (bits_of 8 x)
 unfolding bits
 bits-set s q x h =
-    let next : 8 * suc q ≡ 8 * q + length (bits_of 8 x) = omega (arith, length-bitsOf 8 x) in
+    let next : 8 * suc q ≡ 8 * q + length (bits_of 8 x) = omega (arith, length-bits_of 8 x) in
     ap bits (set_split s q x h)
-    ∙ bits-append (take q s) (x ∷ drop (suc q) s)
+    ∙ bits_append (take q s) (x ∷ drop (suc q) s)
     ∙ ap₂ (λ (l r : List Bool). l ++ (bits_of 8 x ++ r))
     (sym (bits-take q s (omega arith)))
     (sym (bits-drop (suc q) s h) ∙ ap (λ (n : ℕ). drop n (bits s)) next)
@@ -60,10 +60,10 @@ take-before l at w end h k =
 
 -- ---- bytes: of parts, and of the whole
 
-pub bytes-append : (s t : List ℕ) → Bytes s → Bytes t → Bytes (s ++ t)
-bytes-append [] t hs ht i = ht i
-bytes-append (b ∷ s) t hs ht zero = hs 0
-bytes-append (b ∷ s) t hs ht (suc i) = bytes-append s t (λ k. hs (suc k)) ht i
+pub bytes_append : (s t : List ℕ) → Bytes s → Bytes t → Bytes (s ++ t)
+bytes_append [] t hs ht i = ht i
+bytes_append (b ∷ s) t hs ht zero = hs 0
+bytes_append (b ∷ s) t hs ht (suc i) = bytes_append s t (λ k. hs (suc k)) ht i
 
 bytes-front : (s t : List ℕ) → Bytes (s ++ t) → Bytes s
 bytes-front [] t b i = omega arith
@@ -75,18 +75,18 @@ bytes-parts s t b = (bytes-front s t b, λ i. rw (get_or-append-add s t i 0) at 
 
 -- ---- bytes with equal bits are equal
 
-byte-eq : (a b : ℕ) → a < 256 → b < 256 → bits_of 8 a ≡ bits_of 8 b → a ≡ b
-byte-eq a b ha hb e = sym (value-of-bits 8 a ha) ∙ ap value e ∙ value-of-bits 8 b hb
+byte_eq : (a b : ℕ) → a < 256 → b < 256 → bits_of 8 a ≡ bits_of 8 b → a ≡ b
+byte_eq a b ha hb e = sym (value-of-bits 8 a ha) ∙ ap value e ∙ value-of-bits 8 b hb
 
-pub bits-inj : (s t : List ℕ) → Bytes s → Bytes t → bits s ≡ bits t → s ≡ t
+pub bits_inj : (s t : List ℕ) → Bytes s → Bytes t → bits s ≡ bits t → s ≡ t
 unfolding bits
-bits-inj [] [] hs ht e = refl
-bits-inj [] (b ∷ t) hs ht e = absurd (omega (arith, length-bits (b ∷ t), ap length e))
-bits-inj (a ∷ s) [] hs ht e = absurd (omega (arith, length-bits (a ∷ s), ap length e))
-bits-inj (a ∷ s) (b ∷ t) hs ht e =
-    let la : length (bits_of 8 a) ≡ 8 = length-bitsOf 8 a in
-    let lb : length (bits_of 8 b) ≡ 8 = length-bitsOf 8 b in
+bits_inj [] [] hs ht e = refl
+bits_inj [] (b ∷ t) hs ht e = absurd (omega (arith, length-bits (b ∷ t), ap length e))
+bits_inj (a ∷ s) [] hs ht e = absurd (omega (arith, length-bits (a ∷ s), ap length e))
+bits_inj (a ∷ s) (b ∷ t) hs ht e =
+    let la : length (bits_of 8 a) ≡ 8 = length-bits_of 8 a in
+    let lb : length (bits_of 8 b) ≡ 8 = length-bits_of 8 b in
     ap₂ {C = List ℕ} (λ x l. x ∷ l)
-    (byte-eq a b (hs 0) (ht 0) (sym (take_at (bits_of 8 a) (bits s) 8 la) ∙ ap (take 8) e ∙ take_at (bits_of 8 b) (bits t) 8 lb))
-    (bits-inj s t (λ i. hs (suc i)) (λ i. ht (suc i))
+    (byte_eq a b (hs 0) (ht 0) (sym (take_at (bits_of 8 a) (bits s) 8 la) ∙ ap (take 8) e ∙ take_at (bits_of 8 b) (bits t) 8 lb))
+    (bits_inj s t (λ i. hs (suc i)) (λ i. ht (suc i))
     (sym (drop_at (bits_of 8 a) (bits s) 8 la) ∙ ap (drop 8) e ∙ drop_at (bits_of 8 b) (bits t) 8 lb))

@@ -7,7 +7,7 @@ use native.Mathlib.Omega.{arith}
 use lib.ListN.{length, get_or, take, drop, length-append}
 use lib.Seq.{take_at, drop_at}
 use Rattle.bits.specs.Bits.{bits_of, bits}
-use Rattle.bits.proofs.Numbers.{length-bitsOf, bitsOf-three}
+use Rattle.bits.proofs.Numbers.{length-bits_of, bits_of-three}
 use Rattle.bits.proofs.Bytes.{bits-split, length-bits-take}
 
 pub read-within : (s : List ℕ) (q r n k : ℕ) → q < length s → r + (n + k) ≡ 8 → take n (drop (8 * q + r) (bits s)) ≡ bits_of n (get_or s q 0 / 2 ^ k)
@@ -20,9 +20,9 @@ read-within s q r n k inside byte =
     let layout : bits s ≡ (front ++ high) ++ (own ++ rest) =
     bits-split s q inside
     ∙ ap (λ (m : ℕ). front ++ (bits_of m b ++ bits (drop (suc q) s))) (sym byte)
-    ∙ ap (λ (l : List Bool). front ++ (l ++ bits (drop (suc q) s))) (bitsOf-three r n k b)
+    ∙ ap (λ (l : List Bool). front ++ (l ++ bits (drop (suc q) s))) (bits_of-three r n k b)
     ∙ simp append_assoc in
     ap (λ (l : List Bool). take n (drop (8 * q + r) l)) layout
     ∙ ap (take n) (drop_at (front ++ high) (own ++ rest) (8 * q + r)
-    (omega (arith, length-append front high, length-bits-take q s (omega arith), length-bitsOf r (b / 2 ^ (n + k)))))
-    ∙ take_at own rest n (length-bitsOf n (b / 2 ^ k))
+    (omega (arith, length-append front high, length-bits-take q s (omega arith), length-bits_of r (b / 2 ^ (n + k)))))
+    ∙ take_at own rest n (length-bits_of n (b / 2 ^ k))

@@ -10,8 +10,8 @@ use lib.Seq.{take_at, take-append-le, drop-append-le}
 use lib.Bits.{bit_and, bit_or, and_block, and_mask, mask_lt, or_block, or_shifted, or_zero_r}
 use lib.Pow.{pow_pos, pow-add, shl_exact, shr-shr, shr_mod, split, mod-mod-pow, ones_lt, ones_split}
 use Rattle.bits.specs.Bits.{value, bits_of, bits, splice}
-use Rattle.bits.proofs.Numbers.{length-bitsOf, bitsOf-three, bitsOf-add, bitsOf-mod, bitsOf-parts, bits_of_value}
-use Rattle.bits.proofs.Bytes.{length-bits, bits-append, bits-take, bits-set, length-bits-take}
+use Rattle.bits.proofs.Numbers.{length-bits_of, bits_of-three, bits_of_add, bits_of_mod, bits_of-parts, bits_of_value}
+use Rattle.bits.proofs.Bytes.{length-bits, bits_append, bits-take, bits-set, length-bits-take}
 use Rattle.bits.proofs.Splices.{splice_at, length-splice, splice-splice}
 
 -- ---- one part of a number after the other
@@ -23,9 +23,9 @@ splice-more l p i n m v start =
     let old : List Bool = bits_of i (v / 2 ^ (n + m)) in
     let own : List Bool = bits_of n (v / 2 ^ m % 2 ^ n) in
     let shifted : v / 2 ^ (n + m) ≡ v / 2 ^ m / 2 ^ n = ap (λ (y : ℕ). v / 2 ^ y) (add_comm n m) ∙ sym (shr-shr v m n) in
-    ap (λ (x : ℕ). splice (splice l p old) (p + x) own) (sym (length-bitsOf i (v / 2 ^ (n + m))))
+    ap (λ (x : ℕ). splice (splice l p old) (p + x) own) (sym (length-bits_of i (v / 2 ^ (n + m))))
     ∙ splice-splice l p old own start
-    ∙ ap (splice l p) (ap₂ (λ (x : ℕ) (y : List Bool). bits_of i x ++ y) shifted (bitsOf-mod n (v / 2 ^ m)) ∙ sym (bitsOf-add i n (v / 2 ^ m)))
+    ∙ ap (splice l p) (ap₂ (λ (x : ℕ) (y : List Bool). bits_of i x ++ y) shifted (bits_of_mod n (v / 2 ^ m)) ∙ sym (bits_of_add i n (v / 2 ^ m)))
 
 -- the same where the next eight are stored as the byte at q
 pub store-more : (s₀ s : List ℕ) (p i q m v : ℕ) → bits s ≡ splice (bits s₀) p (bits_of i (v / 2 ^ (8 + m))) → 8 * q ≡ p + i → q < length s → p ≤ 8 * length s₀
@@ -45,8 +45,8 @@ module _ (x r n k f : ℕ) (lt : f < 2 ^ n) where
   within-bits : bits_of (r + (n + k)) (within x n k f) ≡ bits_of r (x / 2 ^ (n + k)) ++ (bits_of n f ++ bits_of k x)
   within-bits =
       ap (λ (m : ℕ). bits_of m (within x n k f)) (sym (add_assoc r n k))
-      ∙ bitsOf-parts (r + n) k (x / 2 ^ (n + k) * 2 ^ n + f) (x % 2 ^ k) (mod-lt x (pow_pos k))
-      ∙ ap₂ (λ (y z : List Bool). y ++ z) (bitsOf-parts r n (x / 2 ^ (n + k)) f lt) (bitsOf-mod k x)
+      ∙ bits_of-parts (r + n) k (x / 2 ^ (n + k) * 2 ^ n + f) (x % 2 ^ k) (mod-lt x (pow_pos k))
+      ∙ ap₂ (λ (y z : List Bool). y ++ z) (bits_of-parts r n (x / 2 ^ (n + k)) f lt) (bits_of_mod k x)
       ∙ append_assoc (bits_of r (x / 2 ^ (n + k))) (bits_of n f) (bits_of k x)
 
   -- to put the number back with its field replaced is to put the field
@@ -58,16 +58,16 @@ module _ (x r n k f : ℕ) (lt : f < 2 ^ n) where
       let own : List Bool = bits_of n (x / 2 ^ k) in
       let low : List Bool = bits_of k x in
       let layout : a ++ (bits_of (r + (n + k)) x ++ c) ≡ (a ++ high) ++ (own ++ (low ++ c)) =
-      ap (λ (l : List Bool). a ++ (l ++ c)) (bitsOf-three r n k x) ∙ simp append_assoc in
+      ap (λ (l : List Bool). a ++ (l ++ c)) (bits_of-three r n k x) ∙ simp append_assoc in
       let same : a ++ ((high ++ (bits_of n f ++ low)) ++ c) ≡ (a ++ high) ++ (bits_of n f ++ (low ++ c)) = simp append_assoc in
       splice_at a (bits_of (r + (n + k)) x) c (bits_of (r + (n + k)) (within x n k f)) at e
-      (length-bitsOf (r + (n + k)) x ∙ sym (length-bitsOf (r + (n + k)) (within x n k f)))
+      (length-bits_of (r + (n + k)) x ∙ sym (length-bits_of (r + (n + k)) (within x n k f)))
       ∙ ap (λ (l : List Bool). a ++ (l ++ c)) within-bits
       ∙ same
       ∙ sym (ap (λ (l : List Bool). splice l (at + r) (bits_of n f)) layout
       ∙ splice_at (a ++ high) own (low ++ c) (bits_of n f) (at + r)
-      (omega (arith, length-append a high, length-bitsOf r (x / 2 ^ (n + k))))
-      (length-bitsOf n (x / 2 ^ k) ∙ sym (length-bitsOf n f)))
+      (omega (arith, length-append a high, length-bits_of r (x / 2 ^ (n + k))))
+      (length-bits_of n (x / 2 ^ k) ∙ sym (length-bits_of n f)))
 
 -- in w bits: one mask keeps the bits of x beside the field, another those of f that replace it
 module _ (x n k f w : ℕ) (hx : x < 2 ^ w) (inside : n + k ≤ w) where
@@ -86,8 +86,8 @@ module _ (x n k f w : ℕ) (hx : x < 2 ^ w) (inside : n + k ≤ w) where
       ∙ ap (λ (h : ℕ). h + x % 2 ^ k)
       (ap (λ (p : ℕ). x / 2 ^ (n + k) * p) (pow-add 2 n k) ∙ sym (mul_assoc (x / 2 ^ (n + k)) (2 ^ n) (2 ^ k)))
 
-  pub within-masks : bit_or (bit_and x (2 ^ w - 1 - (2 ^ n - 1) * 2 ^ k % 2 ^ w)) (bit_and f (2 ^ n - 1) * 2 ^ k % 2 ^ w) ≡ within x n k (f % 2 ^ n)
-  within-masks =
+  pub within_masks : bit_or (bit_and x (2 ^ w - 1 - (2 ^ n - 1) * 2 ^ k % 2 ^ w)) (bit_and f (2 ^ n - 1) * 2 ^ k % 2 ^ w) ≡ within x n k (f % 2 ^ n)
+  within_masks =
       ap₂ (λ (mask own : ℕ). bit_or (bit_and x (2 ^ w - 1 - mask)) own)
       (shl_exact n k w (ones_lt n) inside)
       (shl_exact n k w (mask_lt f n) inside ∙ ap (λ (p : ℕ). p * 2 ^ k) (and_mask f n) ∙ sym (add-zero (f % 2 ^ n * 2 ^ k)))
@@ -107,9 +107,9 @@ splice-eight s q r n k f inside size lt =
     let eight : length own ≡ r + (n + k) =
     length-bits-take 8 t (omega (arith, length-drop q s)) ∙ sym size in
     let layout : bits s ≡ bits (take q s) ++ (bits_of (r + (n + k)) x ++ bits (drop 8 t)) =
-    ap bits (sym (take-append-drop q s)) ∙ bits-append (take q s) t
+    ap bits (sym (take-append-drop q s)) ∙ bits_append (take q s) t
     ∙ ap (λ (l : List Bool). bits (take q s) ++ l)
-    (ap bits (sym (take-append-drop 8 t)) ∙ bits-append (take 8 t) (drop 8 t)
+    (ap bits (sym (take-append-drop 8 t)) ∙ bits_append (take 8 t) (drop 8 t)
     ∙ ap (λ (l : List Bool). l ++ bits (drop 8 t)) (sym (bits_of_value own) ∙ ap (λ (m : ℕ). bits_of m x) eight)) in
     ap₂ (λ (l : List Bool) (m : ℕ). splice l (8 * q) (bits_of m (within x n k f))) layout (sym size)
     ∙ splice-within x r n k f lt (bits (take q s)) (bits (drop 8 t)) (8 * q) (length-bits-take q s (omega arith))
@@ -125,7 +125,7 @@ splice_front s t u at new size e inside =
     let fill : List Bool = bits t in
     let long : length l ≡ 8 * length s = length-bits s in
     let layout : splice (bits (s ++ t)) at new ≡ splice l at new ++ fill =
-    ap (λ (x : List Bool). splice x at new) (bits-append s t)
+    ap (λ (x : List Bool). splice x at new) (bits_append s t)
     ∙ ap₂ (λ (x y : List Bool). x ++ (new ++ y))
     (take-append-le at l fill (omega (arith, long)))
     (drop-append-le (at + length new) l fill (omega (arith, long)))

@@ -11,18 +11,18 @@ use lib.Pow.{high, low, field, shr_mod}
 use lib.Dec.{leb}
 use borrow.Author.Tests.{leb-true, leb-false}
 use Rattle.bits.specs.Bits.{value, bits_of, bits}
-use Rattle.bits.specs.Element.{windowAt}
+use Rattle.bits.specs.Element.{window_at}
 use Rattle.bits.proofs.Lists.{length_part}
-use Rattle.bits.proofs.Numbers.{value-append, value-lt, value-take-fits}
-use Rattle.bits.proofs.Bytes.{length-bits, bits-append, bits-take, bits-drop, take-before, length-bits-take}
+use Rattle.bits.proofs.Numbers.{value_append, value_lt, value-take-fits}
+use Rattle.bits.proofs.Bytes.{length-bits, bits_append, bits-take, bits-drop, take-before, length-bits-take}
 
 -- the middle of a run, by a division and a remainder
 value-middle : (a b c : List Bool) (w k : ℕ) → length b ≡ w → length c ≡ k → value ((a ++ b) ++ c) / 2 ^ k % 2 ^ w ≡ value b
 value-middle a b c w k eb ec =
     ap₂ (λ (x y : ℕ). value ((a ++ b) ++ c) / 2 ^ x % 2 ^ y) (sym ec) (sym eb)
-    ∙ ap (λ (x : ℕ). x / 2 ^ length c % 2 ^ length b) (value-append (a ++ b) c)
-    ∙ ap (λ (x : ℕ). x % 2 ^ length b) (high (value (a ++ b)) (length c) (value-lt c) ∙ value-append a b)
-    ∙ low (value a) (length b) (value-lt b)
+    ∙ ap (λ (x : ℕ). x / 2 ^ length c % 2 ^ length b) (value_append (a ++ b) c)
+    ∙ ap (λ (x : ℕ). x % 2 ^ length b) (high (value (a ++ b)) (length c) (value_lt c) ∙ value_append a b)
+    ∙ low (value a) (length b) (value_lt b)
 
 -- any w bits of a run of n
 value-part : (l : List Bool) (k w n : ℕ) → k + w ≤ n → length l ≡ n → value l / 2 ^ (n - k - w) % 2 ^ w ≡ value (take w (drop k l))
@@ -76,22 +76,22 @@ none-there s at w h = ap (λ (l : List Bool). value (take w l)) (drop_of_length-
 
 module _ (s : List ℕ) (at : ℕ) where
   -- zero bytes after the end change nothing
-  pub window-padded : (k : ℕ) → windowAt (s ++ replicate k 0) at ≡ windowAt s at
-  unfolding windowAt
-  window-padded k =
+  pub window_padded : (k : ℕ) → window_at (s ++ replicate k 0) at ≡ window_at s at
+  unfolding window_at
+  window_padded k =
       ap (λ (l : List Bool). value (take 57 (drop at l ++ replicate 57 false)))
-      (bits-append s (replicate k 0) ∙ ap (λ (l : List Bool). bits s ++ l) (bits-zeros k))
+      (bits_append s (replicate k 0) ∙ ap (λ (l : List Bool). bits s ++ l) (bits-zeros k))
       ∙ ap value (zeros-there 57 (8 * k) at (bits s))
 
-  pub window-after : 8 * length s ≤ at → windowAt s at ≡ 0
-  unfolding windowAt
+  pub window-after : 8 * length s ≤ at → window_at s at ≡ 0
+  unfolding window_at
   window-after h =
       ap (λ (l : List Bool). value (take 57 (l ++ replicate 57 false))) (drop_of_length-le (bits s) {i = at} (omega (arith, length-bits s)))
       ∙ value-zeros 57
 
   -- any w bits of the window
-  pub window-part : (k w : ℕ) → k + w ≤ 57 → at + k + w ≤ 8 * length s → windowAt s at / 2 ^ (57 - k - w) % 2 ^ w ≡ value (take w (drop (at + k) (bits s)))
-  unfolding windowAt
+  pub window-part : (k w : ℕ) → k + w ≤ 57 → at + k + w ≤ 8 * length s → window_at s at / 2 ^ (57 - k - w) % 2 ^ w ≡ value (take w (drop (at + k) (bits s)))
+  unfolding window_at
   window-part k w h inside =
       let x : List Bool = drop at (bits s) in
       let z : List Bool = replicate 57 false in
@@ -104,18 +104,18 @@ module _ (s : List ℕ) (at : ℕ) where
       ∙ take-append-le w (drop k x) z (omega (arith, size, length-drop k x))
       ∙ ap (take w) (drop-drop k at (bits s)))
 
-  pub window-lt : windowAt s at < 2 ^ 57
-  unfolding windowAt
-  window-lt = value-take-fits 57 57 (drop at (bits s) ++ replicate 57 false) (omega arith)
+  pub window_lt : window_at s at < 2 ^ 57
+  unfolding window_at
+  window_lt = value-take-fits 57 57 (drop at (bits s) ++ replicate 57 false) (omega arith)
 
   -- its first w bits
-  pub window-front : (w : ℕ) → w ≤ 57 → at + w ≤ 8 * length s → windowAt s at / 2 ^ (57 - w) ≡ value (take w (drop at (bits s)))
+  pub window-front : (w : ℕ) → w ≤ 57 → at + w ≤ 8 * length s → window_at s at / 2 ^ (57 - w) ≡ value (take w (drop at (bits s)))
   window-front w h inside =
       let size : w + (57 - w) ≡ 57 = omega arith in
       let start : at + 0 ≡ at = omega arith in
       let after : 57 - w ≡ 57 - 0 - w = omega arith in
-      sym (shr_mod w (57 - w) (subst (λ (n : ℕ). windowAt s at < 2 ^ n) (sym size) window-lt))
-      ∙ ap (λ (n : ℕ). windowAt s at / 2 ^ n % 2 ^ w) after
+      sym (shr_mod w (57 - w) (subst (λ (n : ℕ). window_at s at < 2 ^ n) (sym size) window_lt))
+      ∙ ap (λ (n : ℕ). window_at s at / 2 ^ n % 2 ^ w) after
       ∙ window-part 0 w (omega arith) (omega arith)
       ∙ ap (λ (n : ℕ). value (take w (drop n (bits s)))) start
 
@@ -135,7 +135,7 @@ module _ (s : List ℕ) (first into : ℕ) (inside : first + 8 ≤ length s) (h 
       let after : 7 ≡ 64 + into - into - 57 = omega arith in
       field (value eight * 2 ^ into) 57 7
       ∙ ap₂ (λ (x k : ℕ). x / 2 ^ k % 2 ^ 57)
-      (sym (value-append eight z
+      (sym (value_append eight z
       ∙ ap₂ (λ (n v : ℕ). value eight * 2 ^ n + v) (length-replicate into false) (value-zeros into) ∙ add-zero (value eight * 2 ^ into)))
       after
       ∙ value-part l into 57 (64 + into) (omega arith) size
@@ -146,8 +146,8 @@ module _ (s : List ℕ) (first into : ℕ) (inside : first + 8 ≤ length s) (h 
   there : drop (8 * first + into) (bits s) ≡ drop into (bits (drop first s))
   there = sym (drop-drop into (8 * first) (bits s)) ∙ ap (drop into) (bits-drop first s (omega arith))
 
-  window-early : into ≤ 7 → value eight * 2 ^ into % 2 ^ 64 / 2 ^ 7 ≡ windowAt s (8 * first + into)
-  unfolding windowAt
+  window-early : into ≤ 7 → value eight * 2 ^ into % 2 ^ 64 / 2 ^ 7 ≡ window_at s (8 * first + into)
+  unfolding window_at
   window-early early =
       let t : List ℕ = drop first s in
       let z : List Bool = replicate 57 false in
@@ -161,15 +161,15 @@ module _ (s : List ℕ) (first into : ℕ) (inside : first + 8 ≤ length s) (h 
       ∙ sym (take-append-le 57 (drop into (bits t)) z (omega (arith, size)))
       ∙ ap (λ (l : List Bool). take 57 (l ++ z)) (sym there))
 
-  window-last : first + 8 ≡ length s → value eight * 2 ^ into % 2 ^ 64 / 2 ^ 7 ≡ windowAt s (8 * first + into)
-  unfolding windowAt
+  window-last : first + 8 ≡ length s → value eight * 2 ^ into % 2 ^ 64 / 2 ^ 7 ≡ window_at s (8 * first + into)
+  unfolding window_at
   window-last last =
       shifted
       ∙ ap (λ (l : List Bool). value (take 57 (l ++ replicate 57 false)))
       (ap (λ (t : List ℕ). drop into (bits t)) (take_all 8 (drop first s) (omega (arith, length-drop first s))) ∙ sym there)
 
-  pub window-eight : (7 < into → first + 8 ≡ length s) → value eight * 2 ^ into % 2 ^ 64 / 2 ^ 7 ≡ windowAt s (8 * first + into)
+  pub window-eight : (7 < into → first + 8 ≡ length s) → value eight * 2 ^ into % 2 ^ 64 / 2 ^ 7 ≡ window_at s (8 * first + into)
   window-eight late = go (leb into 7) refl where
-    go : (b : Bool) → leb into 7 ≡ b → value eight * 2 ^ into % 2 ^ 64 / 2 ^ 7 ≡ windowAt s (8 * first + into)
+    go : (b : Bool) → leb into 7 ≡ b → value eight * 2 ^ into % 2 ^ 64 / 2 ^ 7 ≡ window_at s (8 * first + into)
     go true e = window-early (leb-true into 7 e)
     go false e = window-last (late (leb-false into 7 e))

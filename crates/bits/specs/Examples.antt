@@ -3,8 +3,8 @@ use Rattle.std.specs.Prelude.{◌≡◌, refl, [], ◌∷◌, true, false, ◌*�
 use Rattle.std.proofs.Common.{arith}
 use Rattle.bits.specs.Lists.{some, every}
 use Rattle.bits.specs.Bits.{bits, bits_of, value, splice, Bytes}
-use Rattle.bits.specs.Frame.{bytesFor, bitsIn, framed, bytes_of, pack}
-use Rattle.bits.specs.Element.{elementAt, takeAt, windowAt, put_at, layAt}
+use Rattle.bits.specs.Frame.{bytes_for, bits_in, framed, bytes_of, pack}
+use Rattle.bits.specs.Element.{element_at, taken_at, window_at, put_at, lay_at}
 use Rattle.bits.specs.declared.Taken.TheVariants.{Element, Short}
 
 -- the most significant bit of the first byte comes first
@@ -19,22 +19,22 @@ unfolding bits bits_of value
 across-bytes = refl
 
 -- four zeros in the middle of a byte: the bits around them stay
-in-the-middle : splice (bits (0xff ∷ 0x82 ∷ [])) 2 (bits_of 4 0) ≡ bits (0xc3 ∷ 0x82 ∷ [])
+in_the-middle : splice (bits (0xff ∷ 0x82 ∷ [])) 2 (bits_of 4 0) ≡ bits (0xc3 ∷ 0x82 ∷ [])
 unfolding bits bits_of
-in-the-middle = refl
+in_the-middle = refl
 
 -- the PDU type, and an element that the 11 bits of a PDU do not hold whole
-pdu-type : takeAt (0x49 ∷ 0x80 ∷ []) 11 6 5 ≡ Element 12 (record { at = 11 })
-unfolding takeAt elementAt bits bits_of value
+pdu-type : taken_at (0x49 ∷ 0x80 ∷ []) 11 6 5 ≡ Element 12 (record { at = 11 })
+unfolding taken_at element_at bits bits_of value
 pdu-type = refl
 
-ends-before : takeAt (0x49 ∷ 0x80 ∷ []) 11 8 4 ≡ Short
-unfolding takeAt elementAt bits bits_of
+ends-before : taken_at (0x49 ∷ 0x80 ∷ []) 11 8 4 ≡ Short
+unfolding taken_at element_at bits bits_of
 ends-before = refl
 
 -- a window of the same two bytes from place 6 on begins with the PDU type, and zeros follow
-window-type : windowAt (0x49 ∷ 0x80 ∷ []) 6 ≡ 12 * 2 ^ 52
-unfolding windowAt bits bits_of value
+window-type : window_at (0x49 ∷ 0x80 ∷ []) 6 ≡ 12 * 2 ^ 52
+unfolding window_at bits bits_of value
 window-type = refl
 
 -- put there again: 18 in 6 bits, then 12 in 5
@@ -58,8 +58,8 @@ no_byte : Bytes (0xff ∷ 256 ∷ []) → ⊥
 no_byte y = omega (arith, y 1)
 
 -- bits divided by 8, rounded up
-rounded-up : (bytesFor 0 ≡ 0) × (bytesFor 1 ≡ 1) × (bytesFor 8 ≡ 1) × (bytesFor 9 ≡ 2) × (bytesFor 4096 ≡ 512) × (bytesFor 4097 ≡ 513)
-rounded-up = (refl, refl, refl, refl, refl, refl)
+rounded_up : (bytes_for 0 ≡ 0) × (bytes_for 1 ≡ 1) × (bytes_for 8 ≡ 1) × (bytes_for 9 ≡ 2) × (bytes_for 4096 ≡ 512) × (bytes_for 4097 ≡ 513)
+rounded_up = (refl, refl, refl, refl, refl, refl)
 
 -- at most 4,096 bits
 longest : (framed (replicate 512 0) 4096 ≡ true) × (framed (replicate 513 0) 4097 ≡ false)
@@ -77,7 +77,7 @@ unfolding framed bits bits_of value
 each-unused = (refl, refl, refl)
 
 -- a PDU's own 11 bits, and the two bytes that hold them again
-own_bits : bitsIn 11 (0x49 ∷ 0x80 ∷ []) ≡ false ∷ true ∷ false ∷ false ∷ true ∷ false ∷ false ∷ true ∷ true ∷ false ∷ false ∷ []
+own_bits : bits_in 11 (0x49 ∷ 0x80 ∷ []) ≡ false ∷ true ∷ false ∷ false ∷ true ∷ false ∷ false ∷ true ∷ true ∷ false ∷ false ∷ []
 unfolding bits bits_of
 own_bits = refl
 
@@ -86,9 +86,9 @@ unfolding pack bytes_of bits_of value
 packed = refl
 
 -- an element has 1 to 32 bits
-widths : (takeAt (replicate 5 0xff) 40 0 0 ≡ Short) × (takeAt (replicate 5 0xff) 40 0 33 ≡ Short)
-    × (takeAt (replicate 5 0xff) 40 8 32 ≡ Element 4294967295 (record { at = 40 })) × (takeAt (replicate 5 0xff) 40 9 32 ≡ Short)
-unfolding takeAt elementAt bits bits_of value
+widths : (taken_at (replicate 5 0xff) 40 0 0 ≡ Short) × (taken_at (replicate 5 0xff) 40 0 33 ≡ Short)
+    × (taken_at (replicate 5 0xff) 40 8 32 ≡ Element 4294967295 (record { at = 40 })) × (taken_at (replicate 5 0xff) 40 9 32 ≡ Short)
+unfolding taken_at element_at bits bits_of value
 widths = (refl, refl, refl, refl)
 
 -- 57 bits are put where there is room for all of them; otherwise, and for more, nothing is
@@ -99,8 +99,8 @@ unfolding bits bits_of
 room = (refl, refl, refl)
 
 -- an element is laid with zeros to the end of eight bytes, and put where fewer stand
-laid : (layAt (replicate 9 0xff) 4 4 5 ≡ bits (0xf5 ∷ 0 ∷ 0 ∷ 0 ∷ 0 ∷ 0 ∷ 0 ∷ 0 ∷ 0xff ∷ []))
-    × (layAt (0xff ∷ 0xff ∷ []) 4 4 5 ≡ bits (0xf5 ∷ 0xff ∷ []))
+laid : (lay_at (replicate 9 0xff) 4 4 5 ≡ bits (0xf5 ∷ 0 ∷ 0 ∷ 0 ∷ 0 ∷ 0 ∷ 0 ∷ 0 ∷ 0xff ∷ []))
+    × (lay_at (0xff ∷ 0xff ∷ []) 4 4 5 ≡ bits (0xf5 ∷ 0xff ∷ []))
 unfolding bits bits_of
 laid = (refl, refl)
 

@@ -2,8 +2,8 @@
 // the counts of bits and digits, and the frame of a PDU (document 01, "The two PDUs").
 ghost use Rattle.std.specs.Prelude.{◌≡◌, ◌+◌, ◌-◌, ◌*◌, ◌/◌, ◌%◌, ◌^◌, ◌≤◌, ◌<◌, min, ◌++◌, length, take, drop, get_or, replicate};
 ghost use Rattle.bits.specs.Bits.{bits, bits_of, value, splice};
-ghost use Rattle.bits.specs.Frame.{bytesFor, framed};
-ghost use Rattle.bits.specs.Element.{takeAt, windowAt, hasRoom, put_at, hasEight, layAt};
+ghost use Rattle.bits.specs.Frame.{bytes_for, framed};
+ghost use Rattle.bits.specs.Element.{taken_at, window_at, has_room, put_at, has_eight, lay_at};
 
 // A length in bits: a PDU's.
 #[derive(Drop)]
@@ -24,7 +24,7 @@ impl DigitCount {
 impl BitCount {
     // The number of bytes that hold so many bits.
     pub fn bytes(self) -> usize
-        ensures { result ≡ bytesFor self.0 }
+        ensures { result ≡ bytes_for self.0 }
     {
         self.0 / 8 + (self.0 % 8 + 7) / 8
     }
@@ -47,7 +47,7 @@ pub enum Taken {
 impl Cursor {
     // The element of `width` bits, 1 to 32, of the PDU of n bits in s. No element is wider or narrower.
     pub fn take(self, s: &[u8], n: BitCount, width: usize) -> Taken
-        ensures { result ≡ takeAt s.now n.0 self.at width }
+        ensures { result ≡ taken_at s.now n.0 self.at width }
     {
         let at = self.at;
         let end = n.0;
@@ -73,7 +73,7 @@ impl Cursor {
 
 // The number that the 57 bits from a place on are; zeros stand for those after the end.
 pub fn window(s: &[u8], at: usize) -> u64
-    ensures { result ≡ windowAt s.now at }
+    ensures { result ≡ window_at s.now at }
 {
     if s.len() < 8 {
         return window_of(&padded(s), at);
@@ -84,7 +84,7 @@ pub fn window(s: &[u8], at: usize) -> u64
 // The same where there are eight bytes: the bits are among the eight from theirs on, or among the last eight.
 fn window_of(s: &[u8], at: usize) -> u64
     requires { 8 ≤ length s.now }
-    ensures { result ≡ windowAt s.now at }
+    ensures { result ≡ window_at s.now at }
 {
     let first = least(at / 8, s.len() - 8);
     let into = at - 8 * first;
@@ -144,7 +144,7 @@ pub fn bit_at(s: &[u8], at: usize) -> usize
 // Puts the `width` low bits of an element at `at`, and says whether there was room; without it no bit changes.
 // There is room for up to 57 bits: eight bytes hold so many from any place in their first on.
 pub fn put(buf: &mut [u8], at: usize, width: usize, element: u64) -> bool
-    ensures { (result ≡ hasRoom buf.old at width) × (bits buf.new ≡ put_at buf.old at width element) }
+    ensures { (result ≡ has_room buf.old at width) × (bits buf.new ≡ put_at buf.old at width element) }
 {
     if 57 < width {
         return false;
@@ -204,7 +204,7 @@ fn with_field(x: u64, n: usize, k: usize, f: u64) -> u64
 // The same for elements that stand one after another: only the first of eight bytes is read, and zeros follow the element to their end.
 // Where fewer than eight stand from its own on, it is put.
 pub fn lay(buf: &mut [u8], at: usize, width: usize, element: u64) -> bool
-    ensures { (result ≡ hasRoom buf.old at width) × (bits buf.new ≡ layAt buf.old at width element) }
+    ensures { (result ≡ has_room buf.old at width) × (bits buf.new ≡ lay_at buf.old at width element) }
 {
     if !has_eight(buf.len(), at, width) {
         return put(buf, at, width, element);
@@ -217,7 +217,7 @@ pub fn lay(buf: &mut [u8], at: usize, width: usize, element: u64) -> bool
 
 // Whether up to 57 bits are within eight of so many bytes, the first of them in the first.
 fn has_eight(count: usize, at: usize, width: usize) -> bool
-    ensures { result ≡ hasEight count at width }
+    ensures { result ≡ has_eight count at width }
 {
     if 57 < width {
         return false;

@@ -6,37 +6,37 @@ use borrow.Author.Tests.{eq-eqb}
 use lib.ListN.{length, drop}
 use Rattle.bits.specs.Bits.{Bytes}
 use Rattle.grammar.specs.declared.record.Record.{Record}
-use Rattle.reader.specs.Read.{readIs}
+use Rattle.reader.specs.Read.{read_is}
 use Rattle.reader.specs.declared.Answer.TheVariants.{Accepted}
-use Rattle.pdu.specs.Accepted.{acceptedAs}
+use Rattle.pdu.specs.Accepted.{accepted_as}
 use Rattle.pdu.proofs.RoundTrip.{accepted-legal, written_read}
-use Rattle.words.specs.Places.{recordWidth}
-use Rattle.words.specs.RecordWords.{recordWords}
+use Rattle.words.specs.Places.{record_width}
+use Rattle.words.specs.RecordWords.{record_words}
 use Rattle.words.specs.Sized.{SizedRecord}
 use Rattle.words.proofs.RecordInverse.{record-long, record-back}
 use Rattle.words.proofs.LegalRecords.{record-sized}
-use Rattle.reader.specs.Words.{readWords}
-use Rattle.boc.specs.Calls.{writeNumber, writeOut, writeBits}
+use Rattle.reader.specs.Words.{read_words}
+use Rattle.boc.specs.Calls.{write_number, write_out, write_bits}
 
-module _ (s : List ℕ) (n : ℕ) (words : List ℕ) (l : length words ≡ recordWidth) (a : (readIs s n).answer ≡ Accepted) where
+module _ (s : List ℕ) (n : ℕ) (words : List ℕ) (l : length words ≡ record_width) (a : (read_is s n).answer ≡ Accepted) where
   abbrev found : Record
-  found = (readIs s n).found
+  found = (read_is s n).found
 
-  whole : readIs s n ≡ acceptedAs found
+  whole : read_is s n ≡ accepted_as found
   whole = λ i. record { answer = a i; found = found }
 
   sized : SizedRecord found
   sized = record-sized found (accepted-legal s n found whole)
 
-  left : readWords s n words ≡ recordWords found
-  unfolding readWords
-  left = rw (eq-eqb (length words) recordWidth l, a)
+  left : read_words s n words ≡ record_words found
+  unfolding read_words
+  left = rw (eq-eqb (length words) record_width l, a)
 
-  pub written-again : (out : List ℕ) (old : ℕ) → Bytes s → length s ≤ length out
-      → let w = readWords s n words in (writeNumber w out ≡ 0) × (writeOut w out ≡ s ++ drop (length s) out) × (writeBits w out old ≡ n)
-  unfolding writeNumber writeOut writeBits
-  written-again out old y h =
+  pub written_again : (out : List ℕ) (old : ℕ) → Bytes s → length s ≤ length out
+      → let w = read_words s n words in (write_number w out ≡ 0) × (write_out w out ≡ s ++ drop (length s) out) × (write_bits w out old ≡ n)
+  unfolding write_number write_out write_bits
+  written_again out old y h =
       let w = written_read s n found out y whole h in
-      let e = eq-eqb (length (recordWords found)) recordWidth (record-long found sized) in
+      let e = eq-eqb (length (record_words found)) record_width (record-long found sized) in
       let b = record-back found sized in
       (rw (left, e, b, w.0), rw (left, e, b, w.1), rw (left, e, b, w.0))

@@ -4,25 +4,25 @@ use mathlib.Core.Bool.{true, false, not}
 use mathlib.Core.List.{List}
 use Prim.Native.Nat.{ℕ}
 use Rattle.bits.proofs.Tests.{said-no, said-yes}
-use Rattle.words.specs.RequestWords.{isRequest, givenRequest}
+use Rattle.words.specs.RequestWords.{is_request, given_request}
 use Rattle.words.specs.declared.request.GivenRequest.{GivenRequest}
 use Rattle.words.proofs.Given.{request-given, request-asked}
 use Rattle.archive.specs.Refusals.{plain}
-use Rattle.barring.specs.Decide.{decideIs}
+use Rattle.barring.specs.Decide.{decide_is}
 use Rattle.barring.specs.declared.Decision.{Decision}
 use Rattle.barring.specs.declared.Decision.TheVariants.{Refused}
-use Rattle.boc.specs.Calls.{decideAnswer}
+use Rattle.boc.specs.Calls.{decide_answer}
 
-module _ (b words : List ℕ) {g : GivenRequest} (e : g ≡ givenRequest words) where
-  given : g.given ≡ isRequest words
+module _ (b words : List ℕ) {g : GivenRequest} (e : g ≡ given_request words) where
+  given : g.given ≡ is_request words
   given = ap (λ (x : GivenRequest). x.given) e ∙ request-given words
 
-  pub not-asked : {d : Decision} → d ≡ Refused (plain 9) → not g.given ≡ true → d ≡ decideAnswer b words
-  unfolding decideAnswer
+  pub not-asked : {d : Decision} → d ≡ Refused (plain 9) → not g.given ≡ true → d ≡ decide_answer b words
+  unfolding decide_answer
   not-asked f t = rw (said-no given t) f
 
-  pub asked : {d : Decision} → d ≡ decideIs b g.asked → not g.given ≡ false → d ≡ decideAnswer b words
-  unfolding decideAnswer
+  pub asked : {d : Decision} → d ≡ decide_is b g.asked → not g.given ≡ false → d ≡ decide_answer b words
+  unfolding decide_answer
   asked f t =
       let whole = said-yes given t in
-      rw whole (f ∙ ap (decideIs b) (ap (λ (x : GivenRequest). x.asked) e ∙ request-asked words whole))
+      rw whole (f ∙ ap (decide_is b) (ap (λ (x : GivenRequest). x.asked) e ∙ request-asked words whole))

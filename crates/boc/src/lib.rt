@@ -4,18 +4,18 @@
 mod serial;
 
 ghost use Rattle.std.specs.Prelude.{◌≡◌, length};
-ghost use Rattle.reader.specs.Words.{readWords};
+ghost use Rattle.reader.specs.Words.{read_words};
 ghost use Rattle.archive.specs.Refusals.{plain};
-ghost use Rattle.archive.specs.Keeping.{emptyOut, captureOut};
-ghost use Rattle.archive.specs.Restoring.{restoreOut};
-ghost use Rattle.archive.specs.Listing.{listOut};
-ghost use Rattle.boc.specs.Calls.{placeWord, entryWord, readNumber, read_place, writeNumber, writeOut, writeBits, emptyNumber, emptyLength};
-ghost use Rattle.boc.specs.Calls.{storedNumber, storedLength, storedEntry, storedPlace, captureAnswer, contentsAnswer};
-ghost use Rattle.boc.specs.Calls.{keyWords, listedNumber, listedKey, listedLength, listedDay, listedEntry, listedPlace, entryAnswer};
-ghost use Rattle.boc.specs.Calls.{restoredNumber, restoredLength, restoredDay, restoredEntry, restoredPlace, key_of, restoreAnswer};
-ghost use Rattle.boc.specs.Calls.{reloadedNumber, reloadedLength, reloadedEntry, reloadedPlace, reloadAnswer, reloadLeaves};
-ghost use Rattle.boc.specs.Calls.{externalAnswer, externalLeaves};
-ghost use Rattle.boc.specs.Calls.{decidedNumber, decidedVerdict, decidedEntry, decidedPlace, decideAnswer};
+ghost use Rattle.archive.specs.Keeping.{empty_out, capture_out};
+ghost use Rattle.archive.specs.Restoring.{restore_out};
+ghost use Rattle.archive.specs.Listing.{list_out};
+ghost use Rattle.boc.specs.Calls.{place_word, entry_word, read_number, read_place, write_number, write_out, write_bits, empty_number, empty_length};
+ghost use Rattle.boc.specs.Calls.{stored_number, stored_length, stored_entry, stored_place, capture_answer, contents_answer};
+ghost use Rattle.boc.specs.Calls.{key_words, listed_number, listed_key, listed_length, listed_day, listed_entry, listed_place, entry_answer};
+ghost use Rattle.boc.specs.Calls.{restored_number, restored_length, restored_day, restored_entry, restored_place, key_of, restore_answer};
+ghost use Rattle.boc.specs.Calls.{reloaded_number, reloaded_length, reloaded_entry, reloaded_place, reload_answer, reload_leaves};
+ghost use Rattle.boc.specs.Calls.{external_answer, external_leaves};
+ghost use Rattle.boc.specs.Calls.{decided_number, decided_verdict, decided_entry, decided_place, decide_answer};
 
 use archive::{EntryPlace, Key, Listed, Refusal, Restored, Stored, listing};
 use barring::Decision;
@@ -31,7 +31,7 @@ const NOWHERE: usize = 18446744073709551615;
 const KEY_WORDS: usize = 3;
 
 fn place_word(place: BitPlace) -> usize
-    ensures { result ≡ placeWord place }
+    ensures { result ≡ place_word place }
 {
     match place {
         BitPlace::At(bit) => bit,
@@ -40,7 +40,7 @@ fn place_word(place: BitPlace) -> usize
 }
 
 fn entry_word(entry: EntryPlace) -> usize
-    ensures { result ≡ entryWord entry }
+    ensures { result ≡ entry_word entry }
 {
     match entry {
         EntryPlace::At(index) => index,
@@ -51,8 +51,8 @@ fn entry_word(entry: EntryPlace) -> usize
 // Says where an archive's call stopped; returns the refusal number.
 fn refuse(refusal: Refusal, entry: &mut usize, place: &mut usize) -> u32
     ensures value { result ≡ refusal.number }
-    ensures after { entry.new ≡ entryWord refusal.entry }
-    ensures place_after { place.new ≡ placeWord refusal.place }
+    ensures after { entry.new ≡ entry_word refusal.entry }
+    ensures place_after { place.new ≡ place_word refusal.place }
 {
     let at_entry = refusal.entry;
     let at_place = refusal.place;
@@ -63,10 +63,10 @@ fn refuse(refusal: Refusal, entry: &mut usize, place: &mut usize) -> u32
 
 // Tells an answer that is a length in bytes.
 fn tell_stored(answer: Stored, length: &mut usize, entry: &mut usize, place: &mut usize) -> u32
-    ensures value { result ≡ storedNumber answer }
-    ensures length_after { length.new ≡ storedLength answer length.old }
-    ensures after { entry.new ≡ storedEntry answer entry.old }
-    ensures place_after { place.new ≡ storedPlace answer place.old }
+    ensures value { result ≡ stored_number answer }
+    ensures length_after { length.new ≡ stored_length answer length.old }
+    ensures after { entry.new ≡ stored_entry answer entry.old }
+    ensures place_after { place.new ≡ stored_place answer place.old }
 {
     match answer {
         Stored::Bytes(n) => {
@@ -85,11 +85,11 @@ fn tell_restored(
     entry: &mut usize,
     place: &mut usize,
 ) -> u32
-    ensures value { result ≡ restoredNumber answer }
-    ensures bits_after { bits.new ≡ restoredLength answer bits.old }
-    ensures day_after { day.new ≡ restoredDay answer day.old }
-    ensures after { entry.new ≡ restoredEntry answer entry.old }
-    ensures place_after { place.new ≡ restoredPlace answer place.old }
+    ensures value { result ≡ restored_number answer }
+    ensures bits_after { bits.new ≡ restored_length answer bits.old }
+    ensures day_after { day.new ≡ restored_day answer day.old }
+    ensures after { entry.new ≡ restored_entry answer entry.old }
+    ensures place_after { place.new ≡ restored_place answer place.old }
 {
     match answer {
         Restored::Bits(n, taken) => {
@@ -103,10 +103,10 @@ fn tell_restored(
 
 // One that is a length in bits.
 fn tell_reloaded(answer: Reloaded, bits: &mut usize, entry: &mut usize, place: &mut usize) -> u32
-    ensures value { result ≡ reloadedNumber answer }
-    ensures bits_after { bits.new ≡ reloadedLength answer bits.old }
-    ensures after { entry.new ≡ reloadedEntry answer entry.old }
-    ensures place_after { place.new ≡ reloadedPlace answer place.old }
+    ensures value { result ≡ reloaded_number answer }
+    ensures bits_after { bits.new ≡ reloaded_length answer bits.old }
+    ensures after { entry.new ≡ reloaded_entry answer entry.old }
+    ensures place_after { place.new ≡ reloaded_place answer place.old }
 {
     match answer {
         Reloaded::Bits(n) => {
@@ -120,7 +120,7 @@ fn tell_reloaded(answer: Reloaded, bits: &mut usize, entry: &mut usize, place: &
 // The words of a key: network, SSI, part.
 fn store_key(key: Key, words: &mut [u32])
     requires { length words.old ≡ 3 }
-    ensures { words.new ≡ keyWords key }
+    ensures { words.new ≡ key_words key }
 {
     words[0] = key.network;
     words[1] = key.ssi;
@@ -137,12 +137,12 @@ fn tell_listed(
     place: &mut usize,
 ) -> u32
     requires { length key.old ≡ 3 }
-    ensures value { result ≡ listedNumber answer }
-    ensures key_after { key.new ≡ listedKey answer key.old }
-    ensures bits_after { bits.new ≡ listedLength answer bits.old }
-    ensures day_after { day.new ≡ listedDay answer day.old }
-    ensures after { entry.new ≡ listedEntry answer entry.old }
-    ensures place_after { place.new ≡ listedPlace answer place.old }
+    ensures value { result ≡ listed_number answer }
+    ensures key_after { key.new ≡ listed_key answer key.old }
+    ensures bits_after { bits.new ≡ listed_length answer bits.old }
+    ensures day_after { day.new ≡ listed_day answer day.old }
+    ensures after { entry.new ≡ listed_entry answer entry.old }
+    ensures place_after { place.new ≡ listed_place answer place.old }
 {
     match answer {
         Listed::Entry(listed) => {
@@ -158,10 +158,10 @@ fn tell_listed(
 
 // And a decision: 0 to 2 barred with that cause, 3 allowed, 4 not held.
 fn tell_decided(answer: Decision, decision: &mut u32, entry: &mut usize, place: &mut usize) -> u32
-    ensures value { result ≡ decidedNumber answer }
-    ensures decision_after { decision.new ≡ decidedVerdict answer decision.old }
-    ensures after { entry.new ≡ decidedEntry answer entry.old }
-    ensures place_after { place.new ≡ decidedPlace answer place.old }
+    ensures value { result ≡ decided_number answer }
+    ensures decision_after { decision.new ≡ decided_verdict answer decision.old }
+    ensures after { entry.new ≡ decided_entry answer entry.old }
+    ensures place_after { place.new ≡ decided_place answer place.old }
 {
     match answer {
         Decision::Barred(cause) => {
@@ -194,8 +194,8 @@ fn no_request() -> Decision
 // Reads the PDU of `bits` bits in `pdu`; its record goes to `record`.
 #[unsafe(no_mangle)]
 pub extern "C" fn boc_read(pdu: &[u8], bits: usize, record: &mut [u32], place: &mut usize) -> u32
-    ensures value { result ≡ readNumber pdu.now bits (length «record».old) }
-    ensures record_after { «record».new ≡ readWords pdu.now bits «record».old }
+    ensures value { result ≡ read_number pdu.now bits (length «record».old) }
+    ensures record_after { «record».new ≡ read_words pdu.now bits «record».old }
     ensures place_after { place.new ≡ read_place pdu.now bits (length «record».old) place.old }
 {
     match pdu::read_words(pdu, BitCount(bits), record) {
@@ -211,9 +211,9 @@ pub extern "C" fn boc_read(pdu: &[u8], bits: usize, record: &mut [u32], place: &
 // Writes a record as a PDU; its length in bits goes to `bits`.
 #[unsafe(no_mangle)]
 pub extern "C" fn boc_write(record: &[u32], out: &mut [u8], bits: &mut usize) -> u32
-    ensures value { result ≡ writeNumber «record».now out.old }
-    ensures out_after { out.new ≡ writeOut «record».now out.old }
-    ensures bits_after { bits.new ≡ writeBits «record».now out.old bits.old }
+    ensures value { result ≡ write_number «record».now out.old }
+    ensures out_after { out.new ≡ write_out «record».now out.old }
+    ensures bits_after { bits.new ≡ write_bits «record».now out.old bits.old }
 {
     match pdu::write_words(record, out) {
         Written::Bits(length) => {
@@ -227,9 +227,9 @@ pub extern "C" fn boc_write(record: &[u32], out: &mut [u8], bits: &mut usize) ->
 // Writes the empty archive of a home network; its length in bytes goes to `length`.
 #[unsafe(no_mangle)]
 pub extern "C" fn boc_empty(home: u32, out: &mut [u8], length: &mut usize) -> u32
-    ensures value { result ≡ emptyNumber home out.old }
-    ensures out_after { out.new ≡ emptyOut home out.old }
-    ensures length_after { length.new ≡ emptyLength home out.old length.old }
+    ensures value { result ≡ empty_number home out.old }
+    ensures out_after { out.new ≡ empty_out home out.old }
+    ensures length_after { length.new ≡ empty_length home out.old length.old }
 {
     match archive::empty(home, out) {
         Stored::Bytes(bytes) => {
@@ -252,11 +252,11 @@ pub extern "C" fn boc_capture(
     entry: &mut usize,
     place: &mut usize,
 ) -> u32
-    ensures value { result ≡ storedNumber (captureAnswer archive.now pdu.now bits day out.old) }
-    ensures out_after { out.new ≡ captureOut archive.now pdu.now bits day out.old }
-    ensures length_after { length.new ≡ storedLength (captureAnswer archive.now pdu.now bits day out.old) length.old }
-    ensures after { entry.new ≡ storedEntry (captureAnswer archive.now pdu.now bits day out.old) entry.old }
-    ensures place_after { place.new ≡ storedPlace (captureAnswer archive.now pdu.now bits day out.old) place.old }
+    ensures value { result ≡ stored_number (capture_answer archive.now pdu.now bits day out.old) }
+    ensures out_after { out.new ≡ capture_out archive.now pdu.now bits day out.old }
+    ensures length_after { length.new ≡ stored_length (capture_answer archive.now pdu.now bits day out.old) length.old }
+    ensures after { entry.new ≡ stored_entry (capture_answer archive.now pdu.now bits day out.old) entry.old }
+    ensures place_after { place.new ≡ stored_place (capture_answer archive.now pdu.now bits day out.old) place.old }
 {
     let answer = archive::capture(archive, pdu, BitCount(bits), day, out);
     tell_stored(answer, length, entry, place)
@@ -273,12 +273,12 @@ pub extern "C" fn boc_entry(
     entry: &mut usize,
     place: &mut usize,
 ) -> u32
-    ensures value { result ≡ listedNumber (entryAnswer archive.now index (length key.old)) }
-    ensures key_after { key.new ≡ listedKey (entryAnswer archive.now index (length key.old)) key.old }
-    ensures bits_after { bits.new ≡ listedLength (entryAnswer archive.now index (length key.old)) bits.old }
-    ensures day_after { day.new ≡ listedDay (entryAnswer archive.now index (length key.old)) day.old }
-    ensures after { entry.new ≡ listedEntry (entryAnswer archive.now index (length key.old)) entry.old }
-    ensures place_after { place.new ≡ listedPlace (entryAnswer archive.now index (length key.old)) place.old }
+    ensures value { result ≡ listed_number (entry_answer archive.now index (length key.old)) }
+    ensures key_after { key.new ≡ listed_key (entry_answer archive.now index (length key.old)) key.old }
+    ensures bits_after { bits.new ≡ listed_length (entry_answer archive.now index (length key.old)) bits.old }
+    ensures day_after { day.new ≡ listed_day (entry_answer archive.now index (length key.old)) day.old }
+    ensures after { entry.new ≡ listed_entry (entry_answer archive.now index (length key.old)) entry.old }
+    ensures place_after { place.new ≡ listed_place (entry_answer archive.now index (length key.old)) place.old }
 {
     if key.len() != KEY_WORDS {
         *entry = NOWHERE;
@@ -302,12 +302,12 @@ pub extern "C" fn boc_restore(
     entry: &mut usize,
     place: &mut usize,
 ) -> u32
-    ensures value { result ≡ restoredNumber (restoreAnswer archive.now network ssi part out.old) }
-    ensures out_after { out.new ≡ restoreOut archive.now (key_of network ssi part) out.old }
-    ensures bits_after { bits.new ≡ restoredLength (restoreAnswer archive.now network ssi part out.old) bits.old }
-    ensures day_after { day.new ≡ restoredDay (restoreAnswer archive.now network ssi part out.old) day.old }
-    ensures after { entry.new ≡ restoredEntry (restoreAnswer archive.now network ssi part out.old) entry.old }
-    ensures place_after { place.new ≡ restoredPlace (restoreAnswer archive.now network ssi part out.old) place.old }
+    ensures value { result ≡ restored_number (restore_answer archive.now network ssi part out.old) }
+    ensures out_after { out.new ≡ restore_out archive.now (key_of network ssi part) out.old }
+    ensures bits_after { bits.new ≡ restored_length (restore_answer archive.now network ssi part out.old) bits.old }
+    ensures day_after { day.new ≡ restored_day (restore_answer archive.now network ssi part out.old) day.old }
+    ensures after { entry.new ≡ restored_entry (restore_answer archive.now network ssi part out.old) entry.old }
+    ensures place_after { place.new ≡ restored_place (restore_answer archive.now network ssi part out.old) place.old }
 {
     let key = Key { network, ssi, part };
     let answer = archive::restore(archive, key, out);
@@ -329,11 +329,11 @@ pub extern "C" fn boc_reload(
     entry: &mut usize,
     place: &mut usize,
 ) -> u32
-    ensures value { result ≡ reloadedNumber (reloadAnswer archive.now network ssi part definition delivery acknowledgement out.old) }
-    ensures out_after { out.new ≡ reloadLeaves archive.now network ssi part definition delivery acknowledgement out.old }
-    ensures bits_after { bits.new ≡ reloadedLength (reloadAnswer archive.now network ssi part definition delivery acknowledgement out.old) bits.old }
-    ensures after { entry.new ≡ reloadedEntry (reloadAnswer archive.now network ssi part definition delivery acknowledgement out.old) entry.old }
-    ensures place_after { place.new ≡ reloadedPlace (reloadAnswer archive.now network ssi part definition delivery acknowledgement out.old) place.old }
+    ensures value { result ≡ reloaded_number (reload_answer archive.now network ssi part definition delivery acknowledgement out.old) }
+    ensures out_after { out.new ≡ reload_leaves archive.now network ssi part definition delivery acknowledgement out.old }
+    ensures bits_after { bits.new ≡ reloaded_length (reload_answer archive.now network ssi part definition delivery acknowledgement out.old) bits.old }
+    ensures after { entry.new ≡ reloaded_entry (reload_answer archive.now network ssi part definition delivery acknowledgement out.old) entry.old }
+    ensures place_after { place.new ≡ reloaded_place (reload_answer archive.now network ssi part definition delivery acknowledgement out.old) place.old }
 {
     let key = Key { network, ssi, part };
     let wanted = Definition {
@@ -359,11 +359,11 @@ pub extern "C" fn boc_reload_external(
     entry: &mut usize,
     place: &mut usize,
 ) -> u32
-    ensures value { result ≡ reloadedNumber (externalAnswer archive.now network ssi definition delivery acknowledgement out.old) }
-    ensures out_after { out.new ≡ externalLeaves archive.now network ssi definition delivery acknowledgement out.old }
-    ensures bits_after { bits.new ≡ reloadedLength (externalAnswer archive.now network ssi definition delivery acknowledgement out.old) bits.old }
-    ensures after { entry.new ≡ reloadedEntry (externalAnswer archive.now network ssi definition delivery acknowledgement out.old) entry.old }
-    ensures place_after { place.new ≡ reloadedPlace (externalAnswer archive.now network ssi definition delivery acknowledgement out.old) place.old }
+    ensures value { result ≡ reloaded_number (external_answer archive.now network ssi definition delivery acknowledgement out.old) }
+    ensures out_after { out.new ≡ external_leaves archive.now network ssi definition delivery acknowledgement out.old }
+    ensures bits_after { bits.new ≡ reloaded_length (external_answer archive.now network ssi definition delivery acknowledgement out.old) bits.old }
+    ensures after { entry.new ≡ reloaded_entry (external_answer archive.now network ssi definition delivery acknowledgement out.old) entry.old }
+    ensures place_after { place.new ≡ reloaded_place (external_answer archive.now network ssi definition delivery acknowledgement out.old) place.old }
 {
     let key = Key {
         network,
@@ -388,10 +388,10 @@ pub extern "C" fn boc_decide(
     entry: &mut usize,
     place: &mut usize,
 ) -> u32
-    ensures value { result ≡ decidedNumber (decideAnswer archive.now request.now) }
-    ensures decision_after { decision.new ≡ decidedVerdict (decideAnswer archive.now request.now) decision.old }
-    ensures after { entry.new ≡ decidedEntry (decideAnswer archive.now request.now) entry.old }
-    ensures place_after { place.new ≡ decidedPlace (decideAnswer archive.now request.now) place.old }
+    ensures value { result ≡ decided_number (decide_answer archive.now request.now) }
+    ensures decision_after { decision.new ≡ decided_verdict (decide_answer archive.now request.now) decision.old }
+    ensures after { entry.new ≡ decided_entry (decide_answer archive.now request.now) entry.old }
+    ensures place_after { place.new ≡ decided_place (decide_answer archive.now request.now) place.old }
 {
     let spelt = request::request_from(request);
     if !spelt.given {
@@ -410,10 +410,10 @@ pub extern "C" fn boc_decide_in_place(
     entry: &mut usize,
     place: &mut usize,
 ) -> u32
-    ensures value { result ≡ decidedNumber (decideAnswer archive.now request.now) }
-    ensures decision_after { decision.new ≡ decidedVerdict (decideAnswer archive.now request.now) decision.old }
-    ensures after { entry.new ≡ decidedEntry (decideAnswer archive.now request.now) entry.old }
-    ensures place_after { place.new ≡ decidedPlace (decideAnswer archive.now request.now) place.old }
+    ensures value { result ≡ decided_number (decide_answer archive.now request.now) }
+    ensures decision_after { decision.new ≡ decided_verdict (decide_answer archive.now request.now) decision.old }
+    ensures after { entry.new ≡ decided_entry (decide_answer archive.now request.now) entry.old }
+    ensures place_after { place.new ≡ decided_place (decide_answer archive.now request.now) place.old }
 {
     let spelt = request::request_from(request);
     if !spelt.given {
@@ -432,11 +432,11 @@ pub extern "C" fn boc_contents(
     entry: &mut usize,
     place: &mut usize,
 ) -> u32
-    ensures value { result ≡ storedNumber (contentsAnswer archive.now out.old) }
-    ensures out_after { out.new ≡ listOut archive.now out.old }
-    ensures length_after { length.new ≡ storedLength (contentsAnswer archive.now out.old) length.old }
-    ensures after { entry.new ≡ storedEntry (contentsAnswer archive.now out.old) entry.old }
-    ensures place_after { place.new ≡ storedPlace (contentsAnswer archive.now out.old) place.old }
+    ensures value { result ≡ stored_number (contents_answer archive.now out.old) }
+    ensures out_after { out.new ≡ list_out archive.now out.old }
+    ensures length_after { length.new ≡ stored_length (contents_answer archive.now out.old) length.old }
+    ensures after { entry.new ≡ stored_entry (contents_answer archive.now out.old) entry.old }
+    ensures place_after { place.new ≡ stored_place (contents_answer archive.now out.old) place.old }
 {
     let answer = listing::list(archive, out);
     tell_stored(answer, length, entry, place)

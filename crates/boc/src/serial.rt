@@ -1,16 +1,16 @@
 // The calls for C about terminals on the serial port: a table of profiles that is lent, and lines that change it or ask for it.
 ghost use Rattle.std.specs.Prelude.{◌≡◌, length};
-ghost use Rattle.terminals.specs.Profiles.{resetIs, resetOut};
-ghost use Rattle.terminals.specs.Answers.{tableAfter, outAfter};
-ghost use Rattle.boc.specs.Serial.{lineAnswer, lineNumber, lineLength};
+ghost use Rattle.terminals.specs.Profiles.{reset_is, reset_out};
+ghost use Rattle.terminals.specs.Answers.{table_after, out_after};
+ghost use Rattle.boc.specs.Serial.{line_answer, line_number, line_length};
 
 use terminals::Answer;
 
 // Sets every place of a table to the profile "both".
 #[unsafe(no_mangle)]
 pub extern "C" fn boc_terminal_reset(table: &mut [u8]) -> u32
-    ensures value { result ≡ resetIs (length table.old) }
-    ensures table_after { table.new ≡ resetOut table.old }
+    ensures value { result ≡ reset_is (length table.old) }
+    ensures table_after { table.new ≡ reset_out table.old }
 {
     terminals::reset(table)
 }
@@ -23,11 +23,11 @@ pub extern "C" fn boc_terminal_line(
     out: &mut [u8],
     length: &mut usize,
 ) -> u32
-    ensures value { result ≡ lineNumber (lineAnswer line.now table.old out.old) }
-    ensures table_after { table.new ≡ tableAfter line.now table.old }
-    ensures out_after { out.new ≡ outAfter line.now table.old out.old }
+    ensures value { result ≡ line_number (line_answer line.now table.old out.old) }
+    ensures table_after { table.new ≡ table_after line.now table.old }
+    ensures out_after { out.new ≡ out_after line.now table.old out.old }
     ensures length_after { length.new
-        ≡ lineLength (lineAnswer line.now table.old out.old) length.old }
+        ≡ line_length (line_answer line.now table.old out.old) length.old }
 {
     match terminals::take(line, table, out) {
         Answer::Length(bytes) => {

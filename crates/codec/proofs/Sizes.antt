@@ -6,7 +6,7 @@ use Prim.Native.Nat.{ℕ, zero, suc, ◌+◌, ◌*◌, ◌≤◌}
 use native.Mathlib.Nat.{suc-mul}
 use native.Mathlib.Omega.{arith}
 use lib.ListN.{length, length-append}
-use Rattle.bits.proofs.Numbers.{length-bitsOf}
+use Rattle.bits.proofs.Numbers.{length-bits_of}
 use Rattle.codec.specs.Codec.{Codec}
 use Rattle.codec.specs.Parts.{number, absent, element, seq, tested, shaped}
 use Rattle.codec.specs.Places.{nil, cons, places}
@@ -17,7 +17,7 @@ pub record Within {A : Type 0} (n : ℕ) (c : Codec A) : Type 0 where
 
 pub size_number : (w : ℕ) → Within w (number w)
 unfolding number
-size_number w = record { size = λ v. omega (arith, length-bitsOf w v) }
+size_number w = record { size = λ v. omega (arith, length-bits_of w v) }
 
 pub size-absent : Within 0 absent
 unfolding absent

@@ -10,7 +10,7 @@ use lib.Dec.{ltb}
 use borrow.Author.Tests.{lt-ltb, ltb-true}
 use Rattle.bits.specs.Bits.{pick, value}
 use Rattle.codec.specs.Codec.{Outcome, ok, no, and_then, Faithful, Codec}
-use Rattle.codec.specs.Parts.{number, absent, seq, tested, shaped, unless, seqParse}
+use Rattle.codec.specs.Parts.{number, absent, seq, tested, shaped, unless, seq_parse}
 use Rattle.codec.specs.Places.{nil, cons}
 use Rattle.codec.specs.Stops.{Stops, ends, refused, untested, first, second, entries, shape}
 use Rattle.codec.proofs.Kept.{Kept}
@@ -116,7 +116,7 @@ module _ (Code : ℕ → Type 0) where
 
     stops-cons : (d : Codec (List A)) → Stopping A c → Stopping (List A) d → Stopping (List A) (cons c d)
     unfolding seq cons
-    stops-cons d h k at s = go (seqParse c (λ a. d) at s) (stops-seq (λ a. d) h (λ a. k) at s)
+    stops-cons d h k at s = go (seq_parse c (λ a. d) at s) (stops-seq (λ a. d) h (λ a. k) at s)
       where
         go : (o : Outcome (A × List A)) → Stopped (A × List A) (seq c (λ a. d)) at s o
             → Stopped (List A) (cons c d) at s (and_then o (λ p at' s'. ok (p.0 ∷ p.1) at' s'))

@@ -4,8 +4,8 @@ use Rattle.bits.specs.Bits.{pick, bits, bits_of, value}
 use Rattle.codec.specs.Codec.{Codec, ok, no, first}
 use Rattle.codec.specs.Parts.{number, absent, element, tested, seq, ◌>>=◌}
 use Rattle.codec.specs.Places.{nil, cons, places}
-use Rattle.codec.specs.Whole.{wholeParse}
-use Rattle.codec.specs.Reading.{got, refused, readAt, resume, elementOf, numberIs, testedIs}
+use Rattle.codec.specs.Whole.{whole_parse}
+use Rattle.codec.specs.Reading.{got, refused, read_at, resume, element_of, number_is, tested_is}
 use Rattle.codec.specs.declared.Reached.TheVariants.{At, Refused}
 
 unfoldable some : ℕ → ℕ
@@ -14,43 +14,43 @@ some n = pick (ltb 0 n) 0 3
 unfoldable digit : ℕ → ℕ
 digit d = pick (ltb d 13) 0 3
 
-unfoldable shortNumber : Codec (ℕ × List ℕ)
-shortNumber = do
+unfoldable short_number : Codec (ℕ × List ℕ)
+short_number = do
   length ← element 2 some
   places (element 4 digit) absent 3 length
 
 -- `unfolding computed` opens all of it
 unfoldable computed : Unit {0}
-unfolding shortNumber some digit seq element tested number absent places nil cons bits_of value
+unfolding short_number some digit seq element tested number absent places nil cons bits_of value
 computed = tt
 
-written : shortNumber.print (2, 1 ∷ 12 ∷ 0 ∷ []) ≡ bits_of 2 2 ++ (bits_of 4 1 ++ bits_of 4 12)
+written : short_number.print (2, 1 ∷ 12 ∷ 0 ∷ []) ≡ bits_of 2 2 ++ (bits_of 4 1 ++ bits_of 4 12)
 unfolding computed
 written = refl
 
-read_back : wholeParse shortNumber (bits_of 2 2 ++ (bits_of 4 1 ++ bits_of 4 12)) ≡ ok (2, 1 ∷ 12 ∷ 0 ∷ []) 10 []
+read_back : whole_parse short_number (bits_of 2 2 ++ (bits_of 4 1 ++ bits_of 4 12)) ≡ ok (2, 1 ∷ 12 ∷ 0 ∷ []) 10 []
 unfolding computed
 read_back = refl
 
 -- an unused place that is not zero is not clean, and that is no fault of an element
-unused : shortNumber.clean (1, 1 ∷ 7 ∷ 0 ∷ []) ≡ false
+unused : short_number.clean (1, 1 ∷ 7 ∷ 0 ∷ []) ≡ false
 unfolding computed
 unused = refl
 
 -- a refused length comes before any digit, and a refused digit before the end of the PDU inside the next one
-bad-length : wholeParse shortNumber (bits_of 2 0 ++ bits_of 4 13) ≡ no 3 0
+bad-length : whole_parse short_number (bits_of 2 0 ++ bits_of 4 13) ≡ no 3 0
 unfolding computed
 bad-length = refl
 
-bad-digit : wholeParse shortNumber (bits_of 2 2 ++ (bits_of 4 13 ++ bits_of 2 0)) ≡ no 3 2
+bad-digit : whole_parse short_number (bits_of 2 2 ++ (bits_of 4 13 ++ bits_of 2 0)) ≡ no 3 2
 unfolding computed
 bad-digit = refl
 
-ends-inside : wholeParse shortNumber (bits_of 2 2 ++ (bits_of 4 1 ++ bits_of 2 0)) ≡ no 2 6
+ends-inside : whole_parse short_number (bits_of 2 2 ++ (bits_of 4 1 ++ bits_of 2 0)) ≡ no 2 6
 unfolding computed
 ends-inside = refl
 
-left_over : wholeParse shortNumber (bits_of 2 1 ++ (bits_of 4 1 ++ bits_of 2 0)) ≡ no 5 6
+left_over : whole_parse short_number (bits_of 2 1 ++ (bits_of 4 1 ++ bits_of 2 0)) ≡ no 5 6
 unfolding computed
 left_over = refl
 
@@ -60,27 +60,27 @@ earlier : (first 3 4 ≡ 3) × (first 0 4 ≡ 4) × (first 0 0 ≡ 0)
 earlier = (refl, refl, refl)
 
 -- a value wider than its element is refused with 3; of a refused length and a refused digit the first counts; unused places are not looked at
-faults : (shortNumber.fault (3, 1 ∷ 12 ∷ 0 ∷ []) ≡ 0)
-    × (shortNumber.fault (4, 1 ∷ 12 ∷ 0 ∷ []) ≡ 3)
-    × (shortNumber.fault (1, 16 ∷ 0 ∷ 0 ∷ []) ≡ 3)
-    × (shortNumber.fault (1, 1 ∷ 13 ∷ 0 ∷ []) ≡ 0)
+faults : (short_number.fault (3, 1 ∷ 12 ∷ 0 ∷ []) ≡ 0)
+    × (short_number.fault (4, 1 ∷ 12 ∷ 0 ∷ []) ≡ 3)
+    × (short_number.fault (1, 16 ∷ 0 ∷ 0 ∷ []) ≡ 3)
+    × (short_number.fault (1, 1 ∷ 13 ∷ 0 ∷ []) ≡ 0)
 unfolding computed
 faults = (refl, refl, refl, refl)
 
 -- ---- one element of the 11 bits 01001001 100: read at a place; not there whole; no width
 
-elements : (elementOf (0x49 ∷ 0x80 ∷ []) 11 5 6 ≡ got 12 11)
-    × (elementOf (0x49 ∷ 0x80 ∷ []) 11 5 7 ≡ refused 2 7)
-    × (elementOf (0x49 ∷ 0x80 ∷ []) 11 0 6 ≡ refused 2 6)
-    × (elementOf (replicate 5 0xff) 40 33 0 ≡ refused 2 0)
-unfolding elementOf readAt number bits bits_of value
+elements : (element_of (0x49 ∷ 0x80 ∷ []) 11 5 6 ≡ got 12 11)
+    × (element_of (0x49 ∷ 0x80 ∷ []) 11 5 7 ≡ refused 2 7)
+    × (element_of (0x49 ∷ 0x80 ∷ []) 11 0 6 ≡ refused 2 6)
+    × (element_of (replicate 5 0xff) 40 33 0 ≡ refused 2 0)
+unfolding element_of read_at number bits bits_of value
 elements = (refl, refl, refl, refl)
 
 -- a number that was read from place 6 to 11, under its test: passed; refused where it begins; what stood before is passed on
-tested-numbers : (testedIs (At (record { at = 6 })) (record { reached = At (record { at = 11 }); value = 12 }) 0
+tested-numbers : (tested_is (At (record { at = 6 })) (record { reached = At (record { at = 11 }); value = 12 }) 0
     ≡ record { reached = At (record { at = 11 }); value = 12 })
-    × (testedIs (At (record { at = 6 })) (record { reached = At (record { at = 11 }); value = 13 }) 10 ≡ record { reached = Refused 10 6; value = 0 })
-    × (testedIs (At (record { at = 6 })) (record { reached = Refused 2 6; value = 0 }) 3 ≡ record { reached = Refused 2 6; value = 0 })
-    × (testedIs (Refused 3 0) (record { reached = Refused 3 0; value = 0 }) 10 ≡ record { reached = Refused 3 0; value = 0 })
-unfolding testedIs numberIs resume
+    × (tested_is (At (record { at = 6 })) (record { reached = At (record { at = 11 }); value = 13 }) 10 ≡ record { reached = Refused 10 6; value = 0 })
+    × (tested_is (At (record { at = 6 })) (record { reached = Refused 2 6; value = 0 }) 3 ≡ record { reached = Refused 2 6; value = 0 })
+    × (tested_is (Refused 3 0) (record { reached = Refused 3 0; value = 0 }) 10 ≡ record { reached = Refused 3 0; value = 0 })
+unfolding tested_is number_is resume
 tested-numbers = (refl, refl, refl, refl)

@@ -1,6 +1,6 @@
 // Reading a PDU element by element, left to right: each reader goes on from where the one before it stands, and passes its refusal on.
 ghost use Rattle.std.specs.Prelude.{◌≡◌};
-ghost use Rattle.codec.specs.Reading.{resume, elementOf, numberIs, testedIs};
+ghost use Rattle.codec.specs.Reading.{resume, element_of, number_is, tested_is};
 
 use bits::{BitCount, Cursor, Taken};
 
@@ -20,7 +20,7 @@ pub struct NumberRead {
 
 // The number of `width` bits, 1 to 32, that stands next in the PDU of n bits in s; 2 if the PDU ends before or inside it.
 pub fn number(s: &[u8], n: BitCount, start: Reached, width: usize) -> NumberRead
-    ensures { result ≡ numberIs (resume start (elementOf s.now n.0 width)) }
+    ensures { result ≡ number_is (resume start (element_of s.now n.0 width)) }
 {
     let Reached::At(c) = start else {
         return NumberRead {
@@ -42,7 +42,7 @@ pub fn number(s: &[u8], n: BitCount, start: Reached, width: usize) -> NumberRead
 
 // A number that was read from `start` on, refused there with `refusal` unless that is 0.
 pub fn tested(start: Reached, read: NumberRead, refusal: u32) -> NumberRead
-    ensures { result ≡ testedIs start read refusal }
+    ensures { result ≡ tested_is start read refusal }
 {
     let Reached::At(c) = start else {
         return NumberRead {

@@ -10,7 +10,7 @@ use borrow.Author.Tests.{eqb-true, ne_eqb}
 use lib.Pow.{pow_pos, split, shr-shr, mod-mod-pow}
 use Rattle.bits.proofs.Tests.{both}
 use Rattle.bits.proofs.Table.{at}
-use Rattle.grammar.specs.SiteSheet.{digitOf, digitRefusal, allDigits}
+use Rattle.grammar.specs.SiteSheet.{digit_of, digit_refusal, all_digits}
 
 -- the lowest bit of each of k digits
 abbrev pub marks : ℕ → ℕ
@@ -22,9 +22,9 @@ abbrev pub refusing : ℕ → ℕ
 refusing w = bit_and (bit_and (w / 2 ^ 3) (w / 2 ^ 2)) (bit_or (w / 2 ^ 1) w)
 
 -- the sixteen digits, which antt computes in one test
-one-digit : (d : ℕ) → d < 16 → eqb (refusing d % 2 ^ 1) 0 ≡ eqb (digitRefusal d) 0
-unfolding digitRefusal digitOf
-one-digit d h = sym (at (λ n. eqb (refusing n % 2 ^ 1) 0) true 16 d h) ∙ at (λ n. eqb (digitRefusal n) 0) true 16 d h
+one-digit : (d : ℕ) → d < 16 → eqb (refusing d % 2 ^ 1) 0 ≡ eqb (digit_refusal d) 0
+unfolding digit_refusal digit_of
+one-digit d h = sym (at (λ n. eqb (refusing n % 2 ^ 1) 0) true 16 d h) ∙ at (λ n. eqb (digit_refusal n) 0) true 16 d h
 
 -- the lowest bit speaks of the lowest digit
 lowest : (w : ℕ) → refusing w % 2 ^ 1 ≡ refusing (w % 16) % 2 ^ 1
@@ -63,10 +63,10 @@ none zero zero = refl
 none (suc a) zero = ne_eqb (suc a * 2 ^ 4 + 0) 0 (omega arith) ∙ sym (ne_eqb (suc a) 0 (omega arith))
 none a (suc b) = ne_eqb (a * 2 ^ 4 + suc b) 0 (omega arith) ∙ ap (λ (t : Bool). t && eqb a 0) (sym (ne_eqb (suc b) 0 (omega arith)))
 
-pub digits-marked : (k w : ℕ) → eqb (bit_and (refusing w) (marks k)) 0 ≡ allDigits k w
-unfolding allDigits
-digits-marked zero w = ap (λ (x : ℕ). eqb x 0) (and_zero_r (refusing w))
-digits-marked (suc k) w =
+pub digits_marked : (k w : ℕ) → eqb (bit_and (refusing w) (marks k)) 0 ≡ all_digits k w
+unfolding all_digits
+digits_marked zero w = ap (λ (x : ℕ). eqb x 0) (and_zero_r (refusing w))
+digits_marked (suc k) w =
     let r : ℕ = refusing w in
     let parts : bit_and r (marks k * 2 ^ 4 + 1) ≡ bit_and (r / 2 ^ 4) (marks k) * 2 ^ 4 + r % 2 ^ 1 =
     ap (λ (x : ℕ). bit_and x (marks k * 2 ^ 4 + 1)) (sym (split r 4))
@@ -76,16 +76,16 @@ digits-marked (suc k) w =
     ∙ none (bit_and (r / 2 ^ 4) (marks k)) (r % 2 ^ 1)
     ∙ ap₂ (λ (x y : Bool). x && y)
     (ap (λ (x : ℕ). eqb x 0) (lowest w) ∙ one-digit (w % 16) (mod-lt w (pow_pos 4)))
-    (ap (λ (x : ℕ). eqb (bit_and x (marks k)) 0) (above w) ∙ digits-marked k (w / 16))
+    (ap (λ (x : ℕ). eqb (bit_and x (marks k)) 0) (above w) ∙ digits_marked k (w / 16))
 
 -- each of them is
-pub digit-legal : (k w i : ℕ) → i < k → allDigits k w ≡ true → digitRefusal (w / 2 ^ (4 * i) % 16) ≡ 0
-unfolding allDigits
+pub digit-legal : (k w i : ℕ) → i < k → all_digits k w ≡ true → digit_refusal (w / 2 ^ (4 * i) % 16) ≡ 0
+unfolding all_digits
 digit-legal zero w i h e = absurd (omega arith)
 digit-legal (suc k) w zero h e =
-    ap (λ (x : ℕ). digitRefusal (x % 16)) (div-one w) ∙ eqb-true (digitRefusal (w % 16)) 0 (both (eqb (digitRefusal (w % 16)) 0) (allDigits k (w / 16)) e).0
+    ap (λ (x : ℕ). digit_refusal (x % 16)) (div-one w) ∙ eqb-true (digit_refusal (w % 16)) 0 (both (eqb (digit_refusal (w % 16)) 0) (all_digits k (w / 16)) e).0
 digit-legal (suc k) w (suc i) h e =
     let next : 4 * suc i ≡ 4 + 4 * i = omega arith in
-    ap (λ (x : ℕ). digitRefusal (w / 2 ^ x % 16)) next
-    ∙ ap (λ (x : ℕ). digitRefusal (x % 16)) (sym (shr-shr w 4 (4 * i)))
-    ∙ digit-legal k (w / 16) i (omega arith) (both (eqb (digitRefusal (w % 16)) 0) (allDigits k (w / 16)) e).1
+    ap (λ (x : ℕ). digit_refusal (w / 2 ^ x % 16)) next
+    ∙ ap (λ (x : ℕ). digit_refusal (x % 16)) (sym (shr-shr w 4 (4 * i)))
+    ∙ digit-legal k (w / 16) i (omega arith) (both (eqb (digit_refusal (w % 16)) 0) (all_digits k (w / 16)) e).1

@@ -9,12 +9,12 @@ use Rattle.codec.specs.Codec.{Codec}
 use Rattle.codec.specs.Parts.{number, absent, element, seq, mark}
 use Rattle.codec.specs.Places.{places}
 use Rattle.codec.proofs.Kept.{Kept}
-use Rattle.grammar.specs.SiteSheet.{ssType, rangeType, refusalIn, rangeRefusal, digitOf, refusalOfDigit, digitRefusal, serviceOf}
-use Rattle.grammar.specs.SiteSheet.{refusalOfService, serviceRefusal, pduType, between, reserved, entriesOf}
-use Rattle.grammar.specs.Grammar.{extension, identity, noIdentity, zeroIdentity, endsRefusal, rangeEnds, identities, noIdentities, external}
-use Rattle.grammar.specs.Grammar.{noExternal, externals, noExternals, services, noServices, identityPart, numberPart, no_part, part_of}
+use Rattle.grammar.specs.SiteSheet.{ss_type, range_type, refusal_in, range_refusal, digit_of, refusal_of_digit, digit_refusal, service_of}
+use Rattle.grammar.specs.SiteSheet.{refusal_of_service, service_refusal, pdu_type, between, reserved, entries_of}
+use Rattle.grammar.specs.Grammar.{extension, identity, no_identity, zero_identity, ends_refusal, range_ends, identities, no_identities, external}
+use Rattle.grammar.specs.Grammar.{no_external, externals, no_externals, services, no_services, identity_part, number_part, no_part, part_of}
 use Rattle.grammar.specs.Grammar.{Three, none, figures, Five, Rest, rest_of, pdu}
-use Rattle.grammar.specs.Rows.{formOf, partIn, figuresOf}
+use Rattle.grammar.specs.Rows.{form_of, part_in, figures_of}
 use Rattle.grammar.specs.declared.site.RangeType.{RangeType}
 use Rattle.grammar.specs.declared.site.RangeType.TheVariants.{Empty, Single, FirstAndLast, NoRangeType}
 use Rattle.grammar.specs.declared.site.ListKind.{ListKind}
@@ -42,7 +42,7 @@ module _ (Code : ℕ → Type 0) (passed : Code 0) (three : Code 3) (four : Code
   code-between : (low high v : ℕ) → Code (between low high v)
   code-between low high v = by-test Code (leb low v && leb v high) passed three
 
-  in_list : (list : ListKind) (t : RangeType) → Code (refusalIn list t)
+  in_list : (list : ListKind) (t : RangeType) → Code (refusal_in list t)
   in_list of.Users Empty = three
   in_list of.Identities Empty = passed
   in_list of.Numbers Empty = passed
@@ -52,40 +52,40 @@ module _ (Code : ℕ → Type 0) (passed : Code 0) (three : Code 3) (four : Code
   in_list of.Numbers FirstAndLast = three
   in_list l NoRangeType = three
 
-  code-range : (list : ListKind) (v : ℕ) → Code (rangeRefusal list v)
-  unfolding rangeRefusal
-  code-range list v = in_list list (rangeType v)
+  code-range : (list : ListKind) (v : ℕ) → Code (range_refusal list v)
+  unfolding range_refusal
+  code-range list v = in_list list (range_type v)
 
-  of-digit : (d : Digit) → Code (refusalOfDigit d)
+  of-digit : (d : Digit) → Code (refusal_of_digit d)
   of-digit (Decimal d) = passed
   of-digit Star = passed
   of-digit Hash = passed
   of-digit Plus = passed
   of-digit NoDigit = three
 
-  code-digit : (v : ℕ) → Code (digitRefusal v)
-  unfolding digitRefusal
-  code-digit v = of-digit (digitOf v)
+  code-digit : (v : ℕ) → Code (digit_refusal v)
+  unfolding digit_refusal
+  code-digit v = of-digit (digit_of v)
 
-  of-service : (s : Service) → Code (refusalOfService s)
+  of-service : (s : Service) → Code (refusal_of_service s)
   of-service All = passed
   of-service Speech = passed
   of-service CircuitData = passed
   of-service ShortData = passed
   of-service NoService = three
 
-  code-service : (v : ℕ) → Code (serviceRefusal v)
-  unfolding serviceRefusal
-  code-service v = of-service (serviceOf v)
+  code-service : (v : ℕ) → Code (service_refusal v)
+  unfolding service_refusal
+  code-service v = of-service (service_of v)
 
   code-reserved : (low high v : ℕ) → Code (reserved low high v)
   code-reserved low high v = by-test Code (leb low v && leb v high) three passed
 
-  code-ends : (code : ℕ) (l : List Identity) → Code (rangeEnds code l)
-  unfolding rangeEnds endsRefusal
+  code-ends : (code : ℕ) (l : List Identity) → Code (range_ends code l)
+  unfolding range_ends ends_refusal
   code-ends code l =
-      let a = get_or l 0 zeroIdentity in
-      let b = get_or l 1 zeroIdentity in
+      let a = get_or l 0 zero_identity in
+      let b = get_or l 1 zero_identity in
       by-test Code (eqb code 9) (by-test Code (eqb a.present b.present && eqb a.extension b.extension && leb a.ssi b.ssi) passed four) passed
 
   -- ---- the parts
@@ -109,58 +109,58 @@ module _ (Code : ℕ → Type 0) (passed : Code 0) (three : Code 3) (four : Code
     unfolding identity extension
     of-identity = kept.shaped _ _ _ _ _ (then (kept.number 24) (λ a. then (kept.number 1) (λ p. by-test (P ℕ) (eqb p 1) (kept.number 24) kept.absent)))
 
-    of-noIdentity : P Identity noIdentity
-    unfolding noIdentity
-    of-noIdentity = kept.shaped _ _ _ _ _ (then kept.absent (λ a. then kept.absent (λ b. kept.absent)))
+    of-no_identity : P Identity no_identity
+    unfolding no_identity
+    of-no_identity = kept.shaped _ _ _ _ _ (then kept.absent (λ a. then kept.absent (λ b. kept.absent)))
 
     pub of-identities : (list : ListKind) → P Identities (identities list)
     unfolding identities
     of-identities list =
         kept.shaped _ _ _ _ _ (then (of-element 4 (code-range list)) (λ code.
-        kept.tested _ _ _ (code-ends code) (of_places of-identity of-noIdentity 8 (entriesOf code))))
+        kept.tested _ _ _ (code-ends code) (of_places of-identity of-no_identity 8 (entries_of code))))
 
-    of-noIdentities : P Identities noIdentities
-    unfolding noIdentities
-    of-noIdentities = kept.shaped _ _ _ _ _ (then kept.absent (λ a. of_places of-noIdentity of-noIdentity 8 0))
+    of-no_identities : P Identities no_identities
+    unfolding no_identities
+    of-no_identities = kept.shaped _ _ _ _ _ (then kept.absent (λ a. of_places of-no_identity of-no_identity 8 0))
 
     of-external : P Number external
     unfolding external
     of-external = kept.shaped _ _ _ _ _ (then (of-element 5 (code-between 1 24)) (λ n. of_places (of-element 4 code-digit) kept.absent 24 n))
 
-    of-noExternal : P Number noExternal
-    unfolding noExternal
-    of-noExternal = kept.shaped _ _ _ _ _ (then kept.absent (λ a. of_places kept.absent kept.absent 24 0))
+    of-no_external : P Number no_external
+    unfolding no_external
+    of-no_external = kept.shaped _ _ _ _ _ (then kept.absent (λ a. of_places kept.absent kept.absent 24 0))
 
     of-externals : P Numbers externals
     unfolding externals
-    of-externals = kept.shaped _ _ _ _ _ (then (of-element 4 (code-range of.Numbers)) (λ code. of_places of-external of-noExternal 8 (entriesOf code)))
+    of-externals = kept.shaped _ _ _ _ _ (then (of-element 4 (code-range of.Numbers)) (λ code. of_places of-external of-no_external 8 (entries_of code)))
 
-    of-noExternals : P Numbers noExternals
-    unfolding noExternals
-    of-noExternals = kept.shaped _ _ _ _ _ (then kept.absent (λ a. of_places of-noExternal of-noExternal 8 0))
+    of-no_externals : P Numbers no_externals
+    unfolding no_externals
+    of-no_externals = kept.shaped _ _ _ _ _ (then kept.absent (λ a. of_places of-no_external of-no_external 8 0))
 
     of-services : P Services services
     unfolding services
     of-services = kept.shaped _ _ _ _ _ (then (of-element 3 (code-between 1 7)) (λ n. of_places (of-element 3 code-service) kept.absent 7 n))
 
-    of-noServices : P Services noServices
-    unfolding noServices
-    of-noServices = kept.shaped _ _ _ _ _ (then kept.absent (λ a. of_places kept.absent kept.absent 7 0))
+    of-no_services : P Services no_services
+    unfolding no_services
+    of-no_services = kept.shaped _ _ _ _ _ (then kept.absent (λ a. of_places kept.absent kept.absent 7 0))
 
     five : {g r x : Codec Identities} {n y : Codec Numbers} → P Identities g → P Identities r → P Identities x → P Numbers n → P Numbers y
         → P Five (seq g (λ p. seq r (λ q. seq x (λ s. seq n (λ t. y)))))
     five h i j k l = then h (λ p. then i (λ q. then j (λ s. then k (λ t. l))))
 
-    of-noPart : P Lists no_part
+    of-no_part : P Lists no_part
     unfolding no_part
-    of-noPart = kept.shaped _ _ _ _ _ (five of-noIdentities of-noIdentities of-noIdentities of-noExternals of-noExternals)
+    of-no_part = kept.shaped _ _ _ _ _ (five of-no_identities of-no_identities of-no_identities of-no_externals of-no_externals)
 
     of_part : (part : ℕ) → P Lists (part_of part)
-    unfolding identityPart numberPart
+    unfolding identity_part number_part
     of_part part =
         let ids = of-identities of.Identities in
-        by-test (P Lists) (eqb part 1) (kept.shaped _ _ _ _ _ (five ids ids ids of-noExternals of-noExternals))
-        (by-test (P Lists) (eqb part 2) (kept.shaped _ _ _ _ _ (five ids of-noIdentities of-noIdentities of-externals of-externals)) of-noPart)
+        by-test (P Lists) (eqb part 1) (kept.shaped _ _ _ _ _ (five ids ids ids of-no_externals of-no_externals))
+        (by-test (P Lists) (eqb part 2) (kept.shaped _ _ _ _ _ (five ids of-no_identities of-no_identities of-externals of-externals)) of-no_part)
 
     of_none : P Three none
     unfolding none
@@ -170,18 +170,18 @@ module _ (Code : ℕ → Type 0) (passed : Code 0) (three : Code 3) (four : Code
     unfolding figures
     of_three h j k = kept.shaped _ _ _ _ _ (then h (λ x. then j (λ y. k)))
 
-    of-definition : P Figures (figuresOf Define)
+    of-definition : P Figures (figures_of Define)
     of-definition =
         of_three of_none (then (kept.number 1) (λ delivery. then (of-element 1 (code-between 0 delivery)) (λ a. of-element 2 (code-between 0 2)))) of_none
 
-    of-user-definition : P Figures (figuresOf DefineUser)
-    of-user-definition = of_three of_none (then kept.absent (λ a. then (kept.number 1) (λ b. of-element 2 (code-between 0 2)))) of_none
+    of-user_definition : P Figures (figures_of DefineUser)
+    of-user_definition = of_three of_none (then kept.absent (λ a. then (kept.number 1) (λ b. of-element 2 (code-between 0 2)))) of_none
 
-    of-figures : (t : PduType) → P Figures (figuresOf t)
+    of-figures : (t : PduType) → P Figures (figures_of t)
     of-figures Define = of-definition
     of-figures DefineExternal = of-definition
-    of-figures DefineUser = of-user-definition
-    of-figures DefineExternalUser = of-user-definition
+    of-figures DefineUser = of-user_definition
+    of-figures DefineExternalUser = of-user_definition
     of-figures InterrogateAck = of_three (then kept.absent (λ a. then (of-element 3 (code-reserved 5 5)) (λ b. kept.number 2))) of_none of_none
     of-figures Interrogate = of_three (then (of-element 2 (code-between 1 3)) (λ a. then kept.absent (λ b. kept.absent))) of_none of_none
     of-figures DefineAck = of_three of_none of_none (then (of-element 3 (code-reserved 5 5)) (λ a. then kept.absent (λ b. kept.absent)))
@@ -191,11 +191,11 @@ module _ (Code : ℕ → Type 0) (passed : Code 0) (three : Code 3) (four : Code
 
     pub of-rest : (t : PduType) → P Rest (rest_of t)
     of-rest t =
-        rw (in_rows t) (then (by-test (P Identities) (formOf t).users (of-identities of.Users) of-noIdentities) (λ u.
-        then (of-figures t) (λ f. then (by-test (P Services) (formOf t).services of-services of-noServices) (λ s. of_part (partIn t f)))))
+        rw (in_rows t) (then (by-test (P Identities) (form_of t).users (of-identities of.Users) of-no_identities) (λ u.
+        then (of-figures t) (λ f. then (by-test (P Services) (form_of t).services of-services of-no_services) (λ s. of_part (part_in t f)))))
 
     pub of-pdu : P Record pdu
     unfolding pdu mark
     of-pdu =
-        kept.shaped _ _ _ _ _ (then (of-element 6 (λ v. by-test Code (eqb v ssType) passed three)) (λ x.
-        kept.shaped _ _ _ _ _ (then (of-element 5 (code-between 5 13)) (λ kind. of-rest (pduType kind)))))
+        kept.shaped _ _ _ _ _ (then (of-element 6 (λ v. by-test Code (eqb v ss_type) passed three)) (λ x.
+        kept.shaped _ _ _ _ _ (then (of-element 5 (code-between 5 13)) (λ kind. of-rest (pdu_type kind)))))

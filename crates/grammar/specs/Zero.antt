@@ -1,6 +1,6 @@
 -- The record in which everything is zero, part by part: what a PDU does not carry.
 use Rattle.std.specs.Prelude.{replicate}
-use Rattle.grammar.specs.Grammar.{zeroIdentity}
+use Rattle.grammar.specs.Grammar.{zero_identity}
 use Rattle.grammar.specs.declared.record.Identities.{Identities}
 use Rattle.grammar.specs.declared.record.Number.{Number}
 use Rattle.grammar.specs.declared.record.Numbers.{Numbers}
@@ -9,17 +9,17 @@ use Rattle.grammar.specs.declared.record.Services.{Services}
 use Rattle.grammar.specs.declared.record.Lists.{Lists}
 use Rattle.grammar.specs.declared.record.Record.{Record}
 
-abbrev pub zeroIdentities : Identities
-zeroIdentities = record { code = 0; entries = replicate 8 zeroIdentity }
+abbrev pub zero_identities : Identities
+zero_identities = record { code = 0; entries = replicate 8 zero_identity }
 
-abbrev pub zeroNumber : Number
-zeroNumber = record { length = record { 0 = 0 }; digits = replicate 24 0 }
+abbrev pub zero_number : Number
+zero_number = record { length = record { 0 = 0 }; digits = replicate 24 0 }
 
-abbrev pub zeroNumbers : Numbers
-zeroNumbers = record { code = 0; entries = replicate 8 zeroNumber }
+abbrev pub zero_numbers : Numbers
+zero_numbers = record { code = 0; entries = replicate 8 zero_number }
 
-abbrev pub zeroFigures : Figures
-zeroFigures = record {
+abbrev pub zero_figures : Figures
+zero_figures = record {
   asked = 0;
   result = 0;
   status = 0;
@@ -31,12 +31,12 @@ zeroFigures = record {
   cause = 0;
 }
 
-abbrev pub zeroServices : Services
-zeroServices = record { count = 0; list = replicate 7 0 }
+abbrev pub zero_services : Services
+zero_services = record { count = 0; list = replicate 7 0 }
 
-abbrev pub zeroLists : Lists
-zeroLists =
-    record { groups = zeroIdentities; restricted = zeroIdentities; exceptions = zeroIdentities; numbers = zeroNumbers; excepted = zeroNumbers }
+abbrev pub zero_lists : Lists
+zero_lists =
+    record { groups = zero_identities; restricted = zero_identities; exceptions = zero_identities; numbers = zero_numbers; excepted = zero_numbers }
 
-abbrev pub zeroRecord : Record
-zeroRecord = record { kind = 0; affected = zeroIdentities; figures = zeroFigures; services = zeroServices; lists = zeroLists }
+abbrev pub zero_record : Record
+zero_record = record { kind = 0; affected = zero_identities; figures = zero_figures; services = zero_services; lists = zero_lists }

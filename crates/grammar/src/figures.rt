@@ -3,12 +3,12 @@
 ghost use Rattle.std.specs.Prelude.{◌≡◌, ◌&&◌, ◌≤◌, leb};
 ghost use Rattle.bits.specs.Bits.{pick};
 ghost use Rattle.codec.specs.Codec.{first};
-ghost use Rattle.codec.specs.Parts.{numberFault};
+ghost use Rattle.codec.specs.Parts.{number_fault};
 ghost use Rattle.grammar.specs.SiteSheet.{reserved};
 ghost use Rattle.grammar.specs.Grammar.{none};
-ghost use Rattle.grammar.specs.Figures.{ofInterrogation, ofDefinition, ofOutcome};
-ghost use Rattle.grammar.specs.Rows.{formWith, formOf, partIn, figuresOf, definitionIn, userDefinitionIn, figuresIn};
-ghost use Rattle.grammar.specs.Rows.{definitionRun, run_of};
+ghost use Rattle.grammar.specs.Figures.{of_interrogation, of_definition, of_outcome};
+ghost use Rattle.grammar.specs.Rows.{form_with, form_of, part_in, figures_of, definition_in, user_definition_in, figures_in};
+ghost use Rattle.grammar.specs.Rows.{definition_run, run_of};
 
 use crate::record::Figures;
 use crate::site::{PduType, between_refusal, defined_part, reserved_refusal};
@@ -25,7 +25,7 @@ pub struct Form {
 // Affected users stand in every PDU but those to and from the affected user itself, and to a caller; services in definitions and in the answer
 // to an interrogation.
 pub fn form_of(kind: PduType) -> Form
-    ensures { result ≡ formOf kind }
+    ensures { result ≡ form_of kind }
 {
     match kind {
         PduType::Define => form_with(true, true, 4),
@@ -42,7 +42,7 @@ pub fn form_of(kind: PduType) -> Form
 }
 
 fn form_with(users: bool, services: bool, width: usize) -> Form
-    ensures { result ≡ formWith users services width }
+    ensures { result ≡ form_with users services width }
 {
     Form {
         users,
@@ -53,7 +53,7 @@ fn form_with(users: bool, services: bool, width: usize) -> Form
 
 // The part whose lists a PDU carries, 0 for none.
 pub fn part_in(kind: PduType, f: Figures) -> u32
-    ensures { result ≡ partIn kind f }
+    ensures { result ≡ part_in kind f }
 {
     match kind {
         PduType::Define => defined_part(1, f.definition),
@@ -71,7 +71,7 @@ pub fn part_in(kind: PduType, f: Figures) -> u32
 
 // The figures in the window of 57 bits that begins with them.
 pub fn figures_in(kind: PduType, window: u64) -> Figures
-    ensures { result ≡ figuresIn kind window }
+    ensures { result ≡ figures_in kind window }
 {
     match kind {
         PduType::Define => definition_in(window),
@@ -93,7 +93,7 @@ pub fn figures_in(kind: PduType, window: u64) -> Figures
 
 // The refusal number of the figures that a PDU carries, 0 for none.
 pub fn figures_refusal(kind: PduType, f: Figures) -> u32
-    ensures { result ≡ (figuresOf kind).fault f }
+    ensures { result ≡ (figures_of kind).fault f }
 {
     match kind {
         PduType::Define => definition_refusal(f),
@@ -111,7 +111,7 @@ pub fn figures_refusal(kind: PduType, f: Figures) -> u32
 
 // Whether the figures that a PDU does not carry are zero: those that it carries are left out.
 pub fn figures_clean(kind: PduType, f: Figures) -> bool
-    ensures { result ≡ (figuresOf kind).clean f }
+    ensures { result ≡ (figures_of kind).clean f }
 {
     match kind {
         PduType::Define => are_zero(
@@ -248,7 +248,7 @@ pub fn figures_run(kind: PduType, f: Figures) -> u64
 // ---- figures of each kind
 
 fn of_interrogation(asked: u32, res: u32, status: u32) -> Figures
-    ensures { result ≡ ofInterrogation asked res status }
+    ensures { result ≡ of_interrogation asked res status }
 {
     Figures {
         asked,
@@ -264,7 +264,7 @@ fn of_interrogation(asked: u32, res: u32, status: u32) -> Figures
 }
 
 fn of_definition(delivery: u32, acknowledgement: u32, definition: u32) -> Figures
-    ensures { result ≡ ofDefinition delivery acknowledgement definition }
+    ensures { result ≡ of_definition delivery acknowledgement definition }
 {
     Figures {
         asked: 0,
@@ -280,7 +280,7 @@ fn of_definition(delivery: u32, acknowledgement: u32, definition: u32) -> Figure
 }
 
 fn of_outcome(defined: u32, distributed: u32, cause: u32) -> Figures
-    ensures { result ≡ ofOutcome defined distributed cause }
+    ensures { result ≡ of_outcome defined distributed cause }
 {
     Figures {
         asked: 0,
@@ -296,7 +296,7 @@ fn of_outcome(defined: u32, distributed: u32, cause: u32) -> Figures
 }
 
 fn definition_in(window: u64) -> Figures
-    ensures { result ≡ definitionIn window }
+    ensures { result ≡ definition_in window }
 {
     let delivery = (window >> 56u32) as u32;
     let acknowledgement = ((window >> 55u32) % 2) as u32;
@@ -305,7 +305,7 @@ fn definition_in(window: u64) -> Figures
 }
 
 fn user_definition_in(window: u64) -> Figures
-    ensures { result ≡ userDefinitionIn window }
+    ensures { result ≡ user_definition_in window }
 {
     let acknowledgement = (window >> 56u32) as u32;
     let definition = ((window >> 54u32) % 4) as u32;
@@ -313,7 +313,7 @@ fn user_definition_in(window: u64) -> Figures
 }
 
 fn definition_run(delivery: u32, f: Figures) -> u64
-    ensures { result ≡ definitionRun delivery f }
+    ensures { result ≡ definition_run delivery f }
 {
     let acknowledged = (delivery as u64) * 2 + (f.acknowledgement as u64) % 2;
     acknowledged * 4 + (f.definition as u64) % 4
@@ -322,7 +322,7 @@ fn definition_run(delivery: u32, f: Figures) -> u64
 // ---- refusals: of a value of three bits, of which those from low to 5 are reserved; of a definition; of the answer to an interrogation
 
 fn three_bits_refusal(low: u32, v: u32) -> u32
-    ensures { result ≡ first (numberFault 3 v) (reserved low 5 v) }
+    ensures { result ≡ first (number_fault 3 v) (reserved low 5 v) }
 {
     if 7 < v {
         return 3;
@@ -354,7 +354,7 @@ fn definition_refusal(f: Figures) -> u32
 }
 
 fn answer_refusal(f: Figures) -> u32
-    ensures { result ≡ first (first (numberFault 3 f.result) (reserved 5 5 f.result)) (numberFault 2 f.status) }
+    ensures { result ≡ first (first (number_fault 3 f.result) (reserved 5 5 f.result)) (number_fault 2 f.status) }
 {
     let own = three_bits_refusal(5, f.result);
     if own != 0 {

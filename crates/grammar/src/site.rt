@@ -1,9 +1,9 @@
 // The codes of a PDU's elements, by the site sheet and the standard's tables: each has its meaning or is refused.
 ghost use Rattle.std.specs.Prelude.{◌≡◌};
 ghost use Rattle.codec.specs.Parts.{only};
-ghost use Rattle.grammar.specs.SiteSheet.{rangeType, rowOf, rangeRefusal, ssType, digitOf, digitRefusal, allDigits, serviceOf};
-ghost use Rattle.grammar.specs.SiteSheet.{serviceRefusal, pduType, kindRefusal, reserved, definedPart, between};
-ghost use Rattle.grammar.specs.Grammar.{endsRefusal, networkOf};
+ghost use Rattle.grammar.specs.SiteSheet.{range_type, row_of, range_refusal, ss_type, digit_of, digit_refusal, all_digits, service_of};
+ghost use Rattle.grammar.specs.SiteSheet.{service_refusal, pdu_type, kind_refusal, reserved, defined_part, between};
+ghost use Rattle.grammar.specs.Grammar.{ends_refusal, network_of};
 
 use crate::record::Identity;
 
@@ -11,7 +11,7 @@ use crate::record::Identity;
 pub const SS_TYPE: u32 = 18;
 
 pub fn ss_refusal(code: u32) -> u32
-    ensures { result ≡ only ssType code }
+    ensures { result ≡ only ss_type code }
 {
     if code == SS_TYPE { 0 } else { 3 }
 }
@@ -109,7 +109,7 @@ const RANGE_TYPES: [Row; 16] = [
 
 // The site sheet's row of a range type; a code of more than 4 bits is refused.
 pub fn row_of(code: u32) -> Row
-    ensures { result ≡ rowOf code }
+    ensures { result ≡ row_of code }
 {
     if 16 <= code {
         return Row {
@@ -122,7 +122,7 @@ pub fn row_of(code: u32) -> Row
 }
 
 pub fn range_type(code: u32) -> RangeType
-    ensures { result ≡ rangeType code }
+    ensures { result ≡ range_type code }
 {
     match code {
         0 => RangeType::Empty,
@@ -134,7 +134,7 @@ pub fn range_type(code: u32) -> RangeType
 
 // The refusal number of a range type in a kind of list, 0 for none.
 pub fn range_refusal(list: ListKind, code: u32) -> u32
-    ensures { result ≡ rangeRefusal list code }
+    ensures { result ≡ range_refusal list code }
 {
     match range_type(code) {
         RangeType::Empty => match list {
@@ -163,7 +163,7 @@ pub enum Digit {
 }
 
 pub fn digit_of(code: u32) -> Digit
-    ensures { result ≡ digitOf code }
+    ensures { result ≡ digit_of code }
 {
     match code {
         0..=9 => Digit::Decimal(code),
@@ -175,7 +175,7 @@ pub fn digit_of(code: u32) -> Digit
 }
 
 pub fn digit_refusal(code: u32) -> u32
-    ensures { result ≡ digitRefusal code }
+    ensures { result ≡ digit_refusal code }
 {
     match digit_of(code) {
         Digit::Decimal(_) => 0,
@@ -188,7 +188,7 @@ pub fn digit_refusal(code: u32) -> u32
 
 // Whether each of the sixteen digits of 4 bits in w is legal: 13 to 15 have the bits 8 and 4, and 2 or 1.
 pub fn are_digits(w: u64) -> bool
-    ensures { result ≡ allDigits 16 w }
+    ensures { result ≡ all_digits 16 w }
 {
     let refused = (w >> 3) & (w >> 2) & ((w >> 1) | w);
     refused & 0x1111_1111_1111_1111 == 0
@@ -205,7 +205,7 @@ pub enum Service {
 }
 
 pub fn service_of(code: u32) -> Service
-    ensures { result ≡ serviceOf code }
+    ensures { result ≡ service_of code }
 {
     match code {
         0 => Service::All,
@@ -217,7 +217,7 @@ pub fn service_of(code: u32) -> Service
 }
 
 pub fn service_refusal(code: u32) -> u32
-    ensures { result ≡ serviceRefusal code }
+    ensures { result ≡ service_refusal code }
 {
     match service_of(code) {
         Service::All => 0,
@@ -244,7 +244,7 @@ pub enum PduType {
 }
 
 pub fn pdu_type(code: u32) -> PduType
-    ensures { result ≡ pduType code }
+    ensures { result ≡ pdu_type code }
 {
     match code {
         5 => PduType::Define,
@@ -261,7 +261,7 @@ pub fn pdu_type(code: u32) -> PduType
 }
 
 pub fn kind_refusal(code: u32) -> u32
-    ensures { result ≡ kindRefusal code }
+    ensures { result ≡ kind_refusal code }
 {
     between_refusal(5, 13, code)
 }
@@ -279,7 +279,7 @@ pub fn reserved_refusal(low: u32, high: u32, v: u32) -> u32
 
 // The part whose lists a definition of it carries: its own for addition and replacement, none for any other.
 pub fn defined_part(part: u32, definition: u32) -> u32
-    ensures { result ≡ definedPart part definition }
+    ensures { result ≡ defined_part part definition }
 {
     if 1 < definition { 0 } else { part }
 }
@@ -299,7 +299,7 @@ pub fn between_refusal(low: u32, high: u32, v: u32) -> u32
 
 // The refusal number of the two ends of a range, 0 for none.
 pub fn ends_refusal(first: Identity, last: Identity) -> u32
-    ensures { result ≡ endsRefusal first last }
+    ensures { result ≡ ends_refusal first last }
 {
     if first.present != last.present {
         return 4;
@@ -315,7 +315,7 @@ pub fn ends_refusal(first: Identity, last: Identity) -> u32
 
 // The network of an identity: its extension if that is present, otherwise `missing`, the one that a missing extension means.
 pub fn network_of(missing: u32, e: Identity) -> u32
-    ensures { result ≡ networkOf missing e }
+    ensures { result ≡ network_of missing e }
 {
     if e.present == 1 { e.extension } else { missing }
 }

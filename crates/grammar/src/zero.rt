@@ -1,12 +1,12 @@
 // The record in which everything is zero, and its parts: what a PDU does not carry.
 ghost use Rattle.std.specs.Prelude.{◌≡◌};
-ghost use Rattle.grammar.specs.Zero.{zeroIdentities, zeroNumbers, zeroFigures, zeroServices, zeroLists, zeroRecord};
+ghost use Rattle.grammar.specs.Zero.{zero_identities, zero_numbers, zero_figures, zero_services, zero_lists, zero_record};
 
 use crate::record::{Figures, Identities, Identity, Lists, Number, Numbers, Record, Services};
 use bits::DigitCount;
 
 pub fn zero_identities() -> Identities
-    ensures { result ≡ zeroIdentities }
+    ensures { result ≡ zero_identities }
 {
     let none = Identity {
         ssi: 0,
@@ -20,7 +20,7 @@ pub fn zero_identities() -> Identities
 }
 
 pub fn zero_numbers() -> Numbers
-    ensures { result ≡ zeroNumbers }
+    ensures { result ≡ zero_numbers }
 {
     let none = Number {
         length: DigitCount(0),
@@ -33,7 +33,7 @@ pub fn zero_numbers() -> Numbers
 }
 
 pub fn zero_figures() -> Figures
-    ensures { result ≡ zeroFigures }
+    ensures { result ≡ zero_figures }
 {
     Figures {
         asked: 0,
@@ -49,7 +49,7 @@ pub fn zero_figures() -> Figures
 }
 
 pub fn zero_services() -> Services
-    ensures { result ≡ zeroServices }
+    ensures { result ≡ zero_services }
 {
     Services {
         count: 0,
@@ -58,7 +58,7 @@ pub fn zero_services() -> Services
 }
 
 pub fn zero_lists() -> Lists
-    ensures { result ≡ zeroLists }
+    ensures { result ≡ zero_lists }
 {
     let identities = zero_identities();
     let numbers = zero_numbers();
@@ -72,7 +72,7 @@ pub fn zero_lists() -> Lists
 }
 
 pub fn zero_record() -> Record
-    ensures { result ≡ zeroRecord }
+    ensures { result ≡ zero_record }
 {
     let affected = zero_identities();
     let figures = zero_figures();

@@ -9,7 +9,7 @@ use lib.ListN.{take}
 use Rattle.bits.specs.Lists.{some}
 use Rattle.codec.specs.Codec.{Codec}
 use Rattle.codec.specs.Places.{places}
-use Rattle.codec.specs.Reading.{got, readAt}
+use Rattle.codec.specs.Reading.{got, read_at}
 use Rattle.codec.proofs.Filling.{places-rest}
 use Rattle.reader.specs.Inner.{Read, Reads}
 use Rattle.in_place.specs.Inner.{Says}
@@ -94,12 +94,12 @@ module _ {A : Type 0} {c z : Codec A} {test : A → Bool} {m n : ℕ} {s : List 
         always false = refl
 
     -- after the last
-    pub along-all : {none : A} → n ≤ i → ((p : ℕ) → readAt z s p ≡ got none p)
+    pub along-all : {none : A} → n ≤ i → ((p : ℕ) → read_at z s p ≡ got none p)
         → Says (places c z m n) (λ l. some test (take n l)) s start has at
     unfolding some
     along-all {none} last hz =
         let l : n - i ≡ 0 = omega arith in
-        let r : readAt (places c z (m - i) 0) s at ≡ got a.left a.end = rw l at a.read.same in
+        let r : read_at (places c z (m - i) 0) s at ≡ got a.left a.end = rw l at a.read.same in
         let q = places-rest c z s none hz (m - i) at in
         let e : a.end ≡ at = cc (r, q) in
         let t : has || false ≡ some test (take n a.whole) = rw l at a.same in

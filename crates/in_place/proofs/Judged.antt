@@ -6,82 +6,82 @@ use Prim.Native.Nat.{ℕ}
 use lib.ListN.{take, drop}
 use lib.Dec.{eqb, leb}
 use borrow.Author.Tests.{eqb-true}
-use Rattle.bits.specs.Frame.{bytesFor}
+use Rattle.bits.specs.Frame.{bytes_for}
 use Rattle.bits.specs.declared.BitCount.{BitCount}
 use Rattle.bits.proofs.Tests.{never, both}
 use Rattle.grammar.specs.declared.record.Record.{Record}
-use Rattle.walk.specs.Walk.{walkIs}
+use Rattle.walk.specs.Walk.{walk_is}
 use Rattle.walk.specs.declared.Walked.{Walked}
 use Rattle.walk.specs.declared.Walked.TheVariants as walked
-use Rattle.reader.specs.Read.{readIs}
+use Rattle.reader.specs.Read.{read_is}
 use Rattle.reader.specs.declared.Reading.{Reading}
 use Rattle.reader.specs.declared.Answer.TheVariants.{Accepted}
 use Rattle.reader.proofs.Walked.{Accepts, accepts, answer_of, same_answer}
-use Rattle.rules.specs.Request.{requestRefusal}
-use Rattle.rules.specs.Rule.{missingIn, sixRules, ruling}
+use Rattle.rules.specs.Request.{request_refusal}
+use Rattle.rules.specs.Rule.{missing_in, six_rules, ruling}
 use Rattle.rules.specs.declared.request.Request.{Request}
-use Rattle.archive.specs.Filing.{filedKey}
-use Rattle.archive.specs.Reading.{home_of, reading, isArchive}
-use Rattle.archive.specs.Restoring.{fetchIs}
+use Rattle.archive.specs.Filing.{filed_key}
+use Rattle.archive.specs.Reading.{home_of, reading, is_archive}
+use Rattle.archive.specs.Restoring.{fetch_is}
 use Rattle.archive.specs.declared.contents.Key.{Key}
 use Rattle.archive.specs.declared.Fetched.TheVariants.{Body}
 use Rattle.archive.proofs.Model.Found.{held-agrees, held-named}
 use Rattle.archive.proofs.Calls.Fetch.{BodyIs, fetch-found}
 use Rattle.archive.proofs.Calls.Capture.{home-read}
-use Rattle.barring.specs.Decision.{decisionOf}
-use Rattle.barring.specs.Decide.{partFor, keyFor, partIn}
-use Rattle.barring.specs.Inner.{rulingOfBody}
+use Rattle.barring.specs.Decision.{decision_of}
+use Rattle.barring.specs.Decide.{part_for, key_for, part_in}
+use Rattle.barring.specs.Inner.{ruling_of_body}
 use Rattle.barring.specs.declared.Decision.{Decision}
 use Rattle.barring.proofs.Decided.{request-ranged}
 use Rattle.in_place.specs.Inner.{Ruled, JudgingAt}
 use Rattle.in_place.proofs.Splits.{read-once}
 
 -- what is accepted is read
-accepted : (s : List ℕ) (n : ℕ) → (readIs s n).answer ≡ Accepted → Accepts s n
-accepted s n e = go (walkIs s n) refl
+accepted : (s : List ℕ) (n : ℕ) → (read_is s n).answer ≡ Accepted → Accepts s n
+accepted s n e = go (walk_is s n) refl
   where
-    go : (w : Walked) → walkIs s n ≡ w → Accepts s n
+    go : (w : Walked) → walk_is s n ≡ w → Accepts s n
     go (walked.Accepted h) q = accepts s n q
     go (walked.Refused f) q = let z = sym e ∙ same_answer s n ∙ ap answer_of q in never cc
 
-module _ (b : List ℕ) (q : Request) (e : requestRefusal q ≡ 0) {at : ℕ} {n : BitCount} {day : ℕ}
-    (f : fetchIs b (keyFor q) ≡ Body at n day) where
+module _ (b : List ℕ) (q : Request) (e : request_refusal q ≡ 0) {at : ℕ} {n : BitCount} {day : ℕ}
+    (f : fetch_is b (key_for q) ≡ Body at n day) where
   abbrev body : List ℕ
-  body = take (bytesFor n.0) (drop at b)
+  body = take (bytes_for n.0) (drop at b)
 
-  fetched : (isArchive b ≡ true) × BodyIs b at n day (partIn b q)
-  fetched = fetch-found b (keyFor q) (request-ranged q e) f
+  fetched : (is_archive b ≡ true) × BodyIs b at n day (part_in b q)
+  fetched = fetch-found b (key_for q) (request-ranged q e) f
 
   -- its record, which may be held, and is filed under the request's user and part
   record Filed : Type 0 where
     pub accepts : Accepts body n.0
     pub kind : accepts.found.kind ≡ 12
     pub single : accepts.found.affected.code ≡ 1
-    pub part : accepts.found.figures.result ≡ partFor q.destination
-    pub network : missingIn (home_of b) accepts.found ≡ q.user.network
+    pub part : accepts.found.figures.result ≡ part_for q.destination
+    pub network : missing_in (home_of b) accepts.found ≡ q.user.network
 
   filed : Filed
   filed =
       let k = fetched.1 in
       let h = k.held in
-      let held = held-agrees b fetched.0 (keyFor q) k.is in
-      let key : h.entry.key ≡ keyFor q = held-named b fetched.0 (keyFor q) k.is (request-ranged q e) in
-      let read : readIs h.body h.entry.bits.0 ≡ readIs body n.0 =
-      ap₂ (λ (s : List ℕ) (m : BitCount). readIs s m.0) k.body k.bits in
+      let held = held-agrees b fetched.0 (key_for q) k.is in
+      let key : h.entry.key ≡ key_for q = held-named b fetched.0 (key_for q) k.is (request-ranged q e) in
+      let read : read_is h.body h.entry.bits.0 ≡ read_is body n.0 =
+      ap₂ (λ (s : List ℕ) (m : BitCount). read_is s m.0) k.body k.bits in
       let a = accepted body n.0 (ap (λ (x : Reading). x.answer) (sym read) ∙ held.accepted) in
       let r : Record = a.found in
-      let found : (readIs h.body h.entry.bits.0).found ≡ r = ap (λ (x : Reading). x.found) (read ∙ a.same) in
+      let found : (read_is h.body h.entry.bits.0).found ≡ r = ap (λ (x : Reading). x.found) (read ∙ a.same) in
       let may = rw found at held.may in
       let p = both (eqb r.kind 12) (leb 1 r.figures.result && (leb r.figures.result 2 && eqb r.affected.code 1)) may in
       let p₁ = both (leb 1 r.figures.result) (leb r.figures.result 2 && eqb r.affected.code 1) p.1 in
       let p₂ = both (leb r.figures.result 2) (eqb r.affected.code 1) p₁.1 in
-      let under : filedKey (reading b).home r ≡ keyFor q = sym (held.key ∙ ap (filedKey (reading b).home) found) ∙ key in
+      let under : filed_key (reading b).home r ≡ key_for q = sym (held.key ∙ ap (filed_key (reading b).home) found) ∙ key in
       record {
         accepts = a;
         kind = eqb-true _ 12 p.0;
         single = eqb-true _ 1 p₂.1;
         part = ap (λ (x : Key). x.part) under;
-        network = ap (λ (home : ℕ). missingIn home r) (home-read b fetched.0) ∙ ap (λ (x : Key). x.network) under;
+        network = ap (λ (home : ℕ). missing_in home r) (home-read b fetched.0) ∙ ap (λ (x : Key). x.network) under;
       }
 
   pub judging : JudgingAt b at n.0 q
@@ -103,12 +103,12 @@ module _ (b : List ℕ) (q : Request) (e : requestRefusal q ≡ 0) {at : ℕ} {n
       }
 
 -- the rules applied to the record that is read are the ruling
-pub body-ruled : (b : List ℕ) (at n : ℕ) (q : Request) → JudgingAt b at n q → {d : Decision} → Ruled (take (bytesFor n) (drop at b)) q d
-    → d ≡ rulingOfBody b at n q
+pub body_ruled : (b : List ℕ) (at n : ℕ) (q : Request) → JudgingAt b at n q → {d : Decision} → Ruled (take (bytes_for n) (drop at b)) q d
+    → d ≡ ruling_of_body b at n q
 unfolding ruling
-body-ruled b at n q j u =
-    let found : Record = (readIs (take (bytesFor n) (drop at b)) n).found in
+body_ruled b at n q j u =
+    let found : Record = (read_is (take (bytes_for n) (drop at b)) n).found in
     let same : u.found ≡ found = (read-once u.read j.body.read).0 ∙ sym j.same in
     u.says
-    ∙ ap (λ (r : Record). decisionOf (sixRules q.user.network r q)) same
-    ∙ ap (λ (m : ℕ). decisionOf (sixRules m found q)) (sym (ap (missingIn (home_of b)) j.same ∙ j.network))
+    ∙ ap (λ (r : Record). decision_of (six_rules q.user.network r q)) same
+    ∙ ap (λ (m : ℕ). decision_of (six_rules m found q)) (sym (ap (missing_in (home_of b)) j.same ∙ j.network))

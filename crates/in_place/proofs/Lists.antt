@@ -8,21 +8,21 @@ use lib.ListN.{length, take, get_or}
 use lib.Dec.{eqb}
 use borrow.Author.Tests.{ne_eqb, le-leb}
 use Rattle.bits.specs.Bits.{bits}
-use Rattle.bits.specs.Element.{windowAt}
+use Rattle.bits.specs.Element.{window_at}
 use Rattle.bits.specs.Lists.{some}
 use Rattle.codec.specs.Parts.{tested}
 use Rattle.codec.specs.Places.{places}
 use Rattle.codec.proofs.Filling.{places-rest}
-use Rattle.grammar.specs.SiteSheet.{rangeType, rowOf, entriesOf, rangeRefusal}
-use Rattle.grammar.specs.Grammar.{identity, noIdentity, zeroIdentity, rangeEnds, secondEnd, identities, external, noExternal, externals}
+use Rattle.grammar.specs.SiteSheet.{range_type, row_of, entries_of, range_refusal}
+use Rattle.grammar.specs.Grammar.{identity, no_identity, zero_identity, range_ends, second_end, identities, external, no_external, externals}
 use Rattle.grammar.specs.declared.record.Identities.{Identities}
 use Rattle.grammar.specs.declared.site.ListKind.TheVariants as of
 use Rattle.grammar.proofs.Codes.{single}
-use Rattle.grammar.proofs.Steps.{noIdentity-at}
+use Rattle.grammar.proofs.Steps.{no_identity-at}
 use Rattle.walk.proofs.Sights.{legal-code, single-code}
 use Rattle.reader.specs.Inner.{Read, Reads}
 use Rattle.reader.proofs.Elements.{number_fits}
-use Rattle.rules.specs.Matching.{isEntry, in_range, identityAmong, is_number, numberAmong}
+use Rattle.rules.specs.Matching.{is_entry, in_range, identity_among, is_number, number_among}
 use Rattle.rules.specs.declared.request.User.{User}
 use Rattle.rules.specs.declared.request.Group.{Group}
 use Rattle.rules.specs.declared.request.Group.TheVariants.{Of, NoGroup}
@@ -36,14 +36,14 @@ module _ (s : List ℕ) (start : ℕ) (r : Reads (identities of.Identities) (bit
   abbrev code : ℕ
   code = r.value.code
 
-  parts : Headed 4 (rangeRefusal of.Identities) (λ n. tested (places identity noIdentity 8 (entriesOf n)) (rangeEnds n) secondEnd) (bits s) start code
+  parts : Headed 4 (range_refusal of.Identities) (λ n. tested (places identity no_identity 8 (entries_of n)) (range_ends n) second_end) (bits s) start code
       r.value.entries r.end
   unfolding identities
-  parts = split-headed 4 (rangeRefusal of.Identities) (λ n. tested (places identity noIdentity 8 (entriesOf n)) (rangeEnds n) secondEnd)
+  parts = split-headed 4 (range_refusal of.Identities) (λ n. tested (places identity no_identity 8 (entries_of n)) (range_ends n) second_end)
       (split-shaped _ _ _ _ _ r.read)
 
   -- the range type in the window at its place
-  pub code_is : {x : ℕ} → x ≡ windowAt s start → x / 2 ^ 53 ≡ code
+  pub code_is : {x : ℕ} → x ≡ window_at s start → x / 2 ^ 53 ≡ code
   code_is e = front-is s start e 4 (omega arith) (omega arith) parts.head
 
   pub list-near : length s ≤ 512 → start + 4 ≤ 4096
@@ -52,57 +52,57 @@ module _ (s : List ℕ) (start : ℕ) (r : Reads (identities of.Identities) (bit
   pub code-legal : code ≤ 9
   code-legal = legal-code of.Identities code parts.legal
 
-  entries-read : {n : ℕ} → entriesOf code ≡ n → Read (places identity noIdentity 8 n) (bits s) (start + 4) r.value.entries r.end
+  entries-read : {n : ℕ} → entries_of code ≡ n → Read (places identity no_identity 8 n) (bits s) (start + 4) r.value.entries r.end
   entries-read e = rw e at (split-tested _ _ _ parts.rest).0
 
-  pub range-reads : code ≡ 9 → Reads (places identity noIdentity 8 2) (bits s) (start + 4)
-  unfolding rangeType rowOf
-  range-reads e = record { value = _; end = _; read = entries-read (ap (λ (n : ℕ). entriesOf n) e) }
+  pub range-reads : code ≡ 9 → Reads (places identity no_identity 8 2) (bits s) (start + 4)
+  unfolding range_type row_of
+  range-reads e = record { value = _; end = _; read = entries-read (ap (λ (n : ℕ). entries_of n) e) }
 
-  pub singles-reads : {n : ℕ} → n ≡ code → n ≤ 8 → Reads (places identity noIdentity 8 n) (bits s) (start + 4)
-  singles-reads {n} e few = record { value = _; end = _; read = entries-read (ap (λ (m : ℕ). entriesOf m) (sym e) ∙ (single n few).2) }
+  pub singles-reads : {n : ℕ} → n ≡ code → n ≤ 8 → Reads (places identity no_identity 8 n) (bits s) (start + 4)
+  singles-reads {n} e few = record { value = _; end = _; read = entries-read (ap (λ (m : ℕ). entries_of m) (sym e) ∙ (single n few).2) }
 
   -- passed over
-  over : {n end : ℕ} → entriesOf code ≡ n → Ends (places identity noIdentity 8 n) (bits s) (start + 4) end → {empty : Bool} → empty ≡ is_empty code
+  over : {n end : ℕ} → entries_of code ≡ n → Ends (places identity no_identity 8 n) (bits s) (start + 4) end → {empty : Bool} → empty ≡ is_empty code
       → Sees (identities of.Identities) (λ l. false) (λ l. l.code) (bits s) start (record { has = false; empty = empty; end = end })
   over e p f = record { value = r.value; read = rw (read-once (entries-read e) p.read).1 at r.read; has = refl; empty = f }
 
-  pub range-over : {end : ℕ} → code ≡ 9 → Ends (places identity noIdentity 8 2) (bits s) (start + 4) end
+  pub range-over : {end : ℕ} → code ≡ 9 → Ends (places identity no_identity 8 2) (bits s) (start + 4) end
       → Sees (identities of.Identities) (λ l. false) (λ l. l.code) (bits s) start (record { has = false; empty = false; end = end })
-  unfolding rangeType rowOf
-  range-over e p = over (ap (λ (n : ℕ). entriesOf n) e) p (rw e)
+  unfolding range_type row_of
+  range-over e p = over (ap (λ (n : ℕ). entries_of n) e) p (rw e)
 
-  pub singles-over : {n end : ℕ} → n ≡ code → n ≤ 8 → Ends (places identity noIdentity 8 n) (bits s) (start + 4) end
+  pub singles-over : {n end : ℕ} → n ≡ code → n ≤ 8 → Ends (places identity no_identity 8 n) (bits s) (start + 4) end
       → Sees (identities of.Identities) (λ l. false) (λ l. l.code) (bits s) start (record { has = false; empty = eqb n 0; end = end })
-  singles-over {n} e few p = over (ap (λ (m : ℕ). entriesOf m) (sym e) ∙ (single n few).2) p (ap (λ (m : ℕ). eqb m 0) e)
+  singles-over {n} e few p = over (ap (λ (m : ℕ). entries_of m) (sym e) ∙ (single n few).2) p (ap (λ (m : ℕ). eqb m 0) e)
 
   module _ (missing : ℕ) (u : User) where
     abbrev SeenAs : Bool → Bool → ℕ → Type 0
     SeenAs has empty end =
-        Sees (identities of.Identities) (λ l. identityAmong missing l u) (λ l. l.code) (bits s) start
+        Sees (identities of.Identities) (λ l. identity_among missing l u) (λ l. l.code) (bits s) start
         (record { has = has; empty = empty; end = end })
 
     pub none_seen : code ≡ 0 → SeenAs false true (start + 4)
-    unfolding identityAmong rangeType rowOf
+    unfolding identity_among range_type row_of
     none_seen e =
-        let none = places-rest identity noIdentity (bits s) zeroIdentity (noIdentity-at (bits s)) 8 (start + 4) in
-        let l = entries-read (ap (λ (n : ℕ). entriesOf n) e) in
+        let none = places-rest identity no_identity (bits s) zero_identity (no_identity-at (bits s)) 8 (start + 4) in
+        let l = entries-read (ap (λ (n : ℕ). entries_of n) e) in
         let end : r.end ≡ start + 4 = cc (l.same, none) in
         record { value = r.value; read = rw end at r.read; has = rw e; empty = rw e }
 
-    pub range-seen : {has : Bool} {end : ℕ} → code ≡ 9
-        → Says (places identity noIdentity 8 2) (λ l. in_range missing u (get_or l 0 zeroIdentity) (get_or l 1 zeroIdentity)) (bits s) (start + 4) has end
+    pub range_seen : {has : Bool} {end : ℕ} → code ≡ 9
+        → Says (places identity no_identity 8 2) (λ l. in_range missing u (get_or l 0 zero_identity) (get_or l 1 zero_identity)) (bits s) (start + 4) has end
         → SeenAs has false end
-    unfolding identityAmong rangeType rowOf
-    range-seen e p =
-        let o = says_is p (entries-read (ap (λ (n : ℕ). entriesOf n) e)) in
+    unfolding identity_among range_type row_of
+    range_seen e p =
+        let o = says_is p (entries-read (ap (λ (n : ℕ). entries_of n) e)) in
         record { value = r.value; read = rw (← o.1) at r.read; has = rw e o.0; empty = rw e }
 
-    pub singles-seen : {has : Bool} {end n : ℕ} → n ≡ code → (n ≡ 0 → ⊥) → n ≤ 8
-        → Says (places identity noIdentity 8 n) (λ l. some (isEntry missing u) (take n l)) (bits s) (start + 4) has end → SeenAs has false end
-    unfolding identityAmong rangeType
-    singles-seen {n = n} e some few p =
-        let o = says_is p (entries-read (ap (λ (m : ℕ). entriesOf m) (sym e) ∙ (single n few).2)) in
+    pub singles_seen : {has : Bool} {end n : ℕ} → n ≡ code → (n ≡ 0 → ⊥) → n ≤ 8
+        → Says (places identity no_identity 8 n) (λ l. some (is_entry missing u) (take n l)) (bits s) (start + 4) has end → SeenAs has false end
+    unfolding identity_among range_type
+    singles_seen {n = n} e some few p =
+        let o = says_is p (entries-read (ap (λ (m : ℕ). entries_of m) (sym e) ∙ (single n few).2)) in
         record {
           value = r.value;
           read = rw (← o.1) at r.read;
@@ -113,23 +113,23 @@ module _ (s : List ℕ) (start : ℕ) (r : Reads (identities of.Identities) (bit
 -- ---- the call's group
 
 module _ (missing : ℕ) {s : List Bool} {start : ℕ} {group : Group} {seen : Seen} where
-  pub group-seen : {u : User} → group ≡ Of u → Sees (identities of.Identities) (λ l. identityAmong missing l u) (λ l. l.code) s start seen
+  pub group_seen : {u : User} → group ≡ Of u → Sees (identities of.Identities) (λ l. identity_among missing l u) (λ l. l.code) s start seen
       → Sees (identities of.Identities) (λ l. in_groups missing l group) (λ l. l.code) s start seen
-  group-seen e p = record { value = p.value; read = p.read; has = rw e p.has; empty = p.empty }
+  group_seen e p = record { value = p.value; read = p.read; has = rw e p.has; empty = p.empty }
 
-  pub no-group-seen : group ≡ NoGroup → Sees (identities of.Identities) (λ l. false) (λ l. l.code) s start seen
+  pub no-group_seen : group ≡ NoGroup → Sees (identities of.Identities) (λ l. false) (λ l. l.code) s start seen
       → Sees (identities of.Identities) (λ l. in_groups missing l group) (λ l. l.code) s start seen
-  no-group-seen e p = record { value = p.value; read = p.read; has = rw e p.has; empty = p.empty }
+  no-group_seen e p = record { value = p.value; read = p.read; has = rw e p.has; empty = p.empty }
 
 -- ---- a list of numbers: its range type is how many entries it has
 
 module _ (s : List ℕ) (start : ℕ) (r : Reads externals (bits s) start) where
-  numbers-parts : Headed 4 (rangeRefusal of.Numbers) (λ n. places external noExternal 8 (entriesOf n)) (bits s) start r.value.code
+  numbers-parts : Headed 4 (range_refusal of.Numbers) (λ n. places external no_external 8 (entries_of n)) (bits s) start r.value.code
       r.value.entries r.end
   unfolding externals
-  numbers-parts = split-headed 4 (rangeRefusal of.Numbers) (λ n. places external noExternal 8 (entriesOf n)) (split-shaped _ _ _ _ _ r.read)
+  numbers-parts = split-headed 4 (range_refusal of.Numbers) (λ n. places external no_external 8 (entries_of n)) (split-shaped _ _ _ _ _ r.read)
 
-  pub numbers-code : {x : ℕ} → x ≡ windowAt s start → x / 2 ^ 53 ≡ r.value.code
+  pub numbers-code : {x : ℕ} → x ≡ window_at s start → x / 2 ^ 53 ≡ r.value.code
   numbers-code e = front-is s start e 4 (omega arith) (omega arith) numbers-parts.head
 
   pub numbers-near : length s ≤ 512 → start + 4 ≤ 4096
@@ -139,20 +139,20 @@ module _ (s : List ℕ) (start : ℕ) (r : Reads externals (bits s) start) where
   numbers-few = single-code r.value.code numbers-parts.legal
 
   module _ {n : ℕ} (e : n ≡ r.value.code) where
-    entries-are : Read (places external noExternal 8 n) (bits s) (start + 4) r.value.entries r.end
-    entries-are =
-        subst (λ (k : ℕ). Read (places external noExternal 8 k) (bits s) (start + 4) r.value.entries r.end)
+    entries_are : Read (places external no_external 8 n) (bits s) (start + 4) r.value.entries r.end
+    entries_are =
+        subst (λ (k : ℕ). Read (places external no_external 8 k) (bits s) (start + 4) r.value.entries r.end)
         ((single r.value.code numbers-few).2 ∙ sym e) numbers-parts.rest
 
-    pub numbers-reads : Reads (places external noExternal 8 n) (bits s) (start + 4)
-    numbers-reads = record { value = _; end = _; read = entries-are }
+    pub numbers-reads : Reads (places external no_external 8 n) (bits s) (start + 4)
+    numbers-reads = record { value = _; end = _; read = entries_are }
 
-    pub numbers-seen : {has : Bool} {end : ℕ} (length : ℕ) (digits : List ℕ)
-        → Says (places external noExternal 8 n) (λ l. some (is_number length digits) (take n l)) (bits s) (start + 4) has end
-        → Sees externals (λ l. numberAmong l length digits) (λ l. l.code) (bits s) start (record { has = has; empty = eqb n 0; end = end })
-    unfolding numberAmong
-    numbers-seen length digits p =
-        let o = says_is p entries-are in
+    pub numbers_seen : {has : Bool} {end : ℕ} (length : ℕ) (digits : List ℕ)
+        → Says (places external no_external 8 n) (λ l. some (is_number length digits) (take n l)) (bits s) (start + 4) has end
+        → Sees externals (λ l. number_among l length digits) (λ l. l.code) (bits s) start (record { has = has; empty = eqb n 0; end = end })
+    unfolding number_among
+    numbers_seen length digits p =
+        let o = says_is p entries_are in
         record {
           value = r.value;
           read = rw (← o.1) at r.read;

@@ -8,7 +8,7 @@ use lib.ListN.{length, get_or}
 use Rattle.codec.specs.Codec.{Codec}
 use Rattle.codec.specs.Parts.{number, absent, element}
 use Rattle.codec.specs.Places.{places}
-use Rattle.codec.proofs.Reading.{readAt-absent, readAt-legal}
+use Rattle.codec.proofs.Reading.{read_at-absent, read_at-legal}
 use Rattle.codec.proofs.Legality.{legal-length}
 use Rattle.codec.proofs.Filling.{places-rest}
 use Rattle.walk.proofs.Numbers.{element-says}
@@ -46,7 +46,7 @@ module _ (s : List Bool) (w : ℕ) (refuse : ℕ → ℕ) where
   pub row-end : (m n : ℕ) {at end : ℕ} {l : List ℕ} → n ≤ m → Read (row m n) s at l end → end ≡ at + w * n
   unfolding places
   row-end m zero {at} h r =
-      let none = places-rest (element w refuse) absent s 0 (readAt-absent s) m at in
+      let none = places-rest (element w refuse) absent s 0 (read_at-absent s) m at in
       let z : at ≡ at + w * 0 = omega arith in
       cc (r.same, none) ∙ z
   row-end zero (suc n) h r = absurd (omega arith)
@@ -57,4 +57,4 @@ module _ (s : List Bool) (w : ℕ) (refuse : ℕ → ℕ) where
       row-end m n (omega arith) x.then ∙ ap (λ (p : ℕ). p + w * n) first ∙ z
 
   pub row-length : (m n : ℕ) {at end : ℕ} {l : List ℕ} → Read (row m n) s at l end → length l ≡ m
-  row-length m n {at} {end} {l} r = legal-length (element w refuse) absent m n l (readAt-legal (row m n) s at l end r.same).0
+  row-length m n {at} {end} {l} r = legal-length (element w refuse) absent m n l (read_at-legal (row m n) s at l end r.same).0

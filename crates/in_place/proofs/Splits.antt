@@ -6,8 +6,8 @@ use Prim.Native.Nat.{ℕ, ◌+◌}
 use Rattle.codec.specs.Codec.{Codec}
 use Rattle.codec.specs.Parts.{number, element, seq, tested, shaped, mark, only}
 use Rattle.codec.specs.Places.{cons}
-use Rattle.codec.specs.Reading.{Found, got, andNext, unlessAt, readAt}
-use Rattle.codec.proofs.Reading.{readAt-seq, readAt-tested, readAt-shaped, readAt-cons, readAt-legal}
+use Rattle.codec.specs.Reading.{Found, got, and_next, unless_at, read_at}
+use Rattle.codec.proofs.Reading.{read_at-seq, read_at-tested, read_at-shaped, read_at-cons, read_at-legal}
 use Rattle.walk.proofs.Numbers.{element-says}
 use Rattle.reader.specs.Inner.{Read}
 use Rattle.reader.proofs.Elements.{steps, passed, number-end}
@@ -45,9 +45,9 @@ pub record Split {A B : Type 0} (c : Codec A) (d : A → Codec B) (s : List Bool
 pub split-seq : {A B : Type 0} (c : Codec A) (d : A → Codec B) {s : List Bool} {at end : ℕ} {p : A × B} → Read (seq c d) s at p end
     → Split c d s at p.0 p.1 end
 split-seq {A} {B} c d {s} {at} {end} {p} r =
-    let x = steps (readAt c s at) (λ a m. andNext (readAt (d a) s m) (λ b e. got (a, b) e)) (sym (readAt-seq c d s at) ∙ r.same) in
+    let x = steps (read_at c s at) (λ a m. and_next (read_at (d a) s m) (λ b e. got (a, b) e)) (sym (read_at-seq c d s at) ∙ r.same) in
     let k : B → ℕ → Found (A × B) = λ b e. got (x.value, b) e in
-    let y = steps (readAt (d x.value) s x.next) k x.then in
+    let y = steps (read_at (d x.value) s x.next) k x.then in
     let pair : ◌≡◌ {A = A × B} (x.value, y.value) p = cc y.then in
     let e : y.next ≡ end = cc y.then in
     let a : x.value ≡ p.0 = ap (λ (z : A × B). z.0) pair in
@@ -55,7 +55,7 @@ split-seq {A} {B} c d {s} {at} {end} {p} r =
     record {
       middle = x.next;
       first = record { same = x.first ∙ ap {B = Found A} (λ (z : A). got z x.next) a };
-      then = record { same = ap (λ (z : A). readAt (d z) s x.next) (sym a) ∙ y.first ∙ rw (b, e) };
+      then = record { same = ap (λ (z : A). read_at (d z) s x.next) (sym a) ∙ y.first ∙ rw (b, e) };
     }
 
 -- ---- a part in another shape
@@ -64,8 +64,8 @@ module _ {A B : Type 0} (c : Codec A) (to : A → B) (from : B → A)
     (there : (a : A) → c.clean a ≡ true → c.fault a ≡ 0 → from (to a) ≡ a) (back : (b : B) → to (from b) ≡ b) {s : List Bool} {at : ℕ} where
   pub split-shaped : {b : B} {end : ℕ} → Read (shaped c to from there back) s at b end → Read c s at (from b) end
   split-shaped {b} {end} r =
-      let x = steps (readAt c s at) (λ a m. got (to a) m) (sym (readAt-shaped c to from there back s at) ∙ r.same) in
-      let l = (readAt-legal c s at x.value x.next x.first).0 in
+      let x = steps (read_at c s at) (λ a m. got (to a) m) (sym (read_at-shaped c to from there back s at) ∙ r.same) in
+      let l = (read_at-legal c s at x.value x.next x.first).0 in
       let e : x.next ≡ end = cc x.then in
       let v : to x.value ≡ b = cc x.then in
       let a : x.value ≡ from b = sym (there x.value l.clean l.faultless) ∙ ap from v in
@@ -76,7 +76,7 @@ module _ {A B : Type 0} (c : Codec A) (to : A → B) (from : B → A)
 pub split-tested : {A : Type 0} (c : Codec A) (refuse into : A → ℕ) {s : List Bool} {at : ℕ} {a : A} {end : ℕ}
     → Read (tested c refuse into) s at a end → Read c s at a end × (refuse a ≡ 0)
 split-tested {A} c refuse into {s} {at} {a} {end} r =
-    let x = steps (readAt c s at) (λ v m. unlessAt (refuse v) (at + into v) (got v m)) (sym (readAt-tested c refuse into s at) ∙ r.same) in
+    let x = steps (read_at c s at) (λ v m. unless_at (refuse v) (at + into v) (got v m)) (sym (read_at-tested c refuse into s at) ∙ r.same) in
     let p = passed (refuse x.value) (at + into x.value) (got x.value x.next) x.then in
     let v : x.value ≡ a = cc p.1 in
     (record { same = x.first ∙ p.1 }, ap refuse (sym v) ∙ p.0)
@@ -119,8 +119,8 @@ pub record Consed {A : Type 0} (c : Codec A) (d : Codec (List A)) (s : List Bool
 pub split-cons : {A : Type 0} (c : Codec A) (d : Codec (List A)) {s : List Bool} {at : ℕ} {l : List A} {end : ℕ} → Read (cons c d) s at l end
     → Consed c d s at l end
 split-cons {A} c d {s} {at} {l} {end} r =
-    let x = steps (readAt c s at) (λ a m. andNext (readAt d s m) (λ t e. got (a ∷ t) e)) (sym (readAt-cons c d s at) ∙ r.same) in
-    let y = steps (readAt d s x.next) (λ t e. got (x.value ∷ t) e) x.then in
+    let x = steps (read_at c s at) (λ a m. and_next (read_at d s m) (λ t e. got (a ∷ t) e)) (sym (read_at-cons c d s at) ∙ r.same) in
+    let y = steps (read_at d s x.next) (λ t e. got (x.value ∷ t) e) x.then in
     let e : y.next ≡ end = cc y.then in
     record {
       entry = x.value;

@@ -1,18 +1,18 @@
 -- What the walk's own functions need, and what they say of the part of a PDU that they pass.
 use Rattle.std.specs.Prelude.{◌≡◌, Bool, not, ◌&&◌, List, ℕ, ◌+◌, ◌≤◌, length, take, drop}
 use Rattle.bits.specs.Bits.{bits, pick}
-use Rattle.bits.specs.Frame.{bytesFor}
+use Rattle.bits.specs.Frame.{bytes_for}
 use Rattle.codec.specs.Codec.{Codec}
 use Rattle.grammar.specs.Grammar.{pdu}
 use Rattle.grammar.specs.declared.record.Record.{Record}
 use Rattle.reader.specs.Inner.{Read, Reads}
-use Rattle.reader.specs.Read.{readIs}
-use Rattle.rules.specs.Rule.{outsideGroup, restrictedService, restrictedAddress, is_empty, missingIn, sixRules}
+use Rattle.reader.specs.Read.{read_is}
+use Rattle.rules.specs.Rule.{outside_group, restricted_service, restricted_address, is_empty, missing_in, six_rules}
 use Rattle.rules.specs.declared.request.Request.{Request}
 use Rattle.rules.specs.declared.Ruling.TheVariants.{Allowed, Barred}
 use Rattle.archive.specs.Reading.{home_of}
-use Rattle.barring.specs.Decision.{decisionOf}
-use Rattle.barring.specs.Decide.{partFor}
+use Rattle.barring.specs.Decision.{decision_of}
+use Rattle.barring.specs.Decide.{part_for}
 use Rattle.barring.specs.declared.Decision.{Decision}
 use Rattle.in_place.specs.declared.Seen.{Seen}
 
@@ -41,12 +41,12 @@ pub record Sees {A : Type 0} (c : Codec A) (test : A → Bool) (code : A → ℕ
 
 -- rules 2 to 6, by what the lists say: the group list has the call's group, or is empty; the restricted list has the destination, or is empty;
 -- the exceptions have it
-unfoldable pub settledBy : Bool → Bool → Bool → Bool → Bool → Decision
-settledBy grouped groupless restricted unrestricted excepted =
-    decisionOf (pick excepted Allowed
-    (pick restricted (Barred restrictedAddress)
-    (pick (not groupless && not grouped) (Barred outsideGroup)
-    (pick (groupless && unrestricted) (Barred restrictedService)
+unfoldable pub settled_by : Bool → Bool → Bool → Bool → Bool → Decision
+settled_by grouped groupless restricted unrestricted excepted =
+    decision_of (pick excepted Allowed
+    (pick restricted (Barred restricted_address)
+    (pick (not groupless && not grouped) (Barred outside_group)
+    (pick (groupless && unrestricted) (Barred restricted_service)
     Allowed))))
 
 -- the PDU of a part that judges a request: an INTERROGATE ACK with one affected user, whose result is the part
@@ -57,18 +57,18 @@ pub record Judging (s : List ℕ) (q : Request) : Type 0 where
   pub read : Read pdu (bits s) 0 found end
   pub kind : found.kind ≡ 12
   pub single : found.affected.code ≡ 1
-  pub part : found.figures.result ≡ partFor q.destination
+  pub part : found.figures.result ≡ part_for q.destination
 
 -- what the six rules say of the record that is read, where a missing extension means the network of the request's user
 pub record Ruled (s : List ℕ) (q : Request) (d : Decision) : Type 0 where
   pub found : Record
   pub end : ℕ
   pub read : Read pdu (bits s) 0 found end
-  pub says : d ≡ decisionOf (sixRules q.user.network found q)
+  pub says : d ≡ decision_of (six_rules q.user.network found q)
 
 -- the same of the body of n bits at a place of an archive, filed under the request's user
 pub record JudgingAt (b : List ℕ) (at n : ℕ) (q : Request) : Type 0 where
-  pub inside : at + bytesFor n ≤ length b
-  pub body : Judging (take (bytesFor n) (drop at b)) q
-  pub same : (readIs (take (bytesFor n) (drop at b)) n).found ≡ body.found
-  pub network : missingIn (home_of b) body.found ≡ q.user.network
+  pub inside : at + bytes_for n ≤ length b
+  pub body : Judging (take (bytes_for n) (drop at b)) q
+  pub same : (read_is (take (bytes_for n) (drop at b)) n).found ≡ body.found
+  pub network : missing_in (home_of b) body.found ≡ q.user.network

@@ -3,10 +3,10 @@ ghost use Rattle.std.specs.Prelude.{false, ◌≤◌, take, get_or};
 ghost use Rattle.bits.specs.Bits.{bits};
 ghost use Rattle.bits.specs.Lists.{some};
 ghost use Rattle.codec.specs.Places.{places};
-ghost use Rattle.grammar.specs.Grammar.{identity, noIdentity, zeroIdentity, identities};
+ghost use Rattle.grammar.specs.Grammar.{identity, no_identity, zero_identity, identities};
 ghost use Rattle.grammar.specs.declared.site.ListKind.TheVariants as of;
 ghost use Rattle.reader.specs.Inner.{Read};
-ghost use Rattle.rules.specs.Matching.{isEntry, in_range, identityAmong};
+ghost use Rattle.rules.specs.Matching.{is_entry, in_range, identity_among};
 ghost use Rattle.rules.specs.Rule.{in_groups};
 ghost use Rattle.in_place.specs.Inner.{Walkable, Ends, Says, Sees};
 
@@ -51,7 +51,7 @@ fn entry_at(s: &[u8], at: usize) -> Entry
 // Whether an entry is this user.
 fn identity_at(s: &[u8], at: usize, missing: u32, user: User) -> Passed
     requires { Walkable identity s.now at }
-    ensures { Says identity (isEntry missing user) (bits s.now) at result.has result.end }
+    ensures { Says identity (is_entry missing user) (bits s.now) at result.has result.end }
 {
     let entry = entry_at(s, at);
     let identity = entry.identity;
@@ -63,8 +63,8 @@ fn identity_at(s: &[u8], at: usize, missing: u32, user: User) -> Passed
 
 // Whether one of so many single entries, of whatever present bits, is this user.
 fn mixed_at(s: &[u8], start: usize, count: u32, missing: u32, user: User) -> Passed
-    requires { (count ≤ 8) × Walkable (places identity noIdentity 8 count) s.now start }
-    ensures { Says (places identity noIdentity 8 count) (λ l. some (isEntry missing user) (take count l)) (bits s.now) start result.has result.end }
+    requires { (count ≤ 8) × Walkable (places identity no_identity 8 count) s.now start }
+    ensures { Says (places identity no_identity 8 count) (λ l. some (is_entry missing user) (take count l)) (bits s.now) start result.has result.end }
 {
     let mut has = false;
     let mut at = start;
@@ -82,8 +82,8 @@ fn mixed_at(s: &[u8], start: usize, count: u32, missing: u32, user: User) -> Pas
 
 // The same first as if each had so many bits, as in most lists: then no place waits for the present bit before it.
 fn singles_at(s: &[u8], start: usize, count: u32, width: usize, missing: u32, user: User) -> Passed
-    requires { (count ≤ 8) × (width ≤ 49) × Walkable (places identity noIdentity 8 count) s.now start }
-    ensures { Says (places identity noIdentity 8 count) (λ l. some (isEntry missing user) (take count l)) (bits s.now) start result.has result.end }
+    requires { (count ≤ 8) × (width ≤ 49) × Walkable (places identity no_identity 8 count) s.now start }
+    ensures { Says (places identity no_identity 8 count) (λ l. some (is_entry missing user) (take count l)) (bits s.now) start result.has result.end }
 {
     let mut has = false;
     let mut at = start;
@@ -105,8 +105,8 @@ fn singles_at(s: &[u8], start: usize, count: u32, width: usize, missing: u32, us
 
 // Whether a range, both ends included, has this user.
 fn range_at(s: &[u8], start: usize, missing: u32, user: User) -> Passed
-    requires { Walkable (places identity noIdentity 8 2) s.now start }
-    ensures { Says (places identity noIdentity 8 2) (λ l. in_range missing user (get_or l 0 zeroIdentity) (get_or l 1 zeroIdentity)) (bits s.now) start result.has result.end }
+    requires { Walkable (places identity no_identity 8 2) s.now start }
+    ensures { Says (places identity no_identity 8 2) (λ l. in_range missing user (get_or l 0 zero_identity) (get_or l 1 zero_identity)) (bits s.now) start result.has result.end }
 {
     let first = entry_at(s, start);
     let last = entry_at(s, first.end);
@@ -121,7 +121,7 @@ fn range_at(s: &[u8], start: usize, missing: u32, user: User) -> Passed
 // Whether a list, by its range type, has this user.
 pub(crate) fn identities_at(s: &[u8], start: usize, missing: u32, user: User) -> Seen
     requires { Walkable (identities of.Identities) s.now start }
-    ensures { Sees (identities of.Identities) (λ l. identityAmong missing l user) (λ l. l.code) (bits s.now) start result }
+    ensures { Sees (identities of.Identities) (λ l. identity_among missing l user) (λ l. l.code) (bits s.now) start result }
 {
     let window = bits::window(s, start);
     let code = (window >> 53u32) as u32;
@@ -152,8 +152,8 @@ pub(crate) fn identities_at(s: &[u8], start: usize, missing: u32, user: User) ->
 
 // Where so many single entries end, of whatever present bits.
 fn mixed_end(s: &[u8], start: usize, count: u32) -> usize
-    requires { (count ≤ 8) × Walkable (places identity noIdentity 8 count) s.now start }
-    ensures { Ends (places identity noIdentity 8 count) (bits s.now) start result }
+    requires { (count ≤ 8) × Walkable (places identity no_identity 8 count) s.now start }
+    ensures { Ends (places identity no_identity 8 count) (bits s.now) start result }
 {
     let mut at = start;
     let mut done = 0u32;
@@ -166,8 +166,8 @@ fn mixed_end(s: &[u8], start: usize, count: u32) -> usize
 
 // The same first as if each had so many bits.
 fn singles_end(s: &[u8], start: usize, count: u32, width: usize) -> usize
-    requires { (count ≤ 8) × (width ≤ 49) × Walkable (places identity noIdentity 8 count) s.now start }
-    ensures { Ends (places identity noIdentity 8 count) (bits s.now) start result }
+    requires { (count ≤ 8) × (width ≤ 49) × Walkable (places identity no_identity 8 count) s.now start }
+    ensures { Ends (places identity no_identity 8 count) (bits s.now) start result }
 {
     let mut at = start;
     let mut done = 0u32;

@@ -5,9 +5,9 @@ mod numbers;
 mod services;
 
 ghost use Rattle.std.specs.Prelude.{◌≡◌};
-ghost use Rattle.barring.specs.Decide.{decideIs};
-ghost use Rattle.barring.specs.Inner.{rulingOfBody};
-ghost use Rattle.in_place.specs.Inner.{settledBy, Judging, Ruled, JudgingAt};
+ghost use Rattle.barring.specs.Decide.{decide_is};
+ghost use Rattle.barring.specs.Inner.{ruling_of_body};
+ghost use Rattle.in_place.specs.Inner.{settled_by, Judging, Ruled, JudgingAt};
 
 use barring::{Decision, JudgingPart};
 use bits::BitCount;
@@ -41,7 +41,7 @@ pub struct Passed {
 
 // The first of rules 2 to 6 that applies, by what the lists say: groups, restricted, exceptions.
 fn settled(groups: Seen, restricted: Seen, exceptions: Seen) -> Decision
-    ensures { result ≡ settledBy groups.has groups.empty restricted.has restricted.empty exceptions.has }
+    ensures { result ≡ settled_by groups.has groups.empty restricted.has restricted.empty exceptions.has }
 {
     if exceptions.has {
         return Decision::Allowed;
@@ -98,7 +98,7 @@ fn ruling_in(s: &[u8], request: Request) -> Decision
 // The same of the body of n bits at a place of the archive.
 fn ruling_of_body(archive: &[u8], at: usize, n: BitCount, request: Request) -> Decision
     requires { JudgingAt archive.now at n.0 request }
-    ensures { result ≡ rulingOfBody archive.now at n.0 request }
+    ensures { result ≡ ruling_of_body archive.now at n.0 request }
 {
     let end = at + n.bytes();
     ruling_in(&archive[at..end], request)
@@ -106,7 +106,7 @@ fn ruling_of_body(archive: &[u8], at: usize, n: BitCount, request: Request) -> D
 
 // Whether the archive bars the call: 9 before 7, then the part of the request's user.
 pub fn decide(archive: &[u8], request: Request) -> Decision
-    ensures { result ≡ decideIs archive.now request }
+    ensures { result ≡ decide_is archive.now request }
 {
     match barring::judging_part(archive, request) {
         JudgingPart::At(at, n) => ruling_of_body(archive, at, n, request),

@@ -4,9 +4,9 @@ ghost use Rattle.bits.specs.Bits.{bits};
 ghost use Rattle.bits.specs.Lists.{some};
 ghost use Rattle.codec.specs.Parts.{absent, element};
 ghost use Rattle.codec.specs.Places.{places};
-ghost use Rattle.grammar.specs.SiteSheet.{digitRefusal};
-ghost use Rattle.grammar.specs.Grammar.{external, noExternal, externals};
-ghost use Rattle.rules.specs.Matching.{same, is_number, numberAmong};
+ghost use Rattle.grammar.specs.SiteSheet.{digit_refusal};
+ghost use Rattle.grammar.specs.Grammar.{external, no_external, externals};
+ghost use Rattle.rules.specs.Matching.{same, is_number, number_among};
 ghost use Rattle.in_place.specs.Inner.{Walkable, Says, Sees};
 
 use crate::{Passed, Seen};
@@ -14,8 +14,8 @@ use bits::DigitCount;
 
 // Whether so many digits from a place on are these.
 fn are_digits(s: &[u8], at: usize, count: usize, digits: [u8; 24]) -> bool
-    requires { (count ≤ 24) × Walkable (places (element 4 digitRefusal) absent 24 count) s.now at }
-    ensures { Says (places (element 4 digitRefusal) absent 24 count) (λ l. same (take count l) (take count digits)) (bits s.now) at result (at + 4 * count) }
+    requires { (count ≤ 24) × Walkable (places (element 4 digit_refusal) absent 24 count) s.now at }
+    ensures { Says (places (element 4 digit_refusal) absent 24 count) (λ l. same (take count l) (take count digits)) (bits s.now) at result (at + 4 * count) }
 {
     let mut i: usize = 0;
     while i < count {
@@ -46,8 +46,8 @@ fn number_at(s: &[u8], at: usize, length: DigitCount, digits: [u8; 24]) -> Passe
 
 // Whether one of so many entries is this number.
 fn entries_at(s: &[u8], start: usize, count: u32, length: DigitCount, digits: [u8; 24]) -> Passed
-    requires { (count ≤ 8) × Walkable (places external noExternal 8 count) s.now start }
-    ensures { Says (places external noExternal 8 count) (λ l. some (is_number length.0 digits) (take count l)) (bits s.now) start result.has result.end }
+    requires { (count ≤ 8) × Walkable (places external no_external 8 count) s.now start }
+    ensures { Says (places external no_external 8 count) (λ l. some (is_number length.0 digits) (take count l)) (bits s.now) start result.has result.end }
 {
     let mut has = false;
     let mut at = start;
@@ -66,7 +66,7 @@ fn entries_at(s: &[u8], start: usize, count: u32, length: DigitCount, digits: [u
 // Whether a list has this number. Its range type is how many entries it has.
 pub(crate) fn numbers_at(s: &[u8], start: usize, length: DigitCount, digits: [u8; 24]) -> Seen
     requires { Walkable externals s.now start }
-    ensures { Sees externals (λ l. numberAmong l length.0 digits) (λ l. l.code) (bits s.now) start result }
+    ensures { Sees externals (λ l. number_among l length.0 digits) (λ l. l.code) (bits s.now) start result }
 {
     let code = (bits::window(s, start) >> 53u32) as u32;
     let entries = entries_at(s, start + 4, code, length, digits);

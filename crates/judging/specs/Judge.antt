@@ -11,9 +11,9 @@ use Rattle.judging.specs.declared.Judged.TheVariants.{Part, Other}
 abbrev pub holdable : Head → Bool
 holdable h = eqb h.kind 12 && (leb 1 h.result && (leb h.result 2 && eqb h.code 1))
 
-abbrev pub mayHold : Record → Bool
-mayHold r = holdable (head_of r)
+abbrev pub may_hold : Record → Bool
+may_hold r = holdable (head_of r)
 
 -- its user and its part, if an archive may hold it
-unfoldable pub judgedIs : Head → Judged
-judgedIs h = pick (holdable h) (Part h.user h.result) Other
+unfoldable pub judged_is : Head → Judged
+judged_is h = pick (holdable h) (Part h.user h.result) Other

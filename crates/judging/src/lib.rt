@@ -1,6 +1,6 @@
 // Judging an accepted PDU: whether an archive may hold it, for which user, and as which part.
 ghost use Rattle.std.specs.Prelude.{◌≡◌};
-ghost use Rattle.judging.specs.Judge.{judgedIs};
+ghost use Rattle.judging.specs.Judge.{judged_is};
 
 use grammar::record::Identity;
 use walk::Head;
@@ -13,7 +13,7 @@ pub enum Judged {
 }
 
 pub fn judge(head: Head) -> Judged
-    ensures { result ≡ judgedIs head }
+    ensures { result ≡ judged_is head }
 {
     if head.kind != 12 {
         return Judged::Other;

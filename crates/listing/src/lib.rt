@@ -1,11 +1,11 @@
 // The listing of an archive as text: a line for the header, then a line for each PDU held; and what the program `contents` prints.
 ghost use Rattle.std.specs.Prelude.{◌≡◌, true, ◌+◌, ◌*◌, ◌≤◌, length};
 ghost use Rattle.bits.specs.Inner.{Laid};
-ghost use Rattle.archive.specs.Model.{headerWidth, entryWidth};
-ghost use Rattle.archive.specs.Reading.{count_of, isArchive, reading};
-ghost use Rattle.listing.specs.Inner.{linesIn};
-ghost use Rattle.listing.specs.Listing.{item, line, twoItems, firstLine, listing, listIs, listOut};
-ghost use Rattle.listing.specs.Listing.{refusedLine, faultText, lengthWithin, textWithin, reportIs, reportOut, toldOut};
+ghost use Rattle.archive.specs.Model.{header_width, entry_width};
+ghost use Rattle.archive.specs.Reading.{count_of, is_archive, reading};
+ghost use Rattle.listing.specs.Inner.{lines_in};
+ghost use Rattle.listing.specs.Listing.{item, line, two_items, first_line, listing, list_is, list_out};
+ghost use Rattle.listing.specs.Listing.{refused_line, fault_text, length_within, text_within, report_is, report_out, told_out};
 
 use archive::{Checked, Entry, EntryPlace, Refusal, Stored, entry_count, nth_entry};
 use text::{append, digits_of, write_number};
@@ -22,8 +22,8 @@ fn write_item(out: &mut [u8], at: usize, n: usize, word: &[u8]) -> usize
 
 // Writes a line of two numbers, each after its word.
 fn write_two_items(out: &mut [u8], word: &[u8], n: usize, other: &[u8], m: usize) -> usize
-    requires { length (twoItems word.now n other.now m) ≤ length out.old }
-    ensures { Laid out.old 0 (twoItems word.now n other.now m) out.new result }
+    requires { length (two_items word.now n other.now m) ≤ length out.old }
+    ensures { Laid out.old 0 (two_items word.now n other.now m) out.new result }
 {
     let first_at = append(out, 0, word);
     let second_at = write_item(out, first_at, n, other);
@@ -32,8 +32,8 @@ fn write_two_items(out: &mut [u8], word: &[u8], n: usize, other: &[u8], m: usize
 
 // Writes the line of the header.
 fn write_first(out: &mut [u8], home: u32, count: usize) -> usize
-    requires { length (firstLine home count) ≤ length out.old }
-    ensures { Laid out.old 0 (firstLine home count) out.new result }
+    requires { length (first_line home count) ≤ length out.old }
+    ensures { Laid out.old 0 (first_line home count) out.new result }
 {
     write_two_items(out, b"home ", home as usize, b" entries ", count)
 }
@@ -53,9 +53,9 @@ fn write_line(out: &mut [u8], at: usize, entry: Entry) -> usize
 
 // Writes the lines of all entries.
 fn write_lines(archive: &[u8], out: &mut [u8], start: usize) -> usize
-    requires archive_in_bounds { headerWidth + entryWidth * count_of archive.now ≤ length archive.now }
-    requires archive_in_bounds_2 { start + length (linesIn archive.now) ≤ length out.old }
-    ensures { Laid out.old start (linesIn archive.now) out.new result }
+    requires archive_in_bounds { header_width + entry_width * count_of archive.now ≤ length archive.now }
+    requires archive_in_bounds_2 { start + length (lines_in archive.now) ≤ length out.old }
+    ensures { Laid out.old start (lines_in archive.now) out.new result }
 {
     let count = entry_count(archive);
     let mut index = 0;
@@ -69,7 +69,7 @@ fn write_lines(archive: &[u8], out: &mut [u8], start: usize) -> usize
 
 // Writes the whole text.
 fn write_text(archive: &[u8], out: &mut [u8]) -> usize
-    requires { (isArchive archive.now ≡ true) × (length (listing (reading archive.now)) ≤ length out.old) }
+    requires { (is_archive archive.now ≡ true) × (length (listing (reading archive.now)) ≤ length out.old) }
     ensures { Laid out.old 0 (listing (reading archive.now)) out.new result }
 {
     let lines_at = write_first(out, archive::home(archive), entry_count(archive));
@@ -94,7 +94,7 @@ fn line_length(entry: Entry) -> usize
 
 // The length of the whole text.
 fn text_length(archive: &[u8]) -> usize
-    requires { isArchive archive.now ≡ true }
+    requires { is_archive archive.now ≡ true }
     ensures { result ≡ length (listing (reading archive.now)) }
 {
     let count = entry_count(archive);
@@ -110,8 +110,8 @@ fn text_length(archive: &[u8]) -> usize
 
 // Lists an archive: writes the text to the lent buffer.
 pub fn list(archive: &[u8], out: &mut [u8]) -> Stored
-    ensures value { result ≡ listIs archive.now (length out.old) }
-    ensures out_after { out.new ≡ listOut archive.now out.old }
+    ensures value { result ≡ list_is archive.now (length out.old) }
+    ensures out_after { out.new ≡ list_out archive.now out.old }
 {
     let checked = archive::check(archive);
     if let Checked::Refused(refusal) = checked {
@@ -125,17 +125,17 @@ pub fn list(archive: &[u8], out: &mut [u8]) -> Stored
 
 // Writes `refused 7` on a line, where there is room for it.
 fn write_refused(out: &mut [u8]) -> usize
-    ensures value { result ≡ lengthWithin refusedLine (length out.old) }
-    ensures out_after { out.new ≡ textWithin refusedLine out.old }
+    ensures value { result ≡ length_within refused_line (length out.old) }
+    ensures out_after { out.new ≡ text_within refused_line out.old }
 {
     append(out, 0, b"refused 7\n")
 }
 
 // Writes the listing, where there is room for it.
 fn write_listing(archive: &[u8], out: &mut [u8]) -> usize
-    requires { isArchive archive.now ≡ true }
-    ensures value { result ≡ lengthWithin (listing (reading archive.now)) (length out.old) }
-    ensures out_after { out.new ≡ textWithin (listing (reading archive.now)) out.old }
+    requires { is_archive archive.now ≡ true }
+    ensures value { result ≡ length_within (listing (reading archive.now)) (length out.old) }
+    ensures out_after { out.new ≡ text_within (listing (reading archive.now)) out.old }
 {
     if out.len() < text_length(archive) {
         return 0;
@@ -145,8 +145,8 @@ fn write_listing(archive: &[u8], out: &mut [u8]) -> usize
 
 // Writes `entry I` on a line, where there is room for it.
 fn write_entry(out: &mut [u8], index: usize) -> usize
-    ensures value { result ≡ lengthWithin (faultText (EntryPlace.At index) BitPlace.Nowhere) (length out.old) }
-    ensures out_after { out.new ≡ textWithin (faultText (EntryPlace.At index) BitPlace.Nowhere) out.old }
+    ensures value { result ≡ length_within (fault_text (EntryPlace.At index) BitPlace.Nowhere) (length out.old) }
+    ensures out_after { out.new ≡ text_within (fault_text (EntryPlace.At index) BitPlace.Nowhere) out.old }
 {
     if out.len() < 7 + digits_of(index) {
         return 0;
@@ -157,8 +157,8 @@ fn write_entry(out: &mut [u8], index: usize) -> usize
 
 // Writes `entry I bit P` on a line, where there is room for it.
 fn write_entry_bit(out: &mut [u8], index: usize, bit: usize) -> usize
-    ensures value { result ≡ lengthWithin (faultText (EntryPlace.At index) (BitPlace.At bit)) (length out.old) }
-    ensures out_after { out.new ≡ textWithin (faultText (EntryPlace.At index) (BitPlace.At bit)) out.old }
+    ensures value { result ≡ length_within (fault_text (EntryPlace.At index) (BitPlace.At bit)) (length out.old) }
+    ensures out_after { out.new ≡ text_within (fault_text (EntryPlace.At index) (BitPlace.At bit)) out.old }
 {
     if out.len() < 12 + digits_of(index) + digits_of(bit) {
         return 0;
@@ -168,8 +168,8 @@ fn write_entry_bit(out: &mut [u8], index: usize, bit: usize) -> usize
 
 // Writes where a body is at fault, if the refusal says so and there is room for it.
 fn write_fault(refusal: Refusal, out: &mut [u8]) -> usize
-    ensures value { result ≡ lengthWithin (faultText refusal.entry refusal.place) (length out.old) }
-    ensures out_after { out.new ≡ textWithin (faultText refusal.entry refusal.place) out.old }
+    ensures value { result ≡ length_within (fault_text refusal.entry refusal.place) (length out.old) }
+    ensures out_after { out.new ≡ text_within (fault_text refusal.entry refusal.place) out.old }
 {
     let entry = refusal.entry;
     let place = refusal.place;
@@ -192,9 +192,9 @@ pub struct Reported {
 // What the program `contents` prints of its input: writes the listing, or `refused 7` for what is no archive, to one lent buffer, and where a
 // body is at fault to the other. A text is left out, and its buffer as it was, if it is longer than the buffer.
 pub fn report(archive: &[u8], out: &mut [u8], told: &mut [u8]) -> Reported
-    ensures value { result ≡ reportIs archive.now (length out.old) (length told.old) }
-    ensures out_after { out.new ≡ reportOut archive.now out.old }
-    ensures told_after { told.new ≡ toldOut archive.now told.old }
+    ensures value { result ≡ report_is archive.now (length out.old) (length told.old) }
+    ensures out_after { out.new ≡ report_out archive.now out.old }
+    ensures told_after { told.new ≡ told_out archive.now told.old }
 {
     match archive::check(archive) {
         Checked::Refused(refusal) => Reported {

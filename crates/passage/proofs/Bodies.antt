@@ -1,14 +1,14 @@
 -- The parts of an INTERROGATE ACK with one affected user, each with the value that its record has. Assumes nothing.
 use Rattle.std.proofs.Common.{◌≡◌, ℕ, ◌+◌, Bool, List, length, ap, ◌∙◌, subst}
-use Rattle.bits.proofs.Numbers.{length-bitsOf}
+use Rattle.bits.proofs.Numbers.{length-bits_of}
 use Rattle.codec.specs.Parts.{tested}
 use Rattle.codec.specs.Places.{places}
-use Rattle.codec.proofs.Reading.{readAt-legal}
+use Rattle.codec.proofs.Reading.{read_at-legal}
 use Rattle.codec.proofs.Filling.{places-rest}
-use Rattle.grammar.specs.SiteSheet.{ssType, rangeType, rowOf, entriesOf, rangeRefusal, pduType, kindRefusal}
-use Rattle.grammar.specs.Grammar.{identity, noIdentity, zeroIdentity, rangeEnds, secondEnd, identities, services, externals, noIdentities}
-use Rattle.grammar.specs.Grammar.{identityPart, numberPart, part_of, interrogationResult, interrogateAck, rest_of, pdu, fromRecord}
-use Rattle.grammar.specs.Rows.{formOf, run_of}
+use Rattle.grammar.specs.SiteSheet.{ss_type, range_type, row_of, entries_of, range_refusal, pdu_type, kind_refusal}
+use Rattle.grammar.specs.Grammar.{identity, no_identity, zero_identity, range_ends, second_end, identities, services, externals, no_identities}
+use Rattle.grammar.specs.Grammar.{identity_part, number_part, part_of, interrogation_result, interrogate_ack, rest_of, pdu, from_record}
+use Rattle.grammar.specs.Rows.{form_of, run_of}
 use Rattle.grammar.specs.declared.record.Figures.{Figures}
 use Rattle.grammar.specs.declared.record.Identities.{Identities}
 use Rattle.grammar.specs.declared.record.Lists.{Lists}
@@ -16,25 +16,25 @@ use Rattle.grammar.specs.declared.record.Record.{Record}
 use Rattle.grammar.specs.declared.site.ListKind.TheVariants as of
 use Rattle.grammar.specs.declared.site.PduType.TheVariants as type
 use Rattle.grammar.proofs.Rows.{figures-print}
-use Rattle.grammar.proofs.Steps.{noIdentity-at, noIdentities-at}
+use Rattle.grammar.proofs.Steps.{no_identity-at, no_identities-at}
 use Rattle.passage.specs.Passage.{Read, ReadTo}
 use Rattle.passage.proofs.Splits.{read-once, split-seq, split-shaped, split-tested, split-headed, split-mark, split-cons}
 
 -- ---- the affected user
 
 module _ {s : List Bool} {l : Identities} {end : ℕ} (r : Read (identities of.Users) s 11 l end) (one : l.code ≡ 1) where
-  entries : Read (places identity noIdentity 8 1) s 15 l.entries end
-  unfolding identities rowOf rangeType
+  entries : Read (places identity no_identity 8 1) s 15 l.entries end
+  unfolding identities row_of range_type
   entries =
-      let h = split-headed 4 (rangeRefusal of.Users) (λ n. tested (places identity noIdentity 8 (entriesOf n)) (rangeEnds n) secondEnd)
+      let h = split-headed 4 (range_refusal of.Users) (λ n. tested (places identity no_identity 8 (entries_of n)) (range_ends n) second_end)
       (split-shaped _ _ _ _ _ r) in
       rw one at (split-tested _ _ _ h.rest).0
 
   only-user : ReadTo identity s 15 end
   unfolding places
   only-user =
-      let x = split-cons identity (places identity noIdentity 7 0) entries in
-      let none = places-rest identity noIdentity s zeroIdentity (noIdentity-at s) 7 x.middle in
+      let x = split-cons identity (places identity no_identity 7 0) entries in
+      let none = places-rest identity no_identity s zero_identity (no_identity-at s) 7 x.middle in
       let end_is : x.middle ≡ end = cc (x.then.same, none) in
       record { value = x.entry; read = rw end_is at x.first }
 
@@ -48,24 +48,24 @@ pub record Parts (s : List Bool) (r : Record) (end : ℕ) : Type 0 where
   pub served : Read services s (figures-at + 5) r.services lists_at
   pub listed : Read (part_of r.figures.result) s lists_at r.lists end
 
-figures-end : (s : List Bool) {at end : ℕ} {f : Figures} → Read interrogationResult s at f end → end ≡ at + 5
-unfolding formOf
+figures-end : (s : List Bool) {at end : ℕ} {f : Figures} → Read interrogation_result s at f end → end ≡ at + 5
+unfolding form_of
 figures-end s {at} {end} {f} r =
-    (readAt-legal interrogationResult s at f end r.same).1
-    ∙ ap (λ (n : ℕ). at + n) (ap length (figures-print type.InterrogateAck f) ∙ length-bitsOf 5 (run_of type.InterrogateAck f))
+    (read_at-legal interrogation_result s at f end r.same).1
+    ∙ ap (λ (n : ℕ). at + n) (ap length (figures-print type.InterrogateAck f) ∙ length-bits_of 5 (run_of type.InterrogateAck f))
 
 module _ (s : List Bool) (r : Record) {end : ℕ} (x : Read pdu s 0 r end) (kind : r.kind ≡ 12) (one : r.affected.code ≡ 1) where
-  rest : Read interrogateAck s 11 (fromRecord r).1 end
-  unfolding pdu pduType
+  rest : Read interrogate_ack s 11 (from_record r).1 end
+  unfolding pdu pdu_type
   rest =
-      let h = split-headed 5 kindRefusal (λ k. rest_of (pduType k)) (split-shaped _ _ _ _ _ (split-mark 6 ssType _ x)) in
+      let h = split-headed 5 kind_refusal (λ k. rest_of (pdu_type k)) (split-shaped _ _ _ _ _ (split-mark 6 ss_type _ x)) in
       rw kind at h.rest
 
   pub parts : Parts s r end
-  unfolding interrogateAck
+  unfolding interrogate_ack
   parts =
       let u = split-seq (identities of.Users) _ rest in
-      let f = split-seq interrogationResult _ u.then in
+      let f = split-seq interrogation_result _ u.then in
       let v = split-seq services _ f.then in
       record {
         figures-at = u.middle;
@@ -86,7 +86,7 @@ pub record IdentityLists (s : List Bool) (at : ℕ) (l : Lists) : Type 0 where
   pub exceptions : Read (identities of.Identities) s exceptions-at l.exceptions end
 
 pub identity-lists : {s : List Bool} {at end result : ℕ} {l : Lists} → result ≡ 1 → Read (part_of result) s at l end → IdentityLists s at l
-unfolding identityPart
+unfolding identity_part
 identity-lists e r =
     let g = split-seq _ _ (split-shaped _ _ _ _ _ (rw e at r)) in
     let t = split-seq _ _ g.then in
@@ -109,11 +109,11 @@ pub record NumberLists (s : List Bool) (at : ℕ) (l : Lists) : Type 0 where
   pub excepted : Read externals s excepted-at l.excepted end
 
 -- a list that is not carried ends where it begins
-nowhere : {s : List Bool} {at end : ℕ} {l : Identities} → Read noIdentities s at l end → end ≡ at
-nowhere {s} {at} r = (read-once r (record { same = noIdentities-at s at })).1
+nowhere : {s : List Bool} {at end : ℕ} {l : Identities} → Read no_identities s at l end → end ≡ at
+nowhere {s} {at} r = (read-once r (record { same = no_identities-at s at })).1
 
 pub number-lists : {s : List Bool} {at end result : ℕ} {l : Lists} → result ≡ 2 → Read (part_of result) s at l end → NumberLists s at l
-unfolding numberPart
+unfolding number_part
 number-lists {s} {at} {end} {l = l} e r =
     let g = split-seq _ _ (split-shaped _ _ _ _ _ (rw e at r)) in
     let t = split-seq _ _ g.then in

@@ -2,10 +2,10 @@
 -- Assumes nothing.
 use Rattle.std.proofs.Common.{◌≡◌, ℕ, ◌+◌, Bool, true, List, sym, ap, ◌∙◌, subst}
 use Rattle.codec.specs.Codec.{Codec}
-use Rattle.codec.specs.Parts.{number, numberFault, element, seq, tested, shaped, mark, only, first-none}
+use Rattle.codec.specs.Parts.{number, number_fault, element, seq, tested, shaped, mark, only, first-none}
 use Rattle.codec.specs.Places.{places}
-use Rattle.codec.specs.Reading.{got, andNext, unlessAt, readAt}
-use Rattle.codec.proofs.Reading.{readAt-seq, readAt-tested, readAt-shaped, readAt-legal, mark-at}
+use Rattle.codec.specs.Reading.{got, and_next, unless_at, read_at}
+use Rattle.codec.proofs.Reading.{read_at-seq, read_at-tested, read_at-shaped, read_at-legal, mark-at}
 use Rattle.walk.proofs.Numbers.{element-says}
 use Rattle.passage.specs.Passage.{Read, Reads}
 use Rattle.passage.proofs.Elements.{steps, first_reads, passed, number-end}
@@ -14,39 +14,39 @@ use Rattle.passage.proofs.Elements.{steps, first_reads, passed, number-end}
 
 module _ {A B : Type 0} (c : Codec A) (d : A → Codec B) {s : List Bool} {at : ℕ} where
   pub reads_first : Reads (seq c d) s at → Reads c s at
-  reads_first r = first_reads (steps _ _ (sym (readAt-seq c d s at) ∙ r.read.same))
+  reads_first r = first_reads (steps _ _ (sym (read_at-seq c d s at) ∙ r.read.same))
 
   pub reads-next : {a : A} {m : ℕ} → Reads (seq c d) s at → Read c s at a m → Reads (d a) s m
   reads-next {a} {m} r e =
-      let whole : readAt (seq c d) s at ≡ andNext (readAt (d a) s m) (λ b end. got (a, b) end) = readAt-seq c d s at ∙ rw e.same in
+      let whole : read_at (seq c d) s at ≡ and_next (read_at (d a) s m) (λ b end. got (a, b) end) = read_at-seq c d s at ∙ rw e.same in
       first_reads (steps _ _ (sym whole ∙ r.read.same))
 
   pub read-then : {a : A} {b : B} {m end : ℕ} → Read c s at a m → Read (d a) s m b end → Read (seq c d) s at (a, b) end
-  read-then e f = record { same = readAt-seq c d s at ∙ rw (e.same, f.same) }
+  read-then e f = record { same = read_at-seq c d s at ∙ rw (e.same, f.same) }
 
 -- ---- a part under another shape
 
 module _ {A B : Type 0} (c : Codec A) (to : A → B) (from : B → A)
     (there : (a : A) → c.clean a ≡ true → c.fault a ≡ 0 → from (to a) ≡ a) (back : (b : B) → to (from b) ≡ b) {s : List Bool} {at : ℕ} where
   pub reads-shaped : Reads (shaped c to from there back) s at → Reads c s at
-  reads-shaped r = first_reads (steps _ _ (sym (readAt-shaped c to from there back s at) ∙ r.read.same))
+  reads-shaped r = first_reads (steps _ _ (sym (read_at-shaped c to from there back s at) ∙ r.read.same))
 
   pub read-shaped : {a : A} {end : ℕ} → Read c s at a end → Read (shaped c to from there back) s at (to a) end
-  read-shaped r = record { same = readAt-shaped c to from there back s at ∙ rw r.same }
+  read-shaped r = record { same = read_at-shaped c to from there back s at ∙ rw r.same }
 
 -- ---- a part with a test after it, which a legal PDU passes
 
 module _ {A : Type 0} (c : Codec A) (refuse into : A → ℕ) {s : List Bool} {at : ℕ} (r : Reads (tested c refuse into) s at) where
   pub reads-tested : Reads c s at
-  reads-tested = first_reads (steps _ _ (sym (readAt-tested c refuse into s at) ∙ r.read.same))
+  reads-tested = first_reads (steps _ _ (sym (read_at-tested c refuse into s at) ∙ r.read.same))
 
   pub tested-read : {a : A} {end : ℕ} → Read c s at a end → Read (tested c refuse into) s at a end
   tested-read {a} {end} e =
-      let x = steps (readAt c s at) (λ v m. unlessAt (refuse v) (at + into v) (got v m)) (sym (readAt-tested c refuse into s at) ∙ r.read.same)
+      let x = steps (read_at c s at) (λ v m. unless_at (refuse v) (at + into v) (got v m)) (sym (read_at-tested c refuse into s at) ∙ r.read.same)
       in
       let va : x.value ≡ a = cc (x.first, e.same) in
       let t : refuse a ≡ 0 = rw va at (passed (refuse x.value) (at + into x.value) (got x.value x.next) x.then).0 in
-      record { same = readAt-tested c refuse into s at ∙ rw (e.same, t) }
+      record { same = read_at-tested c refuse into s at ∙ rw (e.same, t) }
 
 module _ (w : ℕ) (refuse : ℕ → ℕ) {s : List Bool} {at : ℕ} (r : Reads (element w refuse) s at) where
   pub reads-element : Reads (number w) s at
@@ -72,7 +72,7 @@ module _ {A B : Type 0} (w : ℕ) (refuse : ℕ → ℕ) (d : ℕ → Codec A) (
   pub head_passed : {v m : ℕ} → Read (number w) s at v m → refuse v ≡ 0
   unfolding element tested number
   head_passed {v} {m} e =
-      (first-none (numberFault w v) (refuse v) (readAt-legal (element w refuse) s at v m (head_read e).same).0.faultless).1
+      (first-none (number_fault w v) (refuse v) (read_at-legal (element w refuse) s at v m (head_read e).same).0.faultless).1
 
   pub rest-reads : {v m : ℕ} → Read (number w) s at v m → Reads (d v) s m
   rest-reads e = reads-next _ d (reads-shaped _ to from there back r) (head_read e)
@@ -91,10 +91,10 @@ reads-used c z m e {s} {at} r = subst (λ (x : ℕ). Reads (places c z m x) s at
 -- ---- a fixed number before a part
 
 module _ {A : Type 0} (w v : ℕ) (c : Codec A) {s : List Bool} {at : ℕ} (r : Reads (mark w v c) s at) where
-  pub mark-read : readAt (mark w v c) s at ≡ readAt c s (at + w)
+  pub mark-read : read_at (mark w v c) s at ≡ read_at c s (at + w)
   mark-read =
-      let x = steps (readAt (element w (only v)) s at) (λ n m. readAt c s m) (sym (mark-at w v c s at) ∙ r.read.same) in
-      mark-at w v c s at ∙ rw x.first (ap (readAt c s) (number-end s at w (element-says w (only v) s at x.first).0))
+      let x = steps (read_at (element w (only v)) s at) (λ n m. read_at c s m) (sym (mark-at w v c s at) ∙ r.read.same) in
+      mark-at w v c s at ∙ rw x.first (ap (read_at c s) (number-end s at w (element-says w (only v) s at x.first).0))
 
   pub reads-mark : Reads c s (at + w)
   reads-mark = record { value = r.value; end = r.end; read = record { same = sym mark-read ∙ r.read.same } }

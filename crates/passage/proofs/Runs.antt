@@ -4,18 +4,18 @@ use native.Mathlib.Nat.{mul-mod_left}
 use lib.ListN.{get_or-append, get_or-eq_default}
 use lib.Pow.{shl-shr}
 use Rattle.bits.specs.Bits.{bits}
-use Rattle.bits.specs.Element.{windowAt}
+use Rattle.bits.specs.Element.{window_at}
 use Rattle.bits.proofs.Table as table
 use Rattle.codec.specs.Codec.{Codec}
 use Rattle.codec.specs.Parts.{number, absent, element}
 use Rattle.codec.specs.Places.{places}
-use Rattle.codec.specs.Reading.{Found, got, andNext, readAt}
-use Rattle.codec.proofs.Reading.{readAt-absent, readAt-cons}
+use Rattle.codec.specs.Reading.{Found, got, and_next, read_at}
+use Rattle.codec.proofs.Reading.{read_at-absent, read_at-cons}
 use Rattle.codec.proofs.Filling.{places-each}
-use Rattle.grammar.specs.SiteSheet.{digitRefusal, serviceRefusal}
+use Rattle.grammar.specs.SiteSheet.{digit_refusal, service_refusal}
 use Rattle.walk.proofs.Numbers.{element-says}
 use Rattle.passage.specs.Passage.{Read, Reads}
-use Rattle.passage.specs.Passed.{heldIn, twelveIn, sevenIn}
+use Rattle.passage.specs.Passed.{held_in, twelve_in, seven_in}
 use Rattle.passage.proofs.Elements.{steps, number-there, number-end, number-inside}
 use Rattle.passage.proofs.Parts.{element-read}
 
@@ -37,11 +37,11 @@ valued : {c : Codec ℕ} {p v v' end : ℕ} {s : List Bool} → v ≡ v' → Rea
 valued {c} {p} {v} {v'} {end} {s} e r = subst (λ (x : ℕ). Read c s p x end) e r
 
 -- w bits, o bits into those that are held, and k bits before their end
-module _ (s : List ℕ) (base skip whole used : ℕ) {v run : ℕ} (ev : v ≡ windowAt s base) (er : run ≡ heldIn v skip whole used)
+module _ (s : List ℕ) (base skip whole used : ℕ) {v run : ℕ} (ev : v ≡ window_at s base) (er : run ≡ held_in v skip whole used)
     (inside : skip + whole ≤ 57) (few : used ≤ whole) (w o k : ℕ) (after : k + (o + w) ≡ whole) where
   part-read : {p : ℕ} → p ≡ base + (skip + o) → 1 ≤ w → o + w ≤ used → p + w ≤ length (bits s)
       → Read (number w) (bits s) p (run / 2 ^ k % 2 ^ w) (p + w)
-  unfolding heldIn
+  unfolding held_in
   part-read {p} ep wide h there =
       let d : ℕ = whole - used in
       let a : ℕ = 57 - skip - used in
@@ -53,7 +53,7 @@ module _ (s : List ℕ) (base skip whole used : ℕ) {v run : ℕ} (ev : v ≡ w
       valued (ap (λ (x : ℕ). x % 2 ^ w) (sym same)) (record { same = number-inside s base w (skip + o) ep wide (omega arith) there ev })
 
   part_none : used ≤ o → run / 2 ^ k % 2 ^ w ≡ 0
-  unfolding heldIn
+  unfolding held_in
   part_none h =
       let d : ℕ = whole - used in
       let a : ℕ = 57 - skip - used in
@@ -68,15 +68,15 @@ module _ (s : List Bool) (w : ℕ) (refuse : ℕ → ℕ) where
   abbrev listing : ℕ → ℕ → Codec (List ℕ)
   listing m n = places (element w refuse) absent m n
 
-  each-reads : (m n at : ℕ) {end : ℕ} {l : List ℕ} → n ≤ m → readAt (listing m n) s at ≡ got l end → (i : ℕ) → i < n
+  each-reads : (m n at : ℕ) {end : ℕ} {l : List ℕ} → n ≤ m → read_at (listing m n) s at ≡ got l end → (i : ℕ) → i < n
       → Reads (element w refuse) s (at + w * i)
   unfolding places
   each-reads m zero at h e i k = absurd (omega arith)
   each-reads zero (suc n) at h e i k = absurd (omega arith)
   each-reads (suc m) (suc n) at h e i k =
-      let a = steps (readAt (element w refuse) s at) (λ x p. andNext (readAt (listing m n) s p) (λ t q. got (x ∷ t) q))
-      (sym (readAt-cons (element w refuse) (listing m n) s at) ∙ e) in
-      let b = steps (readAt (listing m n) s a.next) (λ t q. got (a.value ∷ t) q) a.then in
+      let a = steps (read_at (element w refuse) s at) (λ x p. and_next (read_at (listing m n) s p) (λ t q. got (x ∷ t) q))
+      (sym (read_at-cons (element w refuse) (listing m n) s at) ∙ e) in
+      let b = steps (read_at (listing m n) s a.next) (λ t q. got (a.value ∷ t) q) a.then in
       go i k (record { value = a.value; end = a.next; read = record { same = a.first } })
       (number-end s at w (element-says w refuse s at a.first).0) (λ j. each-reads m n a.next (omega arith) b.first j)
     where
@@ -92,7 +92,7 @@ module _ (s : List ℕ) (at w : ℕ) (refuse : ℕ → ℕ) (m n : ℕ) (wide : 
     (r : Reads (places (element w refuse) absent m n) (bits s) at) (l : List ℕ) (long : length l ≡ m)
     (used : (i : ℕ) → i < n → at + w * i + w ≤ length (bits s) → Read (number w) (bits s) (at + w * i) (get_or l i 0) (at + w * i + w))
     (unused : (i : ℕ) → n ≤ i → i < m → get_or l i 0 ≡ 0) where
-  one-read : (i : ℕ) → i < n → readAt (element w refuse) (bits s) (at + w * i) ≡ got (get_or l i 0) (at + w * suc i)
+  one-read : (i : ℕ) → i < n → read_at (element w refuse) (bits s) (at + w * i) ≡ got (get_or l i 0) (at + w * suc i)
   one-read i h =
       let e = each-reads (bits s) w refuse m n at few r.read.same i h in
       let there = number-there (bits s) (at + w * i) w wide (element-says w refuse (bits s) (at + w * i) e.read.same).0 in
@@ -103,9 +103,9 @@ module _ (s : List ℕ) (at w : ℕ) (refuse : ℕ → ℕ) (m n : ℕ) (wide : 
   listed = record {
     same =
         let start : at ≡ at + w * 0 = omega arith in
-        ap (readAt (places (element w refuse) absent m n) (bits s)) start
+        ap (read_at (places (element w refuse) absent m n) (bits s)) start
         ∙ places-each (element w refuse) absent (bits s) 0 m n (λ i. at + w * i) l long few one-read
-        (λ i p h k. readAt-absent (bits s) p ∙ ap {B = Found ℕ} (λ (x : ℕ). got x p) (sym (unused i h k)));
+        (λ i p h k. read_at-absent (bits s) p ∙ ap {B = Found ℕ} (λ (x : ℕ). got x p) (sym (unused i h k)));
   }
 
 -- ---- seven services, and 24 digits
@@ -114,68 +114,68 @@ length-values : (f : ℕ → ℕ) (i n : ℕ) → length (table.values f i n) �
 length-values f i zero = refl
 length-values f i (suc n) = ap suc (length-values f (suc i) n)
 
-pub seven_at : (run i : ℕ) → i < 7 → get_or (sevenIn run) i 0 ≡ run / 2 ^ (18 - 3 * i) % 8
-unfolding sevenIn
+pub seven_at : (run i : ℕ) → i < 7 → get_or (seven_in run) i 0 ≡ run / 2 ^ (18 - 3 * i) % 8
+unfolding seven_in
 seven_at run i h = table.at (λ i. run / 2 ^ (18 - 3 * i) % 8) 0 7 i h
 
-pub seven-long : (run : ℕ) → length (sevenIn run) ≡ 7
-unfolding sevenIn
+pub seven-long : (run : ℕ) → length (seven_in run) ≡ 7
+unfolding seven_in
 seven-long run = length-values (λ i. run / 2 ^ (18 - 3 * i) % 8) 0 7
 
-pub twelve-at : (run i : ℕ) → i < 12 → get_or (twelveIn run) i 0 ≡ run / 2 ^ (44 - 4 * i) % 16
-unfolding twelveIn
+pub twelve-at : (run i : ℕ) → i < 12 → get_or (twelve_in run) i 0 ≡ run / 2 ^ (44 - 4 * i) % 16
+unfolding twelve_in
 twelve-at run i h = table.at (λ i. run / 2 ^ (44 - 4 * i) % 16) 0 12 i h
 
-pub twelve-long : (run : ℕ) → length (twelveIn run) ≡ 12
-unfolding twelveIn
+pub twelve-long : (run : ℕ) → length (twelve_in run) ≡ 12
+unfolding twelve_in
 twelve-long run = length-values (λ i. run / 2 ^ (44 - 4 * i) % 16) 0 12
 
 -- and none behind them
-pub seven-none : (run i : ℕ) → 7 ≤ i → get_or (sevenIn run) i 0 ≡ 0
-seven-none run i h = get_or-eq_default (sevenIn run) 0 (omega (arith, seven-long run))
+pub seven-none : (run i : ℕ) → 7 ≤ i → get_or (seven_in run) i 0 ≡ 0
+seven-none run i h = get_or-eq_default (seven_in run) 0 (omega (arith, seven-long run))
 
-pub twelve-none : (run i : ℕ) → 12 ≤ i → get_or (twelveIn run) i 0 ≡ 0
-twelve-none run i h = get_or-eq_default (twelveIn run) 0 (omega (arith, twelve-long run))
+pub twelve-none : (run i : ℕ) → 12 ≤ i → get_or (twelve_in run) i 0 ≡ 0
+twelve-none run i h = get_or-eq_default (twelve_in run) 0 (omega (arith, twelve-long run))
 
 -- 24 are twelve and twelve
-pub early-digit : (high low i : ℕ) → i < 12 → get_or (twelveIn high ++ twelveIn low) i 0 ≡ get_or (twelveIn high) i 0
-early-digit high low i h = get_or-append (twelveIn high) (twelveIn low) 0 i (omega (arith, twelve-long high))
+pub early-digit : (high low i : ℕ) → i < 12 → get_or (twelve_in high ++ twelve_in low) i 0 ≡ get_or (twelve_in high) i 0
+early-digit high low i h = get_or-append (twelve_in high) (twelve_in low) 0 i (omega (arith, twelve-long high))
 
-pub late-digit : (high low i : ℕ) → 12 ≤ i → get_or (twelveIn high ++ twelveIn low) i 0 ≡ get_or (twelveIn low) (i - 12) 0
+pub late-digit : (high low i : ℕ) → 12 ≤ i → get_or (twelve_in high ++ twelve_in low) i 0 ≡ get_or (twelve_in low) (i - 12) 0
 late-digit high low i h =
-    let e : i ≡ length (twelveIn high) + (i - 12) = omega (arith, twelve-long high) in
-    ap (λ (x : ℕ). get_or (twelveIn high ++ twelveIn low) x 0) e ∙ get_or-append-add (twelveIn high) (twelveIn low) (i - 12) 0
+    let e : i ≡ length (twelve_in high) + (i - 12) = omega (arith, twelve-long high) in
+    ap (λ (x : ℕ). get_or (twelve_in high ++ twelve_in low) x 0) e ∙ get_or-append-add (twelve_in high) (twelve_in low) (i - 12) 0
 
 -- the services of a window that begins with their number
-pub services-read : (s : List ℕ) (at count : ℕ) → count ≤ 7 → Reads (places (element 3 serviceRefusal) absent 7 count) (bits s) (at + 3)
-    → {v run used : ℕ} → v ≡ windowAt s at → used ≡ 3 * count → run ≡ heldIn v 3 21 used
-    → Read (places (element 3 serviceRefusal) absent 7 count) (bits s) (at + 3) (sevenIn run) (at + 3 + 3 * count)
+pub services-read : (s : List ℕ) (at count : ℕ) → count ≤ 7 → Reads (places (element 3 service_refusal) absent 7 count) (bits s) (at + 3)
+    → {v run used : ℕ} → v ≡ window_at s at → used ≡ 3 * count → run ≡ held_in v 3 21 used
+    → Read (places (element 3 service_refusal) absent 7 count) (bits s) (at + 3) (seven_in run) (at + 3 + 3 * count)
 services-read s at count few r {v} {run} {used} ev eu er =
-    listed s (at + 3) 3 serviceRefusal 7 count (omega arith) few r (sevenIn run) (seven-long run)
+    listed s (at + 3) 3 service_refusal 7 count (omega arith) few r (seven_in run) (seven-long run)
     (λ i h there. valued (sym (seven_at run i (omega arith)))
     (part-read s at 3 21 used ev er (omega arith) (omega arith) 3 (3 * i) (18 - 3 * i) (omega arith) (omega arith) (omega arith) (omega arith) there))
     (λ i h k. seven_at run i k ∙ part_none s at 3 21 used ev er (omega arith) (omega arith) 3 (3 * i) (18 - 3 * i) (omega arith) (omega arith))
 
 -- the digits of a number, the first twelve from the window that begins with its length
 module _ (s : List ℕ) (at count first : ℕ) (half : first ≡ min count 12) (few : count ≤ 24)
-    (r : Reads (places (element 4 digitRefusal) absent 24 count) (bits s) (at + 5)) {v v' high low : ℕ}
-    (ev : v ≡ windowAt s at) (ev' : v' ≡ windowAt s (at + 53))
-    (eh : high ≡ heldIn v 5 48 (4 * first)) (el : low ≡ heldIn v' 0 48 (4 * (count - first))) where
-  early : (i : ℕ) → i < 12 → get_or (twelveIn high ++ twelveIn low) i 0 ≡ high / 2 ^ (44 - 4 * i) % 16
-  early i h = get_or-append (twelveIn high) (twelveIn low) 0 i (omega (arith, twelve-long high)) ∙ twelve-at high i h
+    (r : Reads (places (element 4 digit_refusal) absent 24 count) (bits s) (at + 5)) {v v' high low : ℕ}
+    (ev : v ≡ window_at s at) (ev' : v' ≡ window_at s (at + 53))
+    (eh : high ≡ held_in v 5 48 (4 * first)) (el : low ≡ held_in v' 0 48 (4 * (count - first))) where
+  early : (i : ℕ) → i < 12 → get_or (twelve_in high ++ twelve_in low) i 0 ≡ high / 2 ^ (44 - 4 * i) % 16
+  early i h = get_or-append (twelve_in high) (twelve_in low) 0 i (omega (arith, twelve-long high)) ∙ twelve-at high i h
 
-  late : (i j : ℕ) → i ≡ 12 + j → j < 12 → get_or (twelveIn high ++ twelveIn low) i 0 ≡ low / 2 ^ (44 - 4 * j) % 16
+  late : (i j : ℕ) → i ≡ 12 + j → j < 12 → get_or (twelve_in high ++ twelve_in low) i 0 ≡ low / 2 ^ (44 - 4 * j) % 16
   late i j e h =
-      ap (λ (x : ℕ). get_or (twelveIn high ++ twelveIn low) x 0) (e ∙ ap (λ (x : ℕ). x + j) (sym (twelve-long high)))
-      ∙ get_or-append-add (twelveIn high) (twelveIn low) j 0
+      ap (λ (x : ℕ). get_or (twelve_in high ++ twelve_in low) x 0) (e ∙ ap (λ (x : ℕ). x + j) (sym (twelve-long high)))
+      ∙ get_or-append-add (twelve_in high) (twelve_in low) j 0
       ∙ twelve-at low j h
 
   digit-read : (i : ℕ) → i < count → at + 5 + 4 * i + 4 ≤ length (bits s)
-      → Read (number 4) (bits s) (at + 5 + 4 * i) (get_or (twelveIn high ++ twelveIn low) i 0) (at + 5 + 4 * i + 4)
+      → Read (number 4) (bits s) (at + 5 + 4 * i) (get_or (twelve_in high ++ twelve_in low) i 0) (at + 5 + 4 * i + 4)
   digit-read i h there = go (ltb i 12) refl
     where
       go : (t : Bool) → ltb i 12 ≡ t
-          → Read (number 4) (bits s) (at + 5 + 4 * i) (get_or (twelveIn high ++ twelveIn low) i 0) (at + 5 + 4 * i + 4)
+          → Read (number 4) (bits s) (at + 5 + 4 * i) (get_or (twelve_in high ++ twelve_in low) i 0) (at + 5 + 4 * i + 4)
       go true t =
           let k : i < 12 = ltb-true i 12 t in
           valued (sym (early i k))
@@ -189,10 +189,10 @@ module _ (s : List ℕ) (at count first : ℕ) (half : first ≡ min count 12) (
           (part-read s (at + 53) 0 48 (4 * (count - first)) ev' el (omega arith) (omega arith) 4 (4 * j) (44 - 4 * j) (omega arith) (omega arith)
           (omega arith) (omega arith) there)
 
-  no_digit : (i : ℕ) → count ≤ i → i < 24 → get_or (twelveIn high ++ twelveIn low) i 0 ≡ 0
+  no_digit : (i : ℕ) → count ≤ i → i < 24 → get_or (twelve_in high ++ twelve_in low) i 0 ≡ 0
   no_digit i h k = go (ltb i 12) refl
     where
-      go : (t : Bool) → ltb i 12 ≡ t → get_or (twelveIn high ++ twelveIn low) i 0 ≡ 0
+      go : (t : Bool) → ltb i 12 ≡ t → get_or (twelve_in high ++ twelve_in low) i 0 ≡ 0
       go true t =
           let m : i < 12 = ltb-true i 12 t in
           early i m ∙ part_none s at 5 48 (4 * first) ev eh (omega arith) (omega arith) 4 (4 * i) (44 - 4 * i) (omega arith) (omega arith)
@@ -203,7 +203,7 @@ module _ (s : List ℕ) (at count first : ℕ) (half : first ≡ min count 12) (
           late i j e (omega arith)
           ∙ part_none s (at + 53) 0 48 (4 * (count - first)) ev' el (omega arith) (omega arith) 4 (4 * j) (44 - 4 * j) (omega arith) (omega arith)
 
-  pub digits-read : Read (places (element 4 digitRefusal) absent 24 count) (bits s) (at + 5) (twelveIn high ++ twelveIn low) (at + 5 + 4 * count)
+  pub digits-read : Read (places (element 4 digit_refusal) absent 24 count) (bits s) (at + 5) (twelve_in high ++ twelve_in low) (at + 5 + 4 * count)
   digits-read =
-      listed s (at + 5) 4 digitRefusal 24 count (omega arith) few r (twelveIn high ++ twelveIn low)
-      (length-append (twelveIn high) (twelveIn low) ∙ omega (arith, twelve-long high, twelve-long low)) digit-read no_digit
+      listed s (at + 5) 4 digit_refusal 24 count (omega arith) few r (twelve_in high ++ twelve_in low)
+      (length-append (twelve_in high) (twelve_in low) ∙ omega (arith, twelve-long high, twelve-long low)) digit-read no_digit

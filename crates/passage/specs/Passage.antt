@@ -2,11 +2,11 @@
 use Rattle.std.specs.Prelude.{◌≡◌, ℕ, ◌+◌, ◌≤◌, Bool, List, length}
 use Rattle.bits.specs.Bits.{bits}
 use Rattle.codec.specs.Codec.{Codec}
-use Rattle.codec.specs.Reading.{got, readAt}
+use Rattle.codec.specs.Reading.{got, read_at}
 
 -- the part c at a place is the value v, up to `end`
 pub record Read {A : Type 0} (c : Codec A) (s : List Bool) (at : ℕ) (v : A) (end : ℕ) : Type 0 where
-  pub same : readAt c s at ≡ got v end
+  pub same : read_at c s at ≡ got v end
 
 -- the part c is read at a place: some value, up to some place
 pub record Reads {A : Type 0} (c : Codec A) (s : List Bool) (at : ℕ) : Type 0 where

@@ -3,10 +3,10 @@
 ghost use Rattle.std.specs.Prelude.{◌≡◌, ◌+◌, ◌^◌, ◌<◌, ◌≤◌, min, slice_index};
 ghost use Rattle.codec.specs.Parts.{number};
 ghost use Rattle.grammar.specs.Grammar.{identity, services, external};
-ghost use Rattle.grammar.specs.Rows.{figuresOf};
+ghost use Rattle.grammar.specs.Rows.{figures_of};
 ghost use Rattle.passage.specs.Passage.{Passes, Spans};
-ghost use Rattle.passage.specs.Passed.{onward, numberPassed, identityPassed, width_at, figuresPassed, heldIn, servicesPassed, externalPassed};
-ghost use Rattle.passage.specs.Passed.{servicesIn, lowIn, number_in, twelveIn};
+ghost use Rattle.passage.specs.Passed.{onward, number_passed, identity_passed, width_at, figures_passed, held_in, services_passed, external_passed};
+ghost use Rattle.passage.specs.Passed.{services_in, low_in, number_in, twelve_in};
 
 use bits::DigitCount;
 use grammar::figures;
@@ -67,7 +67,7 @@ impl Passage {
 
     // A number of so many bits, at most 32.
     pub fn number(self, s: &[u8], width: usize) -> NumberPassed
-        ensures value { result ≡ numberPassed s.now self.at width }
+        ensures value { result ≡ number_passed s.now self.at width }
         ensures passes { Passes (number (min width 32)) s.now self.at result.value result.next.at }
     {
         let used = bits::least(width, 32);
@@ -80,7 +80,7 @@ impl Passage {
 
     // An identity: its SSI, its present bit, and its extension if that is 1.
     pub fn identity(self, s: &[u8]) -> IdentityPassed
-        ensures value { result ≡ identityPassed s.now self.at }
+        ensures value { result ≡ identity_passed s.now self.at }
         ensures passes { Passes identity s.now self.at result.value result.next.at }
     {
         let value = walk::identity_at(s, self.at);
@@ -107,8 +107,8 @@ impl Passage {
 
     // The figures of a PDU of a type.
     pub fn figures(self, s: &[u8], kind: PduType) -> FiguresPassed
-        ensures value { result ≡ figuresPassed s.now self.at kind }
-        ensures passes { Passes (figuresOf kind) s.now self.at result.value result.next.at }
+        ensures value { result ≡ figures_passed s.now self.at kind }
+        ensures passes { Passes (figures_of kind) s.now self.at result.value result.next.at }
     {
         let form = figures::form_of(kind);
         FiguresPassed {
@@ -119,8 +119,8 @@ impl Passage {
 
     // The services: their number and all of them stand in one window.
     pub fn services(self, s: &[u8]) -> ServicesPassed
-        ensures value { result ≡ servicesPassed s.now self.at }
-        ensures passes { Passes services s.now self.at (servicesIn result) result.next.at }
+        ensures value { result ≡ services_passed s.now self.at }
+        ensures passes { Passes services s.now self.at (services_in result) result.next.at }
     {
         let window = bits::window(s, self.at);
         let count = (window >> 54u32) as usize;
@@ -133,7 +133,7 @@ impl Passage {
 
     // An external number: its length and twelve digits stand in one window.
     pub fn external(self, s: &[u8]) -> ExternalPassed
-        ensures value { result ≡ externalPassed s.now self.at }
+        ensures value { result ≡ external_passed s.now self.at }
         ensures passes { Passes external s.now self.at (number_in s.now result) result.next.at }
     {
         let window = bits::window(s, self.at);
@@ -150,7 +150,7 @@ impl Passage {
 impl ServicesPassed {
     // The service in one of the seven places; 0 in no place.
     pub fn service(self, i: usize) -> u32
-        ensures { result ≡ slice_index (servicesIn self).list i }
+        ensures { result ≡ slice_index (services_in self).list i }
     {
         if 6 < i {
             return 0;
@@ -162,7 +162,7 @@ impl ServicesPassed {
 impl ExternalPassed {
     // The last twelve places as one number.
     pub fn low(self, s: &[u8]) -> u64
-        ensures { result ≡ lowIn s.now self }
+        ensures { result ≡ low_in s.now self }
     {
         let count = bits::least(self.length.0 as usize, 24);
         let used = count - bits::least(count, 12);
@@ -183,7 +183,7 @@ impl ExternalPassed {
 
 // One of twelve digits that stand in one number; 0 in no place.
 pub fn twelfth(run: u64, i: usize) -> u8
-    ensures { result ≡ slice_index (twelveIn run) i }
+    ensures { result ≡ slice_index (twelve_in run) i }
 {
     if 11 < i {
         return 0;
@@ -194,7 +194,7 @@ pub fn twelfth(run: u64, i: usize) -> u8
 // The `used` bits after the first `skip` of a window, and zeros after them: `whole` bits, below those that were skipped.
 fn held(window: u64, skip: usize, whole: usize, used: usize) -> u64
     requires { (window < 2 ^ 57) × (used ≤ whole) × (skip + whole ≤ 57) }
-    ensures { result ≡ heldIn window skip whole used }
+    ensures { result ≡ held_in window skip whole used }
 {
     (window >> (57 - skip - used)) << (whole - used)
 }

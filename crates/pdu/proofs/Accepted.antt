@@ -11,27 +11,27 @@ use Rattle.bits.specs.Lists.{Each}
 use Rattle.bits.proofs.Tests.{by-test}
 use Rattle.codec.specs.Codec.{Codec, Legal}
 use Rattle.codec.proofs.Legality.{legal-seq, legal-shaped, legal-tested, legal-mark, legal-number, legal-absent, legal-places}
-use Rattle.grammar.specs.SiteSheet.{entriesOf, pduType}
-use Rattle.grammar.specs.Grammar.{extension, identity, noIdentity, zeroIdentity, identities, noIdentities, Rest, fromRecord, pdu}
-use Rattle.grammar.specs.Rows.{formOf, usersIf, rowed}
+use Rattle.grammar.specs.SiteSheet.{entries_of, pdu_type}
+use Rattle.grammar.specs.Grammar.{extension, identity, no_identity, zero_identity, identities, no_identities, Rest, from_record, pdu}
+use Rattle.grammar.specs.Rows.{form_of, users_if, rowed}
 use Rattle.grammar.specs.declared.record.Identity.{Identity}
 use Rattle.grammar.specs.declared.record.Identities.{Identities}
 use Rattle.grammar.specs.declared.record.Record.{Record}
 use Rattle.grammar.proofs.Rows.{in_rows}
-use Rattle.reader.specs.Read.{readIs}
+use Rattle.reader.specs.Read.{read_is}
 use Rattle.reader.specs.declared.Answer.TheVariants.{Accepted}
-use Rattle.pdu.specs.Accepted.{acceptedAs}
+use Rattle.pdu.specs.Accepted.{accepted_as}
 use Rattle.pdu.proofs.RoundTrip as trip
 
-module _ (s : List ℕ) (n : ℕ) (e : (readIs s n).answer ≡ Accepted) where
-  with-record : readIs s n ≡ acceptedAs (readIs s n).found
-  with-record = λ i. record { answer = e i; found = (readIs s n).found }
+module _ (s : List ℕ) (n : ℕ) (e : (read_is s n).answer ≡ Accepted) where
+  with-record : read_is s n ≡ accepted_as (read_is s n).found
+  with-record = λ i. record { answer = e i; found = (read_is s n).found }
 
   pub accepted-framed : Framed s n
-  accepted-framed = trip.accepted-framed s n (readIs s n).found with-record
+  accepted-framed = trip.accepted-framed s n (read_is s n).found with-record
 
-  pub accepted-legal : Legal pdu (readIs s n).found
-  accepted-legal = trip.accepted-legal s n (readIs s n).found with-record
+  pub accepted-legal : Legal pdu (read_is s n).found
+  accepted-legal = trip.accepted-legal s n (read_is s n).found with-record
 
 -- ---- an identity's numbers have 24 bits
 
@@ -47,39 +47,39 @@ identity-small e h =
     (legal-number 24 e.extension) (λ l. omega (arith, legal-absent e.extension l)) in
     record { ssi = legal-number 24 e.ssi p.0; extension = fits (legal-seq _ _ _ p.1).1 }
 
-unused-small : (e : Identity) → Legal noIdentity e → Small e
-unfolding noIdentity
+unused-small : (e : Identity) → Legal no_identity e → Small e
+unfolding no_identity
 unused-small e h =
     let p = legal-seq _ _ _ (legal-shaped _ _ _ _ _ _ h) in
     record { ssi = omega (arith, legal-absent e.ssi p.0); extension = omega (arith, legal-absent e.extension (legal-seq _ _ _ p.1).1) }
 
-first_small : (l : List Identity) → Each Small l → Small (get_or l 0 zeroIdentity)
+first_small : (l : List Identity) → Each Small l → Small (get_or l 0 zero_identity)
 first_small [] h = record { ssi = omega arith; extension = omega arith }
 first_small (e ∷ l) (h, t) = h
 
 -- what follows the PDU type of a legal record is legal by its row
-pub row-legal : (r : Record) → Legal pdu r → Legal (rowed (pduType r.kind)) (fromRecord r).1
+pub row-legal : (r : Record) → Legal pdu r → Legal (rowed (pdu_type r.kind)) (from_record r).1
 unfolding pdu
 row-legal r h =
-    subst (λ (c : Codec Rest). Legal c (fromRecord r).1) (in_rows (pduType r.kind))
+    subst (λ (c : Codec Rest). Legal c (from_record r).1) (in_rows (pdu_type r.kind))
     (legal-seq _ _ _ (legal-shaped _ _ _ _ _ _ (legal-mark _ _ _ _ h))).1
 
 -- an affected user, or none
-listed_small : (users : Bool) (l : Identities) → Legal (usersIf users) l → Small (get_or l.entries 0 zeroIdentity)
-unfolding identities noIdentities
+listed_small : (users : Bool) (l : Identities) → Legal (users_if users) l → Small (get_or l.entries 0 zero_identity)
+unfolding identities no_identities
 listed_small true l h =
     let k = legal-tested _ _ _ _ (legal-seq _ _ _ (legal-shaped _ _ _ _ _ _ h)).1 in
-    first_small l.entries (legal-places Small identity-small unused-small 8 (entriesOf l.code) l.entries k).1
+    first_small l.entries (legal-places Small identity-small unused-small 8 (entries_of l.code) l.entries k).1
 listed_small false l h =
     let k = (legal-seq _ _ _ (legal-shaped _ _ _ _ _ _ h)).1 in
     first_small l.entries (legal-places Small unused-small unused-small 8 0 l.entries k).1
 
-users-small : (r : Record) → Legal pdu r → Small (get_or r.affected.entries 0 zeroIdentity)
-users-small r h = listed_small (formOf (pduType r.kind)).users r.affected (legal-seq _ _ _ (row-legal r h)).0
+users-small : (r : Record) → Legal pdu r → Small (get_or r.affected.entries 0 zero_identity)
+users-small r h = listed_small (form_of (pdu_type r.kind)).users r.affected (legal-seq _ _ _ (row-legal r h)).0
 
-pub accepted-small : (s : List ℕ) (n : ℕ) → (readIs s n).answer ≡ Accepted
-    → ((get_or (readIs s n).found.affected.entries 0 zeroIdentity).ssi < 16777216)
-    × ((get_or (readIs s n).found.affected.entries 0 zeroIdentity).extension < 16777216)
+pub accepted-small : (s : List ℕ) (n : ℕ) → (read_is s n).answer ≡ Accepted
+    → ((get_or (read_is s n).found.affected.entries 0 zero_identity).ssi < 16777216)
+    × ((get_or (read_is s n).found.affected.entries 0 zero_identity).extension < 16777216)
 accepted-small s n e =
-    let k = users-small (readIs s n).found (accepted-legal s n e) in
+    let k = users-small (read_is s n).found (accepted-legal s n e) in
     (k.ssi, k.extension)

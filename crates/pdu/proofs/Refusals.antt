@@ -8,10 +8,10 @@ use Rattle.codec.specs.Codec.{Codec, first}
 use Rattle.codec.specs.Parts.{is_zero, number, absent, seq, tested, shaped}
 use Rattle.codec.specs.Places.{nil, cons}
 use Rattle.codec.proofs.Kept.{Kept}
-use Rattle.grammar.specs.SiteSheet.{kindRefusal}
+use Rattle.grammar.specs.SiteSheet.{kind_refusal}
 use Rattle.grammar.specs.Grammar.{pdu}
 use Rattle.grammar.proofs.Parts.{of-pdu}
-use Rattle.writer.specs.Write.{recordRefusal}
+use Rattle.writer.specs.Write.{record_refusal}
 use Rattle.grammar.specs.declared.record.Record.{Record}
 
 -- no refusal, 3 or 4
@@ -42,6 +42,6 @@ within = record {
 }
 
 -- a record is refused with 3 or 4, and nothing else
-pub refused-with : (r : Record) → ThreeOrFour (recordRefusal r)
-unfolding recordRefusal
-refused-with r = by-test ThreeOrFour (is_zero (kindRefusal r.kind) && pdu.clean r) (of-pdu ThreeOrFour none three four Within within r) three
+pub refused-with : (r : Record) → ThreeOrFour (record_refusal r)
+unfolding record_refusal
+refused-with r = by-test ThreeOrFour (is_zero (kind_refusal r.kind) && pdu.clean r) (of-pdu ThreeOrFour none three four Within within r) three

@@ -9,8 +9,8 @@ use Rattle.reader.specs.declared.Reading.{Reading}
 use Rattle.writer.specs.Write.{length_of}
 
 -- reading's answer: an accepted PDU and its record
-abbrev pub acceptedAs : Record → Reading
-acceptedAs r = record { answer = Accepted; found = r }
+abbrev pub accepted_as : Record → Reading
+accepted_as r = record { answer = Accepted; found = r }
 
 -- the PDU of n bits in the bytes s is the writing of a record: the record is legal, its elements' lengths come to n, and s holds its bits
 pub record WritingOf (s : List ℕ) (n : ℕ) (r : Record) : Type 0 where

@@ -4,9 +4,9 @@ use mathlib.Core.Bool.{true}
 use mathlib.Core.Option.{none}
 use Prim.Native.Nat.{ℕ}
 use Rattle.bits.proofs.Tests.{differ, false-unless}
-use Rattle.reader.specs.Read.{readIs}
-use Rattle.judging.specs.Judge.{mayHold}
-use Rattle.archive.specs.Keeping.{entryFor}
+use Rattle.reader.specs.Read.{read_is}
+use Rattle.judging.specs.Judge.{may_hold}
+use Rattle.archive.specs.Keeping.{entry_for}
 use Rattle.archive.proofs.Model.Bodies as bodies
 use Rattle.archive.proofs.Bytes.AsWritten as writing
 use Rattle.archive.proofs.Calls.Limits.{counted}
@@ -37,8 +37,8 @@ promise = record {
   not_found = λ b ok k r. not_found k b ok r;
   no-entry = λ s n a. (
     λ m home e l. false-unless _ (λ x.
-        differ (sym (subst (λ (k : ℕ). mayHold (readIs s k).found ≡ true) l (bodies.agrees-says home (record { entry = e; body = s }) x).may) ∙ m)),
-    λ none. false-unless _ (λ m. let e = entryFor 0 s n 0 in
+        differ (sym (subst (λ (k : ℕ). may_hold (read_is s k).found ≡ true) l (bodies.agrees-says home (record { entry = e; body = s }) x).may) ∙ m)),
+    λ none. false-unless _ (λ m. let e = entry_for 0 s n 0 in
         differ (sym (bodies.agrees-is 0 (record { entry = e; body = s }) (offered-agrees 0 s n 0 a m)) ∙ none 0 e refl)),
   );
 }

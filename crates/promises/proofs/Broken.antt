@@ -11,19 +11,19 @@ use Rattle.bits.specs.Lists.{Each}
 use Rattle.bits.proofs.Tests.{differ, never, false-unless}
 use Rattle.grammar.specs.declared.record.Record.{Record}
 use Rattle.walk.specs.declared.BitPlace.{BitPlace}
-use Rattle.reader.specs.Read.{refusalOf, readIs}
+use Rattle.reader.specs.Read.{refusal_of, read_is}
 use Rattle.reader.specs.declared.Answer.{Answer}
 use Rattle.reader.specs.declared.Answer.TheVariants as reader
 use Rattle.reader.specs.declared.Reading.{Reading}
 use Rattle.archive.specs.Model.{Held, Archive}
-use Rattle.archive.specs.Filing.{bodyAgrees}
+use Rattle.archive.specs.Filing.{body_agrees}
 use Rattle.archive.specs.Reading.{reading}
-use Rattle.archive.specs.Refusals.{plain, ofBody}
-use Rattle.archive.specs.Checking.{hasShape, bodyPlace, bodiesFrom, checkIs}
+use Rattle.archive.specs.Refusals.{plain, of_body}
+use Rattle.archive.specs.Checking.{has_shape, body_place, bodies_from, check_is}
 use Rattle.archive.specs.declared.refusal.Refusal.{Refusal}
 use Rattle.archive.specs.declared.checking.Checked.TheVariants as checked
 use Rattle.archive.proofs.Model.Bodies as bodies
-use Rattle.archive.proofs.Model.Checked.{archive-checked, checked-archive}
+use Rattle.archive.proofs.Model.Checked.{archive_checked, checked-archive}
 use Rattle.promises.specs.Archive.{Agrees}
 use Rattle.promises.specs.Broken.{number_of, AtFault, refused, unfit, FirstFault, Broken, shape, body, Promise}
 use Rattle.promises.proofs.Archive.Agreeing.{legal-read, read-legal, agrees-says, agrees-is}
@@ -34,43 +34,43 @@ pub mod Shape
 -- ---- the bodies
 
 module _ (home : ℕ) where
-  fault-says : (h : Held) → bodyAgrees home h ≡ false → AtFault home h (bodyPlace h)
-  fault-says h e = go (readIs h.body h.entry.bits.0).answer refl
+  fault-says : (h : Held) → body_agrees home h ≡ false → AtFault home h (body_place h)
+  fault-says h e = go (read_is h.body h.entry.bits.0).answer refl
     where
-      go : (x : Answer) → (readIs h.body h.entry.bits.0).answer ≡ x → AtFault home h (bodyPlace h)
+      go : (x : Answer) → (read_is h.body h.entry.bits.0).answer ≡ x → AtFault home h (body_place h)
       go reader.Accepted f =
-          subst (AtFault home h) (sym (ap (λ (y : Answer). (refusalOf y).place) f))
+          subst (AtFault home h) (sym (ap (λ (y : Answer). (refusal_of y).place) f))
           (unfit _ (read-legal h.body h.entry.bits.0 f) (λ g. differ (sym (agrees-is home h (_, g)) ∙ e)))
-      go (reader.Refused r) f = subst (AtFault home h) (sym (ap (λ (y : Answer). (refusalOf y).place) f)) (refused r f)
+      go (reader.Refused r) f = subst (AtFault home h) (sym (ap (λ (y : Answer). (refusal_of y).place) f)) (refused r f)
 
-  fault-is : (h : Held) (p : BitPlace) → AtFault home h p → (bodyAgrees home h ≡ false) × (bodyPlace h ≡ p)
+  fault-is : (h : Held) (p : BitPlace) → AtFault home h p → (body_agrees home h ≡ false) × (body_place h ≡ p)
   fault-is h p (refused f e) = (
     false-unless _ (λ t. let y = sym (bodies.agrees-says home h t).accepted ∙ e in never cc),
-    ap (λ (y : Answer). (refusalOf y).place) e,
+    ap (λ (y : Answer). (refusal_of y).place) e,
   )
   fault-is h p (unfit r l other) =
       let e = legal-read h.body h.entry.bits.0 r l in
-      let same : bodyAgrees home h ≡ true → Agrees home h r = λ t.
+      let same : body_agrees home h ≡ true → Agrees home h r = λ t.
       let x = agrees-says home h t in
       subst (Agrees home h) (ap (λ (y : Reading). y.found) (sym (legal-read h.body h.entry.bits.0 x.0 x.1.body) ∙ e)) x.1 in (
         false-unless _ (λ t. other (same t)),
-        ap (λ (x : Reading). (refusalOf x.answer).place) e,
+        ap (λ (x : Reading). (refusal_of x.answer).place) e,
       )
 
   -- a refusal found from the entry at an index on is that of a first fault
   record Found (i : ℕ) (hs : List Held) (f : Refusal) : Type 0 where
     pub index : ℕ
     pub place : BitPlace
-    pub is : f ≡ ofBody (i + index) place
+    pub is : f ≡ of_body (i + index) place
     pub first : FirstFault home hs index place
 
-  first_says : (i : ℕ) (hs : List Held) (f : Refusal) → bodiesFrom home i hs ≡ checked.Refused f → Found i hs f
-  unfolding bodiesFrom
+  first_says : (i : ℕ) (hs : List Held) (f : Refusal) → bodies_from home i hs ≡ checked.Refused f → Found i hs f
+  unfolding bodies_from
   first_says i [] f e = never cc
-  first_says i (h ∷ hs) f e = go (bodyAgrees home h) refl (λ x. first_says (suc i) hs f x) e
+  first_says i (h ∷ hs) f e = go (body_agrees home h) refl (λ x. first_says (suc i) hs f x) e
     where
-      go : (t : Bool) → bodyAgrees home h ≡ t → (bodiesFrom home (suc i) hs ≡ checked.Refused f → Found (suc i) hs f)
-          → pick t (bodiesFrom home (suc i) hs) (checked.Refused (ofBody i (bodyPlace h))) ≡ checked.Refused f → Found i (h ∷ hs) f
+      go : (t : Bool) → body_agrees home h ≡ t → (bodies_from home (suc i) hs ≡ checked.Refused f → Found (suc i) hs f)
+          → pick t (bodies_from home (suc i) hs) (checked.Refused (of_body i (body_place h))) ≡ checked.Refused f → Found i (h ∷ hs) f
       go true y rest x =
           let k = rest x in
           let g = k.first in
@@ -78,7 +78,7 @@ module _ (home : ℕ) where
           record {
             index = suc k.index;
             place = k.place;
-            is = k.is ∙ ap (λ (j : ℕ). ofBody j k.place) n;
+            is = k.is ∙ ap (λ (j : ℕ). of_body j k.place) n;
             first = record {
               before = h ∷ g.before;
               here = g.here;
@@ -91,48 +91,48 @@ module _ (home : ℕ) where
           }
       go false y rest x =
           let n : i ≡ i + 0 = sym (add-zero i) in
-          let same : ofBody i (bodyPlace h) ≡ f = cc x in
+          let same : of_body i (body_place h) ≡ f = cc x in
           record {
             index = 0;
-            place = bodyPlace h;
-            is = sym same ∙ ap (λ (j : ℕ). ofBody j (bodyPlace h)) n;
+            place = body_place h;
+            is = sym same ∙ ap (λ (j : ℕ). of_body j (body_place h)) n;
             first = record { before = []; here = h; after = hs; split = refl; standing = refl; agree = tt; fault = fault-says h y };
           }
 
   first-is : (i : ℕ) (pre : List Held) (h : Held) (post : List Held) (p : BitPlace) → Each (λ x. (r : Record) × Agrees home x r) pre → AtFault home h p
-      → bodiesFrom home i (pre ++ (h ∷ post)) ≡ checked.Refused (ofBody (i + length pre) p)
-  unfolding bodiesFrom
+      → bodies_from home i (pre ++ (h ∷ post)) ≡ checked.Refused (of_body (i + length pre) p)
+  unfolding bodies_from
   first-is i [] h post p all f =
       let k = fault-is h p f in
-      rw (k.0, k.1) (ap (λ (j : ℕ). checked.Refused (ofBody j p)) (sym (add-zero i)))
+      rw (k.0, k.1) (ap (λ (j : ℕ). checked.Refused (of_body j p)) (sym (add-zero i)))
   first-is i (x ∷ pre) h post p all f =
       let n : suc i + length pre ≡ i + suc (length pre) = omega arith in
-      rw (agrees-is home x all.0) (first-is (suc i) pre h post p all.1 f ∙ ap (λ (j : ℕ). checked.Refused (ofBody j p)) n)
+      rw (agrees-is home x all.0) (first-is (suc i) pre h post p all.1 f ∙ ap (λ (j : ℕ). checked.Refused (of_body j p)) n)
 
 -- ---- the whole
 
 module _ (b : List ℕ) where
-  refuses-says : (f : Refusal) → checkIs b ≡ checked.Refused f → Broken b f
-  unfolding checkIs
-  refuses-says f = go (hasShape b) refl
+  refuses-says : (f : Refusal) → check_is b ≡ checked.Refused f → Broken b f
+  unfolding check_is
+  refuses-says f = go (has_shape b) refl
     where
-      go : (t : Bool) → hasShape b ≡ t
-          → pick t (bodiesFrom (reading b).home 0 (reading b).held) (checked.Refused (plain 7)) ≡ checked.Refused f → Broken b f
+      go : (t : Bool) → has_shape b ≡ t
+          → pick t (bodies_from (reading b).home 0 (reading b).held) (checked.Refused (plain 7)) ≡ checked.Refused f → Broken b f
       go false e x = let same : plain 7 ≡ f = cc x in subst (Broken b) same (shape (λ k. differ (sym (shape_is b k) ∙ e)))
       go true e x =
           let k = shape-says b e in
           let found = first_says (reading b).home 0 (reading b).held f x in
-          subst (Broken b) (sym (found.is ∙ ap (λ (j : ℕ). ofBody j found.place) (zero-add found.index)))
+          subst (Broken b) (sym (found.is ∙ ap (λ (j : ℕ). of_body j found.place) (zero-add found.index)))
           (body k found.index found.place
           (subst (λ (y : Archive). FirstFault y.home y.held found.index found.place) (sym (same-archive b k)) found.first))
 
-  refuses-is : (f : Refusal) → Broken b f → checkIs b ≡ checked.Refused f
-  unfolding checkIs
+  refuses-is : (f : Refusal) → Broken b f → check_is b ≡ checked.Refused f
+  unfolding check_is
   refuses-is f (shape no-shape) = rw (false-unless _ (λ t. no-shape (shape-says b t)))
   refuses-is f (body k i p first) =
       let g = subst (λ (y : Archive). FirstFault y.home y.held i p) (same-archive b k) first in
       rw (shape_is b k, g.split) (first-is (reading b).home 0 g.before g.here g.after p g.agree g.fault
-      ∙ ap (λ (j : ℕ). checked.Refused (ofBody j p)) (zero-add (length g.before) ∙ g.standing))
+      ∙ ap (λ (j : ℕ). checked.Refused (of_body j p)) (zero-add (length g.before) ∙ g.standing))
 
 -- its number is 7
 pub seven : {b : List ℕ} {f : Refusal} → Broken b f → number_of f ≡ 7
@@ -142,6 +142,6 @@ seven (body k i p first) = refl
 pub promise : Promise
 promise = record {
   has-shape = λ b. (shape-says b, shape_is b);
-  passes = λ b. (λ e. archive-says b (checked-archive b e), λ k. archive-checked b (archive-is b k));
+  passes = λ b. (λ e. archive-says b (checked-archive b e), λ k. archive_checked b (archive-is b k));
   refuses = λ b f. (refuses-says b f, refuses-is b f);
 }

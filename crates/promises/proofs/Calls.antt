@@ -12,18 +12,18 @@ use Rattle.bits.specs.Bits.{pick}
 use Rattle.bits.proofs.Tests.{differ, pick-ap, picked}
 use Rattle.walk.specs.declared.BitPlace.TheVariants.{Nowhere}
 use Rattle.walk.specs.declared.Refusal as pdu
-use Rattle.reader.specs.Read.{readIs, refusalOf}
-use Rattle.reader.specs.Words.{readWordsIs, readWords, ifAccepted}
+use Rattle.reader.specs.Read.{read_is, refusal_of}
+use Rattle.reader.specs.Words.{read_words_is, read_words, if_accepted}
 use Rattle.reader.specs.declared.Answer.{Answer}
 use Rattle.reader.specs.declared.Answer.TheVariants as answer
-use Rattle.writer.specs.Write.{writeIs, outIs, writtenNumber}
+use Rattle.writer.specs.Write.{write_is, out_is, written_number}
 use Rattle.writer.specs.declared.Written.{Written}
 use Rattle.writer.specs.declared.Written.TheVariants as written
-use Rattle.rules.specs.Request.{requestRefusal}
+use Rattle.rules.specs.Request.{request_refusal}
 use Rattle.archive.specs.Refusals.{plain}
-use Rattle.archive.specs.Checking.{checkIs, ifArchive}
-use Rattle.archive.specs.Keeping.{storedRefusal, emptyIs}
-use Rattle.archive.specs.Restoring.{entryIs, listedRefusal, restoredRefusal}
+use Rattle.archive.specs.Checking.{check_is, if_archive}
+use Rattle.archive.specs.Keeping.{stored_refusal, empty_is}
+use Rattle.archive.specs.Restoring.{entry_is, listed_refusal, restored_refusal}
 use Rattle.archive.specs.declared.refusal.Refusal.{Refusal}
 use Rattle.archive.specs.declared.checking.Checked as checking
 use Rattle.archive.specs.declared.checking.Checked.TheVariants as checked
@@ -34,23 +34,23 @@ use Rattle.archive.specs.declared.Listed.TheVariants as listed
 use Rattle.archive.specs.declared.Restored.{Restored}
 use Rattle.archive.specs.declared.Restored.TheVariants as restored
 use Rattle.archive.specs.declared.contents.Key.{Key}
-use Rattle.reload.specs.Reload.{reloadedRefusal, reloadIs}
+use Rattle.reload.specs.Reload.{reloaded_refusal, reload_is}
 use Rattle.reload.specs.declared.Reloaded.{Reloaded}
 use Rattle.reload.specs.declared.Reloaded.TheVariants as reloaded
 use Rattle.reload.specs.declared.Definition.{Definition}
 use Rattle.reload.specs.declared.Target.{Target}
-use Rattle.words.specs.RecordWords.{recordWords, recordFrom}
-use Rattle.words.specs.RequestWords.{isRequest, requestFrom}
-use Rattle.barring.specs.Decide.{partIn, decideIs}
-use Rattle.barring.specs.Decision.{decidedRefusal}
+use Rattle.words.specs.RecordWords.{record_words, record_from}
+use Rattle.words.specs.RequestWords.{is_request, request_from}
+use Rattle.barring.specs.Decide.{part_in, decide_is}
+use Rattle.barring.specs.Decision.{decided_refusal}
 use Rattle.barring.specs.declared.Decision.{Decision}
 use Rattle.barring.specs.declared.Decision.TheVariants as decided
-use Rattle.boc.specs.Calls.{placeWord, entryWord, readPlaceOf, writtenLength, writeNumber, writeOut, writeBits}
-use Rattle.boc.specs.Calls.{storedNumber, storedLength, storedEntry, storedPlace, captureAnswer, contentsAnswer}
-use Rattle.boc.specs.Calls.{listedNumber, listedKey, listedLength, listedDay, listedEntry, listedPlace, entryAnswer}
-use Rattle.boc.specs.Calls.{restoredNumber, restoredLength, restoredDay, restoredEntry, restoredPlace, key_of, restoreAnswer}
-use Rattle.boc.specs.Calls.{reloadedNumber, reloadedLength, reloadedEntry, reloadedPlace}
-use Rattle.boc.specs.Calls.{decidedNumber, decidedVerdict, decidedEntry, decidedPlace, decideAnswer}
+use Rattle.boc.specs.Calls.{place_word, entry_word, read_place_of, written_length, write_number, write_out, write_bits}
+use Rattle.boc.specs.Calls.{stored_number, stored_length, stored_entry, stored_place, capture_answer, contents_answer}
+use Rattle.boc.specs.Calls.{listed_number, listed_key, listed_length, listed_day, listed_entry, listed_place, entry_answer}
+use Rattle.boc.specs.Calls.{restored_number, restored_length, restored_day, restored_entry, restored_place, key_of, restore_answer}
+use Rattle.boc.specs.Calls.{reloaded_number, reloaded_length, reloaded_entry, reloaded_place}
+use Rattle.boc.specs.Calls.{decided_number, decided_verdict, decided_entry, decided_place, decide_answer}
 use Rattle.promises.specs.Answers.{Exactly}
 use Rattle.promises.specs.Calls as call
 use Rattle.promises.specs.Calls.{Read, Write, Empty, Capture, Restore, Reloads, Decide, Contents}
@@ -70,51 +70,51 @@ use Rattle.promises.proofs.Demand1.Restore as restore
 use Rattle.promises.proofs.Demand1.Reload as reload
 use Rattle.promises.proofs.Demand1.Listing as listing
 use Rattle.promises.proofs.Demand1.Decision as deciding
-use Rattle.promises.proofs.Calls.OfWords.{looked-at, request-of, of-request, given-record, asked}
+use Rattle.promises.proofs.Calls.OfWords.{looked-at, request-of, of_request, given-record, asked}
 pub mod OfWords
 
 -- ---- answers that are refusals
 
-written-refusal : (a : Written) → (writtenNumber a ≡ 0 → ⊥) → (k : ℕ) × (a ≡ written.Refused k)
+written-refusal : (a : Written) → (written_number a ≡ 0 → ⊥) → (k : ℕ) × (a ≡ written.Refused k)
 written-refusal (written.Bits n) h = absurd (h refl)
 written-refusal (written.Refused k) h = (k, refl)
 
 module _ (old entry place : ℕ) where
-  stored-refusal : (a : Stored) → (storedNumber a ≡ 0 → ⊥) → (f : Refusal) × (a ≡ stored.Refused f)
-      × (storedLength a old ≡ old) × (storedEntry a entry ≡ entryWord (storedRefusal a).entry) × (storedPlace a place ≡ placeWord (storedRefusal a).place)
+  stored-refusal : (a : Stored) → (stored_number a ≡ 0 → ⊥) → (f : Refusal) × (a ≡ stored.Refused f)
+      × (stored_length a old ≡ old) × (stored_entry a entry ≡ entry_word (stored_refusal a).entry) × (stored_place a place ≡ place_word (stored_refusal a).place)
   stored-refusal (stored.Bytes n) h = absurd (h refl)
   stored-refusal (stored.Refused f) h = (f, refl, refl, refl, refl)
 
-  stored-success : (a : Stored) {n : ℕ} → a ≡ stored.Bytes n → (storedLength a old ≡ n) × (storedEntry a entry ≡ entry) × (storedPlace a place ≡ place)
+  stored-success : (a : Stored) {n : ℕ} → a ≡ stored.Bytes n → (stored_length a old ≡ n) × (stored_entry a entry ≡ entry) × (stored_place a place ≡ place)
   stored-success a e =
-      (ap (λ (x : Stored). storedLength x old) e, ap (λ (x : Stored). storedEntry x entry) e, ap (λ (x : Stored). storedPlace x place) e)
+      (ap (λ (x : Stored). stored_length x old) e, ap (λ (x : Stored). stored_entry x entry) e, ap (λ (x : Stored). stored_place x place) e)
 
-  listed-refusal : (key : List ℕ) (oldDay : ℕ) (a : Listed) → (listedNumber a ≡ 0 → ⊥)
-      → (listedKey a key ≡ key) × (listedLength a old ≡ old) × (listedDay a oldDay ≡ oldDay)
-      × (listedEntry a entry ≡ entryWord (listedRefusal a).entry) × (listedPlace a place ≡ placeWord (listedRefusal a).place)
-  listed-refusal key oldDay (listed.Entry e) h = absurd (h refl)
-  listed-refusal key oldDay (listed.Refused f) h = (refl, refl, refl, refl, refl)
+  listed-refusal : (key : List ℕ) (old_day : ℕ) (a : Listed) → (listed_number a ≡ 0 → ⊥)
+      → (listed_key a key ≡ key) × (listed_length a old ≡ old) × (listed_day a old_day ≡ old_day)
+      × (listed_entry a entry ≡ entry_word (listed_refusal a).entry) × (listed_place a place ≡ place_word (listed_refusal a).place)
+  listed-refusal key old_day (listed.Entry e) h = absurd (h refl)
+  listed-refusal key old_day (listed.Refused f) h = (refl, refl, refl, refl, refl)
 
-  restored-refusal : (oldDay : ℕ) (a : Restored) → (restoredNumber a ≡ 0 → ⊥) → (f : Refusal) × (a ≡ restored.Refused f)
-      × (restoredLength a old ≡ old) × (restoredDay a oldDay ≡ oldDay)
-      × (restoredEntry a entry ≡ entryWord (restoredRefusal a).entry) × (restoredPlace a place ≡ placeWord (restoredRefusal a).place)
-  restored-refusal oldDay (restored.Bits n day) h = absurd (h refl)
-  restored-refusal oldDay (restored.Refused f) h = (f, refl, refl, refl, refl, refl)
+  restored-refusal : (old_day : ℕ) (a : Restored) → (restored_number a ≡ 0 → ⊥) → (f : Refusal) × (a ≡ restored.Refused f)
+      × (restored_length a old ≡ old) × (restored_day a old_day ≡ old_day)
+      × (restored_entry a entry ≡ entry_word (restored_refusal a).entry) × (restored_place a place ≡ place_word (restored_refusal a).place)
+  restored-refusal old_day (restored.Bits n day) h = absurd (h refl)
+  restored-refusal old_day (restored.Refused f) h = (f, refl, refl, refl, refl, refl)
 
-  reloaded-refusal : (a : Reloaded) → (reloadedNumber a ≡ 0 → ⊥) → (f : Refusal) × (a ≡ reloaded.Refused f) × (reloadedLength a old ≡ old)
-      × (reloadedEntry a entry ≡ entryWord (reloadedRefusal a).entry) × (reloadedPlace a place ≡ placeWord (reloadedRefusal a).place)
+  reloaded-refusal : (a : Reloaded) → (reloaded_number a ≡ 0 → ⊥) → (f : Refusal) × (a ≡ reloaded.Refused f) × (reloaded_length a old ≡ old)
+      × (reloaded_entry a entry ≡ entry_word (reloaded_refusal a).entry) × (reloaded_place a place ≡ place_word (reloaded_refusal a).place)
   reloaded-refusal (reloaded.Bits n) h = absurd (h refl)
   reloaded-refusal (reloaded.Refused f) h = (f, refl, refl, refl, refl)
 
-  decided-refusal : (d : Decision) → (decidedNumber d ≡ 0 → ⊥) → (decidedVerdict d old ≡ old)
-      × (decidedEntry d entry ≡ entryWord (decidedRefusal d).entry) × (decidedPlace d place ≡ placeWord (decidedRefusal d).place)
+  decided-refusal : (d : Decision) → (decided_number d ≡ 0 → ⊥) → (decided_verdict d old ≡ old)
+      × (decided_entry d entry ≡ entry_word (decided_refusal d).entry) × (decided_place d place ≡ place_word (decided_refusal d).place)
   decided-refusal (decided.Barred cause) h = absurd (h refl)
   decided-refusal decided.Allowed h = absurd (h refl)
   decided-refusal decided.NotHeld h = absurd (h refl)
   decided-refusal (decided.Refused f) h = (refl, refl, refl)
 
   -- a decision's number is told, and entry and place are left
-  decided-success : {n : ℕ} {d : Decision} → decision.Verdict n d → (decidedVerdict d old ≡ n) × (decidedEntry d entry ≡ entry) × (decidedPlace d place ≡ place)
+  decided-success : {n : ℕ} {d : Decision} → decision.Verdict n d → (decided_verdict d old ≡ n) × (decided_entry d entry ≡ entry) × (decided_place d place ≡ place)
   decided-success decision.outside-group = (refl, refl, refl)
   decided-success decision.restricted-service = (refl, refl, refl)
   decided-success decision.restricted-address = (refl, refl, refl)
@@ -127,29 +127,29 @@ module _ (s : List ℕ) (n : ℕ) (w : List ℕ) (place : ℕ) where
   abbrev nine : pdu.Refusal
   nine = read.told 9 Nowhere
 
-  table : Exactly read.number_of (refusalOf (readWordsIs s n (length w))) (read.numbers ++ (9 ∷ []))
+  table : Exactly read.number_of (refusal_of (read_words_is s n (length w))) (read.numbers ++ (9 ∷ []))
       (call.Checked nine (call.OfRecord w) (read.Given s n))
-  unfolding readWordsIs
+  unfolding read_words_is
   table =
       subst (λ (f : pdu.Refusal). Exactly read.number_of f (read.numbers ++ (9 ∷ [])) (call.Checked nine (call.OfRecord w) (read.Given s n)))
-      (sym (pick-ap refusalOf (eqb (length w) 520) (readIs s n).answer (answer.Refused nine)))
+      (sym (pick-ap refusal_of (eqb (length w) 520) (read_is s n).answer (answer.Refused nine)))
       (looked-at (eqb (length w) 520) (eqb-true (length w) 520) (eq-eqb (length w) 520) refl
-      (wider read.numbers (9 ∷ []) (refusalOf (readIs s n).answer).number) ((reading.promise).table s n))
+      (wider read.numbers (9 ∷ []) (refusal_of (read_is s n).answer).number) ((reading.promise).table s n))
 
   pub read_kept : Read s n w place
-  unfolding readWordsIs readWords
+  unfolding read_words_is read_words
   read_kept = record {
     table = table;
     success = λ e.
         let k = given-record s n (length w) e in
         let p = (reading.promise).success s n k.1 in
         (p.1, p.2, rw (k.0, p.0), rw (k.0, p.0));
-    refusal = bad (eqb (length w) 520) (readIs s n).answer;
+    refusal = bad (eqb (length w) 520) (read_is s n).answer;
   }
     where
-      bad : (t : Bool) (a : Answer) → ((refusalOf (pick t a (answer.Refused nine))).number ≡ 0 → ⊥)
-          → (pick t (ifAccepted a (recordWords (readIs s n).found) w) w ≡ w)
-          × (readPlaceOf (pick t a (answer.Refused nine)) place ≡ placeWord (refusalOf (pick t a (answer.Refused nine))).place)
+      bad : (t : Bool) (a : Answer) → ((refusal_of (pick t a (answer.Refused nine))).number ≡ 0 → ⊥)
+          → (pick t (if_accepted a (record_words (read_is s n).found) w) w ≡ w)
+          × (read_place_of (pick t a (answer.Refused nine)) place ≡ place_word (refusal_of (pick t a (answer.Refused nine))).place)
       bad false a h = (refl, refl)
       bad true answer.Accepted h = absurd (h refl)
       bad true (answer.Refused f) h = (refl, refl)
@@ -158,25 +158,25 @@ module _ (s : List ℕ) (n : ℕ) (w : List ℕ) (place : ℕ) where
 
 module _ (w out : List ℕ) (old : ℕ) where
   pub write_kept : Write w out old
-  unfolding writeNumber writeOut writeBits
+  unfolding write_number write_out write_bits
   write_kept = record {
     table =
         looked-at (eqb (length w) 520) (eqb-true (length w) 520) (eq-eqb (length w) 520) refl
-        (wider (0 ∷ 3 ∷ 4 ∷ 8 ∷ []) (9 ∷ []) (writtenNumber (writeIs (recordFrom w) out)))
-        ((writing.promise).table (recordFrom w) out);
+        (wider (0 ∷ 3 ∷ 4 ∷ 8 ∷ []) (9 ∷ []) (written_number (write_is (record_from w) out)))
+        ((writing.promise).table (record_from w) out);
     success = λ e.
         let k = picked (eqb (length w) 520) e (λ x. omega arith) in
-        let p = (writing.promise).success (recordFrom w) out k.1 in
+        let p = (writing.promise).success (record_from w) out k.1 in
         (rw k.0 p.1, rw (k.0, p.0));
     refusal = go (eqb (length w) 520);
   }
     where
-      go : (t : Bool) → (pick t (writtenNumber (writeIs (recordFrom w) out)) 9 ≡ 0 → ⊥)
-          → (pick t (outIs (recordFrom w) out) out ≡ out) × (pick t (writtenLength (writeIs (recordFrom w) out) old) old ≡ old)
+      go : (t : Bool) → (pick t (written_number (write_is (record_from w) out)) 9 ≡ 0 → ⊥)
+          → (pick t (out_is (record_from w) out) out ≡ out) × (pick t (written_length (write_is (record_from w) out) old) old ≡ old)
       go false h = (refl, refl)
       go true h =
-          let r = written-refusal (writeIs (recordFrom w) out) h in
-          ((writing.promise).refusal (recordFrom w) out r.0 r.1, ap (λ (x : Written). writtenLength x old) r.1)
+          let r = written-refusal (write_is (record_from w) out) h in
+          ((writing.promise).refusal (record_from w) out r.0 r.1, ap (λ (x : Written). written_length x old) r.1)
 
 -- ---- the archive's
 
@@ -185,7 +185,7 @@ module _ (home : ℕ) (out : List ℕ) (old : ℕ) where
   empty-kept = record {
     table = (empty.promise).table home (length out);
     success = λ e. let p = (empty.promise).success home out e in (p.1, (stored-success old 0 0 _ p.0).0);
-    refusal = λ h. let r = stored-refusal old 0 0 (emptyIs home (length out)) h in ((empty.promise).refusal home out r.0 r.1, r.2);
+    refusal = λ h. let r = stored-refusal old 0 0 (empty_is home (length out)) h in ((empty.promise).refusal home out r.0 r.1, r.2);
   }
 
 module _ (b s : List ℕ) (n day : ℕ) (out : List ℕ) (old entry place : ℕ) where
@@ -197,29 +197,29 @@ module _ (b s : List ℕ) (n day : ℕ) (out : List ℕ) (old entry place : ℕ)
         let q = stored-success old entry place _ p.0 in
         (p.1, q.0, q.1, q.2);
     refusal = λ h.
-        let r = stored-refusal old entry place (captureAnswer b s n day out) h in
+        let r = stored-refusal old entry place (capture_answer b s n day out) h in
         ((capture.promise).refusal b s n day out r.0 r.1, r.2, r.3, r.4);
   }
 
-module _ (b : List ℕ) (index : ℕ) (key : List ℕ) (old oldDay entry place : ℕ) where
+module _ (b : List ℕ) (index : ℕ) (key : List ℕ) (old old_day entry place : ℕ) where
   -- an entry is given to three words
-  given-entry : listedNumber (entryAnswer b index (length key)) ≡ 0 → (eqb (length key) 3 ≡ true) × (listedNumber (entryIs b index) ≡ 0)
-  unfolding entryAnswer
+  given-entry : listed_number (entry_answer b index (length key)) ≡ 0 → (eqb (length key) 3 ≡ true) × (listed_number (entry_is b index) ≡ 0)
+  unfolding entry_answer
   given-entry = go (eqb (length key) 3) refl
     where
-      go : (t : Bool) → eqb (length key) 3 ≡ t → listedNumber (pick t (entryIs b index) (listed.Refused (plain 9))) ≡ 0
-          → (eqb (length key) 3 ≡ true) × (listedNumber (entryIs b index) ≡ 0)
+      go : (t : Bool) → eqb (length key) 3 ≡ t → listed_number (pick t (entry_is b index) (listed.Refused (plain 9))) ≡ 0
+          → (eqb (length key) 3 ≡ true) × (listed_number (entry_is b index) ≡ 0)
       go true f e = (f, e)
       go false f e = absurd (omega (arith, e))
 
-  pub entry_kept : call.Entry b index key old oldDay entry place
-  unfolding entryAnswer
+  pub entry_kept : call.Entry b index key old old_day entry place
+  unfolding entry_answer
   entry_kept = record {
     table =
         subst (λ (f : Refusal). Exactly number_of f (0 ∷ 7 ∷ 11 ∷ 9 ∷ []) (call.Checked (plain 9) (length key ≡ 3) (entries.Given b index)))
-        (sym (pick-ap listedRefusal (eqb (length key) 3) (entryIs b index) (listed.Refused (plain 9))))
+        (sym (pick-ap listed_refusal (eqb (length key) 3) (entry_is b index) (listed.Refused (plain 9))))
         (looked-at (eqb (length key) 3) (eqb-true (length key) 3) (eq-eqb (length key) 3) refl
-        (wider (0 ∷ 7 ∷ 11 ∷ []) (9 ∷ []) (listedRefusal (entryIs b index)).number) ((entries-kept.promise).table b index));
+        (wider (0 ∷ 7 ∷ 11 ∷ []) (9 ∷ []) (listed_refusal (entry_is b index)).number) ((entries-kept.promise).table b index));
     success = λ e.
         let k = given-entry e in
         let p = (entries-kept.promise).success b index k.1 in
@@ -227,17 +227,17 @@ module _ (b : List ℕ) (index : ℕ) (key : List ℕ) (old oldDay entry place :
           p.0,
           p.1,
           p.2,
-          ap (λ (x : Listed). listedKey x key) p.3,
-          ap (λ (x : Listed). listedLength x old) p.3,
-          ap (λ (x : Listed). listedDay x oldDay) p.3,
-          ap (λ (x : Listed). listedEntry x entry) p.3,
-          ap (λ (x : Listed). listedPlace x place) p.3,
+          ap (λ (x : Listed). listed_key x key) p.3,
+          ap (λ (x : Listed). listed_length x old) p.3,
+          ap (λ (x : Listed). listed_day x old_day) p.3,
+          ap (λ (x : Listed). listed_entry x entry) p.3,
+          ap (λ (x : Listed). listed_place x place) p.3,
         );
-    refusal = listed-refusal old entry place key oldDay (entryAnswer b index (length key));
+    refusal = listed-refusal old entry place key old_day (entry_answer b index (length key));
   }
 
-module _ (b : List ℕ) (network ssi part : ℕ) (out : List ℕ) (old oldDay entry place : ℕ) where
-  pub restore-kept : Restore b network ssi part out old oldDay entry place
+module _ (b : List ℕ) (network ssi part : ℕ) (out : List ℕ) (old old_day entry place : ℕ) where
+  pub restore-kept : Restore b network ssi part out old old_day entry place
   restore-kept = record {
     table = (restore.promise).table b (key_of network ssi part) (length out);
     success = λ e.
@@ -246,13 +246,13 @@ module _ (b : List ℕ) (network ssi part : ℕ) (out : List ℕ) (old oldDay en
           p.1,
           p.2,
           p.4,
-          ap (λ (x : Restored). restoredLength x old) p.3,
-          ap (λ (x : Restored). restoredDay x oldDay) p.3,
-          ap (λ (x : Restored). restoredEntry x entry) p.3,
-          ap (λ (x : Restored). restoredPlace x place) p.3,
+          ap (λ (x : Restored). restored_length x old) p.3,
+          ap (λ (x : Restored). restored_day x old_day) p.3,
+          ap (λ (x : Restored). restored_entry x entry) p.3,
+          ap (λ (x : Restored). restored_place x place) p.3,
         );
     refusal = λ h.
-        let r = restored-refusal old entry place oldDay (restoreAnswer b network ssi part out) h in
+        let r = restored-refusal old entry place old_day (restore_answer b network ssi part out) h in
         ((restore.promise).refusal b (key_of network ssi part) out r.0 r.1, r.2, r.3, r.4, r.5);
   }
 
@@ -266,12 +266,12 @@ module _ (t : Target) (b : List ℕ) (key : Key) (d : Definition) (out : List �
           p.1,
           p.2,
           p.5,
-          ap (λ (x : Reloaded). reloadedLength x old) p.4,
-          ap (λ (x : Reloaded). reloadedEntry x entry) p.4,
-          ap (λ (x : Reloaded). reloadedPlace x place) p.4,
+          ap (λ (x : Reloaded). reloaded_length x old) p.4,
+          ap (λ (x : Reloaded). reloaded_entry x entry) p.4,
+          ap (λ (x : Reloaded). reloaded_place x place) p.4,
         );
     refusal = λ h.
-        let r = reloaded-refusal old entry place (reloadIs t b key d out) h in
+        let r = reloaded-refusal old entry place (reload_is t b key d out) h in
         ((reload.promise).refusal t b key d out r.0 r.1, r.2, r.3, r.4);
   }
 
@@ -284,39 +284,39 @@ module _ (b out : List ℕ) (old entry place : ℕ) where
         let q = stored-success old entry place _ p.1 in
         (p.0, p.2, q.0, q.1, q.2);
     refusal = λ h.
-        let r = stored-refusal old entry place (contentsAnswer b out) h in
+        let r = stored-refusal old entry place (contents_answer b out) h in
         ((listing.promise).refusal b out r.0 r.1, r.2, r.3, r.4);
   }
 
 -- ---- boc_decide
 
 module _ (b w : List ℕ) (old entry place : ℕ) where
-  by-nothing : decidedNumber (decideIs b (requestFrom w)) ≡ 0 → partIn b (requestFrom w) ≡ none → decidedVerdict (decideIs b (requestFrom w)) old ≡ 4
-  unfolding decideIs
-  by-nothing e h = rw h (go (eqb r 0) refl (checkIs b) refl (rw h at e))
+  by-nothing : decided_number (decide_is b (request_from w)) ≡ 0 → part_in b (request_from w) ≡ none → decided_verdict (decide_is b (request_from w)) old ≡ 4
+  unfolding decide_is
+  by-nothing e h = rw h (go (eqb r 0) refl (check_is b) refl (rw h at e))
     where
       r : ℕ
-      r = requestRefusal (requestFrom w)
+      r = request_refusal (request_from w)
 
-      go : (p : Bool) → eqb r 0 ≡ p → (c : checking.Checked) → checkIs b ≡ c
-          → decidedNumber (pick p (ifArchive c decided.Refused decided.NotHeld) (decided.Refused (plain r))) ≡ 0
-          → decidedVerdict (pick p (ifArchive c decided.Refused decided.NotHeld) (decided.Refused (plain r))) old ≡ 4
+      go : (p : Bool) → eqb r 0 ≡ p → (c : checking.Checked) → check_is b ≡ c
+          → decided_number (pick p (if_archive c decided.Refused decided.NotHeld) (decided.Refused (plain r))) ≡ 0
+          → decided_verdict (pick p (if_archive c decided.Refused decided.NotHeld) (decided.Refused (plain r))) old ≡ 4
       go true f checked.Archive g e = refl
       go true f (checked.Refused x) g e = absurd (omega (arith, seven (((broken.promise).refuses b x).0 g), e))
       go false f c g e = differ (sym (eq-eqb r 0 e) ∙ f)
 
   pub decide-kept : Decide b w old entry place
-  unfolding decideAnswer
+  unfolding decide_answer
   decide-kept = record {
     table =
-        subst (λ (f : Refusal). Exactly number_of f (0 ∷ 9 ∷ 7 ∷ []) (call.Checked (plain 9) (call.OfRequest w) (decision.Given b (requestFrom w))))
-        (sym (pick-ap decidedRefusal (isRequest w) (decideIs b (requestFrom w)) (decided.Refused (plain 9))))
-        (looked-at (isRequest w) (request-of w) (of-request w) refl (λ x. x) ((deciding.promise).table b (requestFrom w)));
+        subst (λ (f : Refusal). Exactly number_of f (0 ∷ 9 ∷ 7 ∷ []) (call.Checked (plain 9) (call.OfRequest w) (decision.Given b (request_from w))))
+        (sym (pick-ap decided_refusal (is_request w) (decide_is b (request_from w)) (decided.Refused (plain 9))))
+        (looked-at (is_request w) (request-of w) (of_request w) refl (λ x. x) ((deciding.promise).table b (request_from w)));
     success = λ e.
         let k = asked b w e in
-        let v = (deciding.promise).success b (requestFrom w) k.1 in
+        let v = (deciding.promise).success b (request_from w) k.1 in
         let t = decided-success old entry place v in
-        rw k.0 (subst (λ (n : ℕ). decision.Verdict n (decideIs b (requestFrom w))) (sym t.0) v, t.1, t.2);
+        rw k.0 (subst (λ (n : ℕ). decision.Verdict n (decide_is b (request_from w))) (sym t.0) v, t.1, t.2);
     not-held = λ e h. let k = asked b w e in rw k.0 (by-nothing k.1 h);
-    refusal = decided-refusal old entry place (decideAnswer b w);
+    refusal = decided-refusal old entry place (decide_answer b w);
   }

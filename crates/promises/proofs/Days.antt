@@ -9,23 +9,23 @@ use borrow.Author.Tests.{le-leb, le-ltb, lt-ltb, eq-eqb}
 use Rattle.bits.specs.Bits.{Bytes, splice}
 use Rattle.bits.proofs.Tests.{both⁻¹}
 use Rattle.bits.proofs.Splices.{splice_at}
-use Rattle.reader.specs.Read.{readIs}
+use Rattle.reader.specs.Read.{read_is}
 use Rattle.reader.specs.declared.Answer.TheVariants as reader
-use Rattle.judging.specs.Judge.{mayHold}
-use Rattle.archive.specs.Model.{Held, Archive, rank, bytes2, bytes3, headerBytes, entryBytes, contentsOf, bodiesOf, bytes_of, length_of}
-use Rattle.archive.specs.Filing.{filedKey, keepsRules}
-use Rattle.archive.specs.Reading.{reading, isArchive}
-use Rattle.archive.specs.Keeping.{over, put, heldFor, captured, captureIs}
+use Rattle.judging.specs.Judge.{may_hold}
+use Rattle.archive.specs.Model.{Held, Archive, rank, bytes2, bytes3, header_bytes, entry_bytes, contents_of, bodies_of, bytes_of, length_of}
+use Rattle.archive.specs.Filing.{filed_key, keeps_rules}
+use Rattle.archive.specs.Reading.{reading, is_archive}
+use Rattle.archive.specs.Keeping.{over, put, held_for, captured, capture_is}
 use Rattle.archive.specs.declared.Stored.TheVariants as stored
 use Rattle.archive.proofs.Model.Bodies as bodies
 use Rattle.archive.proofs.Model.Rules.{kept, archive-formed}
-use Rattle.archive.proofs.Bytes.AsRead.{written-as-read}
+use Rattle.archive.proofs.Bytes.AsRead.{written_as-read}
 use Rattle.archive.proofs.Bytes.AsWritten.{length-header, length-contents}
 use Rattle.archive.proofs.Bytes.Checking.{sound}
 use Rattle.archive.proofs.Bytes.Split.{contents-join, bodies-join, sizes-join}
 use Rattle.archive.proofs.Calls.Limits.{counted}
 use Rattle.archive.proofs.Calls.Capture.{as-placed, placed-whole, capture-leaves}
-use Rattle.promises.specs.Days.{HoldsAt, dayPlace, Promise}
+use Rattle.promises.specs.Days.{HoldsAt, day_place, Promise}
 use Rattle.promises.proofs.Archive.Laying.{archive-is, archive-read}
 use Rattle.promises.proofs.Archive.Finding.{among-kept}
 use Rattle.promises.proofs.Archive.Indexing.{among-joined}
@@ -34,7 +34,7 @@ use Rattle.promises.proofs.Archive.Indexing.{among-joined}
 
 module _ (home : ℕ) (h : Held) (post : List Held) where
   -- a PDU of its key is put in its place
-  put-there : (x : Held) → rank x ≡ rank h → (last : ℕ) (pre : List Held) → keepsRules home last (pre ++ (h ∷ post)) ≡ true
+  put-there : (x : Held) → rank x ≡ rank h → (last : ℕ) (pre : List Held) → keeps_rules home last (pre ++ (h ∷ post)) ≡ true
       → put x (pre ++ (h ∷ post)) ≡ pre ++ (x ∷ post)
   put-there x e last [] k = rw (le-ltb (rank h) (rank x) (omega (arith, e)), eq-eqb (rank h) (rank x) (sym e))
   put-there x e last (y ∷ pre) k =
@@ -54,11 +54,11 @@ module _ (home : ℕ) (pre : List Held) (h : Held) (post : List Held) where
 
   abbrev front : List ℕ
   front =
-      headerBytes home (length (pre ++ (h ∷ post)))
-      ++ (contentsOf pre ++ (bytes3 h.entry.key.network ++ (bytes3 h.entry.key.ssi ++ (h.entry.key.part ∷ bytes2 h.entry.bits.0))))
+      header_bytes home (length (pre ++ (h ∷ post)))
+      ++ (contents_of pre ++ (bytes3 h.entry.key.network ++ (bytes3 h.entry.key.ssi ++ (h.entry.key.part ∷ bytes2 h.entry.bits.0))))
 
   abbrev back : List ℕ
-  back = contentsOf post ++ (bodiesOf pre ++ (h.body ++ bodiesOf post))
+  back = contents_of post ++ (bodies_of pre ++ (h.body ++ bodies_of post))
 
   as_many : (day : ℕ) → length (held day) ≡ length (pre ++ (h ∷ post))
   as_many day = simp length-append refl
@@ -67,16 +67,16 @@ module _ (home : ℕ) (pre : List Held) (h : Held) (post : List Held) where
   as_long day = omega (arith, as_many day, sizes-join pre (on h day ∷ post), sizes-join pre (h ∷ post))
 
   around : (day : ℕ) → bytes_of (record { home = home; held = held day }) ≡ front ++ (bytes2 day ++ back)
-  unfolding entryBytes
+  unfolding entry_bytes
   around day = rw (as_many day, contents-join pre (on h day ∷ post), bodies-join pre (on h day ∷ post)) (simp append_assoc)
 
-  front_length : length front ≡ dayPlace (length pre)
+  front_length : length front ≡ day_place (length pre)
   front_length = simp length-append (omega (arith, length-header home (length pre + length (h ∷ post)), length-contents pre))
 
 -- ---- the capture
 
 module _ (b s : List ℕ) (n index day : ℕ) (y : Bytes b) (k : HoldsAt b s n index) (dated : day < 65536) where
-  ok : isArchive b ≡ true
+  ok : is_archive b ≡ true
   ok = archive-is b k.archive
 
   abbrev home : ℕ
@@ -85,8 +85,8 @@ module _ (b s : List ℕ) (n index day : ℕ) (y : Bytes b) (k : HoldsAt b s n i
   held-is : (reading b).held ≡ k.stands.before ++ (k.here ∷ k.stands.after)
   held-is = ap (λ (a : Archive). a.held) (sym (archive-read b k.archive)) ∙ k.stands.split
 
-  rules : keepsRules home 0 (k.stands.before ++ (k.here ∷ k.stands.after)) ≡ true
-  rules = subst (λ (hs : List Held). keepsRules home 0 hs ≡ true) held-is (archive-formed b ok).rules
+  rules : keeps_rules home 0 (k.stands.before ++ (k.here ∷ k.stands.after)) ≡ true
+  rules = subst (λ (hs : List Held). keeps_rules home 0 hs ≡ true) held-is (archive-formed b ok).rules
 
   agrees : bodies.Agrees home k.here
   agrees =
@@ -95,15 +95,15 @@ module _ (b s : List ℕ) (n index day : ℕ) (y : Bytes b) (k : HoldsAt b s n i
       (among-kept home 0 k.here (s.before ++ (k.here ∷ s.after)) rules (among-joined k.here s.before s.after)).1
 
   -- what the PDU is held as is what is held, on that day
-  same : heldFor home s n day ≡ on k.here day
+  same : held_for home s n day ≡ on k.here day
   same =
-      let key = (λ i. filedKey home (readIs (sym k.body i) (sym k.bits i)).found) ∙ sym agrees.key in
+      let key = (λ i. filed_key home (read_is (sym k.body i) (sym k.bits i)).found) ∙ sym agrees.key in
       λ i. record { entry = record { key = key i; bits = record { 0 = sym k.bits i }; day = day }; body = sym k.body i }
 
   captured-is : captured b s n day ≡ record { home = home; held = k.stands.before ++ (on k.here day ∷ k.stands.after) }
   unfolding captured
   captured-is =
-      let put_is : put (heldFor home s n day) (reading b).held ≡ k.stands.before ++ (on k.here day ∷ k.stands.after) =
+      let put_is : put (held_for home s n day) (reading b).held ≡ k.stands.before ++ (on k.here day ∷ k.stands.after) =
       (λ i. put (same i) (held-is i)) ∙ put-there home k.here k.stands.after (on k.here day) refl 0 k.stands.before rules in
       λ i. record { home = home; held = put_is i }
 
@@ -116,13 +116,13 @@ module _ (b s : List ℕ) (n index day : ℕ) (y : Bytes b) (k : HoldsAt b s n i
   many : length (captured b s n day).held ≡ length (reading b).held
   many = ap (λ (a : Archive). length a.held) captured-is ∙ as_many home k.stands.before k.here k.stands.after day ∙ sym (ap length held-is)
 
-  answer : (room : ℕ) → length b ≤ room → captureIs b s n day room ≡ stored.Bytes (length b)
+  answer : (room : ℕ) → length b ≤ room → capture_is b s n day room ≡ stored.Bytes (length b)
   answer room h =
       let f = archive-formed b ok in
-      let accepted = subst (λ (x : ℕ). (readIs s x).answer ≡ reader.Accepted) k.bits
-      (subst (λ (x : List ℕ). (readIs x k.here.entry.bits.0).answer ≡ reader.Accepted) k.body agrees.accepted) in
-      let may = subst (λ (x : ℕ). mayHold (readIs s x).found ≡ true) k.bits
-      (subst (λ (x : List ℕ). mayHold (readIs x k.here.entry.bits.0).found ≡ true) k.body agrees.may) in
+      let accepted = subst (λ (x : ℕ). (read_is s x).answer ≡ reader.Accepted) k.bits
+      (subst (λ (x : List ℕ). (read_is x k.here.entry.bits.0).answer ≡ reader.Accepted) k.body agrees.accepted) in
+      let may = subst (λ (x : ℕ). may_hold (read_is s x).found ≡ true) k.bits
+      (subst (λ (x : List ℕ). may_hold (read_is x k.here.entry.bits.0).found ≡ true) k.body agrees.may) in
       let small = (sound b ok).small in
       as-placed b s n day room dated ok accepted may
       ∙ sym (placed-whole (captured b s n day) room
@@ -130,15 +130,15 @@ module _ (b s : List ℕ) (n index day : ℕ) (y : Bytes b) (k : HoldsAt b s n i
       (le-leb (length_of (captured b s n day)) 65536 (omega (arith, size, small)))) (omega (arith, size, h)))
       ∙ ap stored.Bytes size
 
-  bytes : bytes_of (captured b s n day) ≡ splice b (dayPlace index) (day / 256 ∷ day % 256 ∷ [])
+  bytes : bytes_of (captured b s n day) ≡ splice b (day_place index) (day / 256 ∷ day % 256 ∷ [])
   bytes =
       let new = ap bytes_of captured-is ∙ around home k.stands.before k.here k.stands.after day in
       let old : b ≡ front home k.stands.before k.here k.stands.after ++ (bytes2 k.here.entry.day ++ back home k.stands.before k.here k.stands.after) =
-      sym (written-as-read b y ok) ∙ ap bytes_of before-is ∙ around home k.stands.before k.here k.stands.after k.here.entry.day in
-      let at = front_length home k.stands.before k.here k.stands.after ∙ ap dayPlace k.stands.standing in
-      new ∙ sym (ap (λ (x : List ℕ). splice x (dayPlace index) (day / 256 ∷ day % 256 ∷ [])) old
+      sym (written_as-read b y ok) ∙ ap bytes_of before-is ∙ around home k.stands.before k.here k.stands.after k.here.entry.day in
+      let at = front_length home k.stands.before k.here k.stands.after ∙ ap day_place k.stands.standing in
+      new ∙ sym (ap (λ (x : List ℕ). splice x (day_place index) (day / 256 ∷ day % 256 ∷ [])) old
       ∙ splice_at (front home k.stands.before k.here k.stands.after) (bytes2 k.here.entry.day) (back home k.stands.before k.here k.stands.after) (bytes2 day)
-      (dayPlace index) at refl)
+      (day_place index) at refl)
 
 pub promise : Promise
 promise = record {

@@ -6,17 +6,17 @@ use mathlib.Core.List.{List, [], ◌∷◌, ◌++◌}
 use mathlib.Core.Option.{some}
 use Prim.Native.Nat.{ℕ}
 use lib.ListN.{take, drop}
-use Rattle.bits.specs.Frame.{bytesFor, pack}
+use Rattle.bits.specs.Frame.{bytes_for, pack}
 use Rattle.bits.proofs.Frames.{length-pack}
 use Rattle.bits.proofs.Tests.{differ}
 use Rattle.grammar.specs.Grammar.{pdu}
 use Rattle.grammar.specs.declared.record.Record.{Record}
-use Rattle.reader.specs.Read.{readIs}
+use Rattle.reader.specs.Read.{read_is}
 use Rattle.reader.specs.declared.Reading.{Reading}
-use Rattle.writer.specs.Write.{writtenNumber, length_of, outIs}
-use Rattle.rules.specs.Rule.{sixRules, ruling}
+use Rattle.writer.specs.Write.{written_number, length_of, out_is}
+use Rattle.rules.specs.Rule.{six_rules, ruling}
 use Rattle.rules.specs.declared.request.Request.{Request}
-use Rattle.pdu.specs.Accepted.{acceptedAs}
+use Rattle.pdu.specs.Accepted.{accepted_as}
 use Rattle.pdu.proofs.RoundTrip.{read-written}
 use Rattle.archive.specs.Model.{Held}
 use Rattle.archive.specs.Reading.{reading}
@@ -26,21 +26,21 @@ use Rattle.archive.specs.declared.contents.Key.{Key}
 use Rattle.archive.specs.declared.refusal.Refusal.{Refusal}
 use Rattle.reload.specs.declared.Reloaded.{Reloaded}
 use Rattle.reload.specs.declared.Reloaded.TheVariants.{Bits, Refused}
-use Rattle.reload.specs.Define.{defineOf, stands}
-use Rattle.reload.specs.Reload.{reloadedRefusal, recordOf, reloadIs, reloadOut}
+use Rattle.reload.specs.Define.{define_of, stands}
+use Rattle.reload.specs.Reload.{reloaded_refusal, record_of, reload_is, reload_out}
 use Rattle.reload.specs.declared.Definition.{Definition}
 use Rattle.reload.specs.declared.Target.{Target}
 use Rattle.reload.proofs.Standing.{define-stands}
 use Rattle.archive.proofs.Model.Found.{held-agrees}
-use Rattle.boc.specs.Calls.{reloadedLength}
+use Rattle.boc.specs.Calls.{reloaded_length}
 use Rattle.promises.specs.Answers.{OneOf}
 use Rattle.promises.specs.Archive as archive
 use Rattle.promises.specs.Archive.{IsArchive, Ranged}
-use Rattle.promises.specs.Held.{Holdable, may-be-held}
+use Rattle.promises.specs.Held.{Holdable, may_be-held}
 use Rattle.promises.specs.Demand1.Restore.{Holds}
 use Rattle.promises.specs.Demand1.Reload.{Asked, defined}
 use Rattle.promises.specs.Demand1.Writing as writes
-use Rattle.promises.specs.Reload.{PutsBack, Puttable, readBack, Promise}
+use Rattle.promises.specs.Reload.{PutsBack, Puttable, read_back, Promise}
 use Rattle.promises.proofs.Archive as archive-kept
 use Rattle.promises.proofs.Demand1.Restore.{holds}
 use Rattle.promises.proofs.Demand1.Reload.{found, is_held, legal, wrote-number, Success, succeeded}
@@ -51,12 +51,12 @@ abbrev archives : archive.Promise
 archives = archive-kept.promise
 
 -- the DEFINE of a part has all that the rules ask of it
-same-rules : (t : Target) (d : Definition) (part : Record) (home : ℕ) (q : Request) → ruling home (defineOf t d part) q ≡ ruling home part q
-unfolding defineOf ruling sixRules
+same-rules : (t : Target) (d : Definition) (part : Record) (home : ℕ) (q : Request) → ruling home (define_of t d part) q ≡ ruling home part q
+unfolding define_of ruling six_rules
 same-rules t d part home q = refl
 
-puts_back : (t : Target) (d : Definition) (part x : Record) → x ≡ defineOf t d part → PutsBack t d part x
-unfolding defineOf
+puts_back : (t : Target) (d : Definition) (part x : Record) → x ≡ define_of t d part → PutsBack t d part x
+unfolding define_of
 puts_back t d part x e = record {
   kind = ap (λ (r : Record). r.kind) e;
   user = ap (λ (r : Record). r.affected) e;
@@ -74,9 +74,9 @@ puts_back t d part x e = record {
 module _ (t : Target) (b : List ℕ) (key : Key) (d : Definition) (out : List ℕ) where
   -- ---- what was written reads back
 
-  module _ (n : ℕ) (e : reloadIs t b key d out ≡ Bits (record { 0 = n })) (k : IsArchive b) (h : Held) (x : Holds b key k h) where
+  module _ (n : ℕ) (e : reload_is t b key d out ≡ Bits (record { 0 = n })) (k : IsArchive b) (h : Held) (x : Holds b key k h) where
     done : Success t b key d out
-    done = succeeded t b key d out (ap (λ (x : Reloaded). (reloadedRefusal x).number) e)
+    done = succeeded t b key d out (ap (λ (x : Reloaded). (reloaded_refusal x).number) e)
 
     found_as : lookup key (reading b).held ≡ some h
     found_as = holds b key done.ranged k h x
@@ -91,44 +91,44 @@ module _ (t : Target) (b : List ℕ) (key : Key) (d : Definition) (out : List �
         let held : done.held ≡ h = cc one in
         ap (defined t b key d) held
 
-    back : readIs (take (bytesFor n) (reloadOut t b key d out)) n ≡ acceptedAs define
+    back : read_is (take (bytes_for n) (reload_out t b key d out)) n ≡ accepted_as define
     back =
         let y = defined t b key d done.held in
-        let size : length_of y ≡ n = ap (λ (a : Reloaded). reloadedLength a 0) (sym done.is ∙ e) in
-        let left : outIs y out ≡ reloadOut t b key d out =
-        ((writing.promise).success y out (ap writtenNumber done.wrote)).1
+        let size : length_of y ≡ n = ap (λ (a : Reloaded). reloaded_length a 0) (sym done.is ∙ e) in
+        let left : out_is y out ≡ reload_out t b key d out =
+        ((writing.promise).success y out (ap written_number done.wrote)).1
         ∙ ap (λ (m : ℕ). pack (pdu.print y) ++ drop m out) (sym (length-pack (pdu.print y))) ∙ sym done.left in
-        subst (λ (m : ℕ). readIs (take (bytesFor m) (reloadOut t b key d out)) m ≡ acceptedAs y) size
-        (subst (λ (s : List ℕ). readIs (take (bytesFor (length_of y)) s) (length_of y) ≡ acceptedAs y) left
+        subst (λ (m : ℕ). read_is (take (bytes_for m) (reload_out t b key d out)) m ≡ accepted_as y) size
+        (subst (λ (s : List ℕ). read_is (take (bytes_for (length_of y)) s) (length_of y) ≡ accepted_as y) left
         (read-written y out (length_of y) done.wrote))
-        ∙ ap acceptedAs same
+        ∙ ap accepted_as same
 
-    record-back : readBack t b key d out n ≡ define
+    record-back : read_back t b key d out n ≡ define
     record-back = ap (λ (x : Reading). x.found) back
 
-    accepting : Holdable (recordOf h)
-    accepting = (may-be-held _).0 (held-agrees b ((archives.is-archive b).1 k) key found_as).may
+    accepting : Holdable (record_of h)
+    accepting = (may_be-held _).0 (held-agrees b ((archives.is-archive b).1 k) key found_as).may
 
   -- ---- 12 exactly where the lists of the part stand in no DEFINE
 
   module _ (r : Ranged key) (a : Asked d) (k : IsArchive b) (h : Held) (x : Holds b key k h) where
     -- with lists that stand the number is one of writing's
-    not-lost : stands t d.definition (recordOf h).lists ≡ true → reloadIs t b key d out ≡ Refused (plain 12) → ⊥
+    not-lost : stands t d.definition (record_of h).lists ≡ true → reload_is t b key d out ≡ Refused (plain 12) → ⊥
     not-lost s e =
         let w = defined t b key d h in
         let twelve : writes.number w out ≡ 12 =
-        ap (λ (f : Refusal). f.number) (sym (wrote-number t b key d out r a k h x (is-standing t _ _ s)) ∙ ap reloadedRefusal e) in
+        ap (λ (f : Refusal). f.number) (sym (wrote-number t b key d out r a k h x (is-standing t _ _ s)) ∙ ap reloaded_refusal e) in
         differ (sym (subst (OneOf (0 ∷ 3 ∷ 4 ∷ 8 ∷ [])) twelve ((writing.promise).table w out).listed))
 
-    lost-exactly : (reloadIs t b key d out ≡ Refused (plain 12)) ↔ ((y : Record) → Puttable t d (recordOf h) y → ⊥)
-    unfolding defineOf
+    lost-exactly : (reload_is t b key d out ≡ Refused (plain 12)) ↔ ((y : Record) → Puttable t d (record_of h) y → ⊥)
+    unfolding define_of
     lost-exactly = (
       λ e y p. not-lost (ap₂ (stands t) (sym p.2) (sym p.3) ∙ define-stands t y p.0 p.1) e,
-      λ none. go (stands t d.definition (recordOf h).lists) refl none,
+      λ none. go (stands t d.definition (record_of h).lists) refl none,
     )
       where
-        go : (f : Bool) → stands t d.definition (recordOf h).lists ≡ f → ((y : Record) → Puttable t d (recordOf h) y → ⊥)
-            → reloadIs t b key d out ≡ Refused (plain 12)
+        go : (f : Bool) → stands t d.definition (record_of h).lists ≡ f → ((y : Record) → Puttable t d (record_of h) y → ⊥)
+            → reload_is t b key d out ≡ Refused (plain 12)
         go true s none = absurd (none (defined t b key d h) (legal t b key d out r a k h x (is-standing t _ _ s), refl, refl, refl))
         go false s none = found t b key d out r a k (some h) (is_held t b key d out r a k h x) ∙ rw s
 
@@ -137,9 +137,9 @@ promise t b key d out = record {
   reads-back = λ n e k h x. (
     accepting t b key d out n e k h x,
     back t b key d out n e k h x,
-    puts_back t d (recordOf h) (readBack t b key d out n) (record-back t b key d out n e k h x),
+    puts_back t d (record_of h) (read_back t b key d out n) (record-back t b key d out n e k h x),
   );
   lost-exactly = lost-exactly t b key d out;
-  same-decisions = λ n e k h x home q.
-      ap (λ (r : Record). ruling home r q) (record-back t b key d out n e k h x) ∙ same-rules t d (recordOf h) home q;
+  same_decisions = λ n e k h x home q.
+      ap (λ (r : Record). ruling home r q) (record-back t b key d out n e k h x) ∙ same-rules t d (record_of h) home q;
 }

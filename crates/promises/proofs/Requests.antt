@@ -11,9 +11,9 @@ use borrow.Author.Tests.{leb-true, le-leb, ltb-true, lt-ltb, eqb-true, eq-eqb}
 use Rattle.bits.specs.Bits.{pick}
 use Rattle.bits.specs.Lists.{every, Each}
 use Rattle.bits.proofs.Tests.{both, both⁻¹, picked}
-use Rattle.grammar.specs.SiteSheet.{digitRefusal}
+use Rattle.grammar.specs.SiteSheet.{digit_refusal}
 use Rattle.grammar.proofs.Codes.{digit-refusal}
-use Rattle.rules.specs.Request.{isUser, isService, isDestination, is_group, isDigit, isUnused, digitsUsed, requestRefusal}
+use Rattle.rules.specs.Request.{is_user, is_service, is_destination, is_group, is_digit, is_unused, digits_used, request_refusal}
 use Rattle.rules.specs.declared.request.User.{User}
 use Rattle.rules.specs.declared.request.Destination.{Destination}
 use Rattle.rules.specs.declared.request.Destination.TheVariants.{Identity, Number}
@@ -24,8 +24,8 @@ use Rattle.promises.specs.Demand1.Decision.{Below, Reached, Grouped, used, Range
 
 -- ---- each test and what it says
 
-user-test : (u : User) → (isUser u ≡ true) ↔ Below u
-unfolding isUser
+user-test : (u : User) → (is_user u ≡ true) ↔ Below u
+unfolding is_user
 user-test u = (
   λ e. let k = both (ltb u.network 16777216) (ltb u.ssi 16777216) e in (ltb-true _ _ k.0, ltb-true _ _ k.1),
   λ h. both⁻¹ (lt-ltb u.network 16777216 h.0) (lt-ltb u.ssi 16777216 h.1),
@@ -38,12 +38,12 @@ between-test low high v = (
   λ h. both⁻¹ (le-leb low v h.0) (le-leb v high h.1),
 )
 
-service-test : (s : ℕ) → (isService s ≡ true) ↔ ((1 ≤ s) × (s ≤ 3))
-unfolding isService
+service-test : (s : ℕ) → (is_service s ≡ true) ↔ ((1 ≤ s) × (s ≤ 3))
+unfolding is_service
 service-test s = between-test 1 3 s
 
-destination-test : (d : Destination) → (isDestination d ≡ true) ↔ Reached d
-unfolding isDestination
+destination-test : (d : Destination) → (is_destination d ≡ true) ↔ Reached d
+unfolding is_destination
 destination-test (Identity u) = user-test u
 destination-test (Number length) = between-test 1 24 length.0
 
@@ -62,55 +62,55 @@ every-test f P t (a ∷ l) = (
   λ h. both⁻¹ ((t a).1 h.0) ((every-test f P t l).1 h.1),
 )
 
-digit-test : (d : ℕ) → (isDigit d ≡ true) ↔ (d ≤ 12)
-unfolding isDigit
+digit-test : (d : ℕ) → (is_digit d ≡ true) ↔ (d ≤ 12)
+unfolding is_digit
 digit-test d = (
-  λ e. leb-true d 12 (picked (leb d 12) (sym (digit-refusal d) ∙ eqb-true (digitRefusal d) 0 e) (λ x. omega arith)).0,
-  λ h. eq-eqb (digitRefusal d) 0 (digit-refusal d ∙ ap (λ (t : Bool). pick {A = ℕ} t 0 3) (le-leb d 12 h)),
+  λ e. leb-true d 12 (picked (leb d 12) (sym (digit-refusal d) ∙ eqb-true (digit_refusal d) 0 e) (λ x. omega arith)).0,
+  λ h. eq-eqb (digit_refusal d) 0 (digit-refusal d ∙ ap (λ (t : Bool). pick {A = ℕ} t 0 3) (le-leb d 12 h)),
 )
 
-unused-test : (d : ℕ) → (isUnused d ≡ true) ↔ (d ≡ 0)
-unfolding isUnused
+unused-test : (d : ℕ) → (is_unused d ≡ true) ↔ (d ≡ 0)
+unfolding is_unused
 unused-test d = (eqb-true d 0, eq-eqb d 0)
 
-used-test : (d : Destination) (l : List ℕ) → (every isDigit (take (digitsUsed d) l) ≡ true) ↔ Each (λ v. v ≤ 12) (take (used d) l)
-unfolding digitsUsed
-used-test (Identity u) l = every-test isDigit (λ v. v ≤ 12) digit-test (take 0 l)
-used-test (Number length) l = every-test isDigit (λ v. v ≤ 12) digit-test (take length.0 l)
+used-test : (d : Destination) (l : List ℕ) → (every is_digit (take (digits_used d) l) ≡ true) ↔ Each (λ v. v ≤ 12) (take (used d) l)
+unfolding digits_used
+used-test (Identity u) l = every-test is_digit (λ v. v ≤ 12) digit-test (take 0 l)
+used-test (Number length) l = every-test is_digit (λ v. v ≤ 12) digit-test (take length.0 l)
 
-rest-test : (d : Destination) (l : List ℕ) → (every isUnused (drop (digitsUsed d) l) ≡ true) ↔ Each (λ v. v ≡ 0) (drop (used d) l)
-unfolding digitsUsed
-rest-test (Identity u) l = every-test isUnused (λ v. v ≡ 0) unused-test (drop 0 l)
-rest-test (Number length) l = every-test isUnused (λ v. v ≡ 0) unused-test (drop length.0 l)
+rest-test : (d : Destination) (l : List ℕ) → (every is_unused (drop (digits_used d) l) ≡ true) ↔ Each (λ v. v ≡ 0) (drop (used d) l)
+unfolding digits_used
+rest-test (Identity u) l = every-test is_unused (λ v. v ≡ 0) unused-test (drop 0 l)
+rest-test (Number length) l = every-test is_unused (λ v. v ≡ 0) unused-test (drop length.0 l)
 
 -- ---- the request
 
 module _ (q : Request) where
-  abbrev usedPass : Bool
-  usedPass = every isDigit (take (digitsUsed q.destination) q.digits)
+  abbrev used_pass : Bool
+  used_pass = every is_digit (take (digits_used q.destination) q.digits)
 
-  abbrev unusedPass : Bool
-  unusedPass = every isUnused (drop (digitsUsed q.destination) q.digits)
+  abbrev unused_pass : Bool
+  unused_pass = every is_unused (drop (digits_used q.destination) q.digits)
 
   abbrev pub test : Bool
-  test = isUser q.user && isService q.service && isDestination q.destination && is_group q.group && usedPass && unusedPass
+  test = is_user q.user && is_service q.service && is_destination q.destination && is_group q.group && used_pass && unused_pass
 
   -- the parts of the test
   pub record Tests : Type 0 where
-    pub user : isUser q.user ≡ true
-    pub service : isService q.service ≡ true
-    pub destination : isDestination q.destination ≡ true
+    pub user : is_user q.user ≡ true
+    pub service : is_service q.service ≡ true
+    pub destination : is_destination q.destination ≡ true
     pub group : is_group q.group ≡ true
-    pub digits : usedPass ≡ true
-    pub unused : unusedPass ≡ true
+    pub digits : used_pass ≡ true
+    pub unused : unused_pass ≡ true
 
   pub in-range : test ≡ true → Ranged q
   in-range e =
-      let a = both _ unusedPass e in
-      let b = both _ usedPass a.0 in
+      let a = both _ unused_pass e in
+      let b = both _ used_pass a.0 in
       let c = both _ (is_group q.group) b.0 in
-      let d = both _ (isDestination q.destination) c.0 in
-      let f = both (isUser q.user) (isService q.service) d.0 in
+      let d = both _ (is_destination q.destination) c.0 in
+      let f = both (is_user q.user) (is_service q.service) d.0 in
       record {
         user = (user-test q.user).0 f.0;
         service = (service-test q.service).0 f.1;
@@ -133,8 +133,8 @@ module _ (q : Request) where
   pub passes : Ranged q → test ≡ true
   passes r = let t = tests r in rw (t.user, t.service, t.destination, t.group, t.digits, t.unused)
 
-  pub ranged : (requestRefusal q ≡ 0) ↔ Ranged q
-  unfolding requestRefusal
+  pub ranged : (request_refusal q ≡ 0) ↔ Ranged q
+  unfolding request_refusal
   ranged = (
     λ e. in-range (picked test e (λ x. omega arith)).0,
     λ r. ap (λ (t : Bool). pick {A = ℕ} t 0 9) (passes r),

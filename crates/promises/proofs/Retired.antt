@@ -4,13 +4,13 @@ use mathlib.Core.Bool.{false}
 use mathlib.Core.List.{List}
 use Prim.Native.Nat.{ℕ}
 use Rattle.bits.proofs.Tests.{differ}
-use Rattle.promises.specs.Answers.{isOneOf, OneOf, Exactly}
+use Rattle.promises.specs.Answers.{is_one_of, OneOf, Exactly}
 use Rattle.promises.specs.Retired.{Promise}
 use Rattle.promises.proofs.Calls.{read_kept, write_kept, empty-kept, capture-kept, entry_kept, restore-kept, reload-kept, decide-kept, contents-kept}
 
 -- a table whose list of numbers does not have 10
 unlisted {ℓ} : {A : Type 0} {number : A → ℕ} {answer : A} {numbers : List ℕ} {Given : A → Type ℓ} → Exactly number answer numbers Given
-    → isOneOf numbers 10 ≡ false → number answer ≡ 10 → ⊥
+    → is_one_of numbers 10 ≡ false → number answer ≡ 10 → ⊥
 unlisted {numbers = numbers} table without e = differ (sym (subst (OneOf numbers) e table.listed) ∙ without)
 
 pub promise : Promise

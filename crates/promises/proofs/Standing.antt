@@ -7,16 +7,16 @@ use lib.Dec.{leb, eqb}
 use borrow.Author.Tests.{eqb-true, eq-eqb, leb-true, leb-false, le-leb}
 use Rattle.bits.specs.Bits.{pick}
 use Rattle.bits.proofs.Tests.{never, both, both⁻¹}
-use Rattle.grammar.specs.SiteSheet.{definedPart}
+use Rattle.grammar.specs.SiteSheet.{defined_part}
 use Rattle.grammar.specs.declared.record.Lists.{Lists}
-use Rattle.reload.specs.Define.{isDefinition, partFor, noIdentities, noNumbers, standsIn, stands}
+use Rattle.reload.specs.Define.{is_definition, part_for, no_identities, no_numbers, stands_in, stands}
 use Rattle.reload.specs.declared.Definition.{Definition}
 use Rattle.reload.specs.declared.Target.{Target}
 use Rattle.reload.specs.declared.Target.TheVariants.{Define, DefineExternal}
 use Rattle.promises.specs.Demand1.Reload.{Asked, Empty, NoNumbers, Stands}
 
-pub asked_is : (d : Definition) → Asked d → isDefinition d ≡ true
-unfolding isDefinition
+pub asked_is : (d : Definition) → Asked d → is_definition d ≡ true
+unfolding is_definition
 asked_is d a = both⁻¹ (le-leb _ _ a.definition) (both⁻¹ (le-leb _ _ a.delivery) (only (leb d.acknowledgement d.delivery) refl))
   where
     only : (t : Bool) → leb d.acknowledgement d.delivery ≡ t → t ≡ true
@@ -26,8 +26,8 @@ asked_is d a = both⁻¹ (le-leb _ _ a.definition) (both⁻¹ (le-leb _ _ a.deli
         let one : d.acknowledgement ≡ 1 = omega (arith, a.acknowledgement) in
         absurd (omega (arith, a.with-delivery one))
 
-pub is-asked : (d : Definition) → isDefinition d ≡ true → Asked d
-unfolding isDefinition
+pub is-asked : (d : Definition) → is_definition d ≡ true → Asked d
+unfolding is_definition
 is-asked d e =
     let p = both (leb d.definition 2) (leb d.delivery 1 && leb d.acknowledgement d.delivery) e in
     let q = both (leb d.delivery 1) (leb d.acknowledgement d.delivery) p.1 in
@@ -36,42 +36,42 @@ is-asked d e =
     record { definition = leb-true d.definition 2 p.0; delivery = v; acknowledgement = omega arith; with-delivery = λ one. omega arith }
 
 module _ (l : Lists) where
-  identities-are : Empty l.restricted × Empty l.exceptions → noIdentities l ≡ true
-  identities-are z = both⁻¹ (eq-eqb _ _ z.0) (eq-eqb _ _ z.1)
+  identities_are : Empty l.restricted × Empty l.exceptions → no_identities l ≡ true
+  identities_are z = both⁻¹ (eq-eqb _ _ z.0) (eq-eqb _ _ z.1)
 
-  are-identities : noIdentities l ≡ true → Empty l.restricted × Empty l.exceptions
+  are-identities : no_identities l ≡ true → Empty l.restricted × Empty l.exceptions
   are-identities e = let p = both (eqb l.restricted.code 0) (eqb l.exceptions.code 0) e in (eqb-true _ _ p.0, eqb-true _ _ p.1)
 
-  numbers-are : NoNumbers l.numbers × NoNumbers l.excepted → noNumbers l ≡ true
-  numbers-are z = both⁻¹ (eq-eqb _ _ z.0) (eq-eqb _ _ z.1)
+  numbers_are : NoNumbers l.numbers × NoNumbers l.excepted → no_numbers l ≡ true
+  numbers_are z = both⁻¹ (eq-eqb _ _ z.0) (eq-eqb _ _ z.1)
 
-  are-numbers : noNumbers l ≡ true → NoNumbers l.numbers × NoNumbers l.excepted
+  are-numbers : no_numbers l ≡ true → NoNumbers l.numbers × NoNumbers l.excepted
   are-numbers e = let p = both (eqb l.numbers.code 0) (eqb l.excepted.code 0) e in (eqb-true _ _ p.0, eqb-true _ _ p.1)
 
   -- under removal no list has a place
   all_are : Empty l.groups × (Empty l.restricted × Empty l.exceptions) × (NoNumbers l.numbers × NoNumbers l.excepted)
-      → eqb l.groups.code 0 && (noIdentities l && noNumbers l) ≡ true
-  all_are z = both⁻¹ (eq-eqb _ _ z.0) (both⁻¹ (identities-are z.1) (numbers-are z.2))
+      → eqb l.groups.code 0 && (no_identities l && no_numbers l) ≡ true
+  all_are z = both⁻¹ (eq-eqb _ _ z.0) (both⁻¹ (identities_are z.1) (numbers_are z.2))
 
-  are_all : eqb l.groups.code 0 && (noIdentities l && noNumbers l) ≡ true
+  are_all : eqb l.groups.code 0 && (no_identities l && no_numbers l) ≡ true
       → Empty l.groups × (Empty l.restricted × Empty l.exceptions) × (NoNumbers l.numbers × NoNumbers l.excepted)
   are_all e =
-      let p = both (eqb l.groups.code 0) (noIdentities l && noNumbers l) e in
-      let q = both (noIdentities l) (noNumbers l) p.1 in
+      let p = both (eqb l.groups.code 0) (no_identities l && no_numbers l) e in
+      let q = both (no_identities l) (no_numbers l) p.1 in
       (eqb-true _ _ p.0, are-identities q.0, are-numbers q.1)
 
   -- addition and replacement have places for the lists of the part, removal for none
   abbrev by : (t : Target) (few : Bool) → Bool
-  by t few = standsIn (pick few (partFor t) 0) l
+  by t few = stands_in (pick few (part_for t) 0) l
 
   stands_by : (t : Target) (definition : ℕ) → definition ≤ 2 → Stands t definition l → (few : Bool) → leb definition 1 ≡ few → by t few ≡ true
-  unfolding standsIn
+  unfolding stands_in
   stands_by t definition low s false e = all_are (s.removal (omega (arith, leb-false definition 1 e)))
-  stands_by Define definition low s true e = numbers-are (s.define refl)
-  stands_by DefineExternal definition low s true e = identities-are (s.external refl)
+  stands_by Define definition low s true e = numbers_are (s.define refl)
+  stands_by DefineExternal definition low s true e = identities_are (s.external refl)
 
   by-stands : (t : Target) (definition : ℕ) (few : Bool) → leb definition 1 ≡ few → by t few ≡ true → Stands t definition l
-  unfolding standsIn
+  unfolding stands_in
   by-stands t definition false e h =
       let z = are_all h in
       record { define = λ is. z.2; external = λ is. z.1; removal = λ two. z }
@@ -87,9 +87,9 @@ module _ (l : Lists) where
   }
 
 pub stands-is : (t : Target) (definition : ℕ) (l : Lists) → definition ≤ 2 → Stands t definition l → stands t definition l ≡ true
-unfolding definedPart
+unfolding defined_part
 stands-is t definition l low s = stands_by l t definition low s (leb definition 1) refl
 
 pub is-standing : (t : Target) (definition : ℕ) (l : Lists) → stands t definition l ≡ true → Stands t definition l
-unfolding definedPart
+unfolding defined_part
 is-standing t definition l e = by-stands l t definition (leb definition 1) refl e

@@ -5,7 +5,7 @@ use Rattle.promises.specs.Terminals.{Promise}
 use Rattle.promises.proofs.Terminals.Places.{every}
 use Rattle.promises.proofs.Terminals.OnLine.{reset-kept, line_kept}
 use Rattle.promises.proofs.Terminals.Layer.{whole-layer}
-use Rattle.promises.proofs.Terminals.Text.{text-kept, nothing-kept, short-kept, put-back-kept}
+use Rattle.promises.proofs.Terminals.Text.{text-kept, nothing-kept, short-kept, put_back-kept}
 pub mod Places
 pub mod Values
 pub mod OnLine
@@ -22,5 +22,5 @@ promise = record {
   text = text-kept;
   nothing = nothing-kept;
   short = short-kept;
-  put_back = λ t lent h. put-back-kept t h lent;
+  put_back = λ t lent h. put_back-kept t h lent;
 }

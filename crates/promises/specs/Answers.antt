@@ -3,12 +3,12 @@ use Rattle.std.specs.Prelude.{◌≡◌, ◌↔◌, Bool, true, false, ◌||◌,
 
 -- ---- one of these numbers
 
-abbrev pub isOneOf : List ℕ → ℕ → Bool
-isOneOf [] n = false
-isOneOf (k ∷ ks) n = eqb n k || isOneOf ks n
+abbrev pub is_one_of : List ℕ → ℕ → Bool
+is_one_of [] n = false
+is_one_of (k ∷ ks) n = eqb n k || is_one_of ks n
 
 abbrev pub OneOf : List ℕ → ℕ → Type 0
-OneOf ks n = isOneOf ks n ≡ true
+OneOf ks n = is_one_of ks n ≡ true
 
 -- ---- a call keeps its table
 

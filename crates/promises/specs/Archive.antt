@@ -4,19 +4,19 @@ use Rattle.std.specs.Prelude.{◌≡◌, ◌↔◌, ◌⊎◌, true, false, ℕ,
 use mathlib.Core.List.{List, [], ◌∷◌, ◌++◌, Memᴰ}
 use Rattle.std.proofs.Math.Option.{none, some}
 use Rattle.bits.specs.Bits.{Bytes}
-use Rattle.bits.specs.Frame.{Framed, bitsIn}
+use Rattle.bits.specs.Frame.{Framed, bits_in}
 use Rattle.bits.specs.Lists.{Each}
 use Rattle.codec.specs.Codec.{Legal}
-use Rattle.grammar.specs.Grammar.{pdu, zeroIdentity}
+use Rattle.grammar.specs.Grammar.{pdu, zero_identity}
 use Rattle.grammar.specs.declared.record.Identity.{Identity}
 use Rattle.grammar.specs.declared.record.Record.{Record}
-use Rattle.reader.specs.Read.{readIs}
-use Rattle.pdu.specs.Accepted.{acceptedAs}
+use Rattle.reader.specs.Read.{read_is}
+use Rattle.pdu.specs.Accepted.{accepted_as}
 use Rattle.reader.specs.declared.Answer.TheVariants.{Accepted}
-use Rattle.judging.specs.Judge.{mayHold}
+use Rattle.judging.specs.Judge.{may_hold}
 use Rattle.archive.specs.Model.{Held, Archive, bytes_of, in_range}
-use Rattle.archive.specs.Filing.{bodyAgrees, wellFormed}
-use Rattle.archive.specs.Reading.{reading, isArchive, Counted}
+use Rattle.archive.specs.Filing.{body_agrees, well_formed}
+use Rattle.archive.specs.Reading.{reading, is_archive, Counted}
 use Rattle.archive.specs.Restoring.{lookup}
 use Rattle.archive.specs.declared.contents.Key.{Key}
 use Rattle.archive.specs.declared.contents.Entry.{Entry}
@@ -41,7 +41,7 @@ Rising (h ∷ g ∷ hs) = Before h.entry.key g.entry.key × Rising (g ∷ hs)
 pub record LegalPdu (s : List ℕ) (n : ℕ) (r : Record) : Type 0 where
   pub framed : Framed s n
   pub legal : Legal pdu r
-  pub bits : bitsIn n s ≡ pdu.print r
+  pub bits : bits_in n s ≡ pdu.print r
 
 -- "is the extension if present, otherwise the home network"
 pub record NetworkOf (home : ℕ) (u : Identity) (network : ℕ) : Type 0 where
@@ -49,15 +49,15 @@ pub record NetworkOf (home : ℕ) (u : Identity) (network : ℕ) : Type 0 where
   pub otherwise : (u.present ≡ 1 → ⊥) → network ≡ home
 
 -- its affected user
-abbrev pub affectedUser : Record → Identity
-affectedUser r = get_or r.affected.entries 0 zeroIdentity
+abbrev pub affected_user : Record → Identity
+affected_user r = get_or r.affected.entries 0 zero_identity
 
 pub record Agrees (home : ℕ) (h : Held) (r : Record) : Type 0 where
   pub body : LegalPdu h.body h.entry.bits.0 r
   pub accepting : Holdable r
   pub part : h.entry.key.part ≡ r.figures.result
-  pub ssi : h.entry.key.ssi ≡ (affectedUser r).ssi
-  pub network : NetworkOf home (affectedUser r) h.entry.key.network
+  pub ssi : h.entry.key.ssi ≡ (affected_user r).ssi
+  pub network : NetworkOf home (affected_user r) h.entry.key.network
 
 -- ---- an archive that keeps the rules
 
@@ -71,21 +71,21 @@ pub record WellFormed (a : Archive) : Type 0 where
 
 -- ---- bytes that are an archive: "all numbers are most significant byte first"
 
-abbrev pub twoBytes : List ℕ → ℕ → ℕ
-twoBytes b at = get_or b at 0 * 256 + get_or b (at + 1) 0
+abbrev pub two_bytes : List ℕ → ℕ → ℕ
+two_bytes b at = get_or b at 0 * 256 + get_or b (at + 1) 0
 
-abbrev pub threeBytes : List ℕ → ℕ → ℕ
-threeBytes b at = get_or b at 0 * 65536 + get_or b (at + 1) 0 * 256 + get_or b (at + 2) 0
+abbrev pub three_bytes : List ℕ → ℕ → ℕ
+three_bytes b at = get_or b at 0 * 65536 + get_or b (at + 1) 0 * 256 + get_or b (at + 2) 0
 
 -- "Contents, 11 bytes an entry: network (3), SSI (3), part (1), bit length (2)", and document 02's day (2)
 pub record EntryAt (b : List ℕ) (at : ℕ) (e : Entry) : Type 0 where
-  pub network : e.key.network ≡ threeBytes b at
-  pub ssi : e.key.ssi ≡ threeBytes b (at + 3)
+  pub network : e.key.network ≡ three_bytes b at
+  pub ssi : e.key.ssi ≡ three_bytes b (at + 3)
   pub part : e.key.part ≡ get_or b (at + 6) 0
-  pub bits : e.bits.0 ≡ twoBytes b (at + 7)
-  pub day : e.day ≡ twoBytes b (at + 9)
+  pub bits : e.bits.0 ≡ two_bytes b (at + 7)
+  pub day : e.day ≡ two_bytes b (at + 9)
 
--- "Bodies, in contents order, each in its rounded-up bytes, nothing between or after": entries from one place on, bodies from another
+-- "Bodies, in contents order, each in its rounded_up bytes, nothing between or after": entries from one place on, bodies from another
 abbrev pub Laid : List ℕ → ℕ → ℕ → List Held → Type 0
 Laid b at off [] = off ≡ length b
 Laid b at off (h ∷ hs) =
@@ -97,8 +97,8 @@ Laid b at off (h ∷ hs) =
 pub record IsArchive (b : List ℕ) : Type 0 where
   pub archive : Archive
   pub formed : WellFormed archive
-  pub home : archive.home ≡ threeBytes b 0
-  pub count : length archive.held ≡ twoBytes b 3
+  pub home : archive.home ≡ three_bytes b 0
+  pub count : length archive.held ≡ two_bytes b 3
   pub laid : Laid b 5 (5 + 11 * length archive.held) archive.held
 
 -- ---- a user and part
@@ -124,23 +124,23 @@ pub record StandsAt (hs : List Held) (index : ℕ) (h : Held) : Type 0 where
 -- ---- the tests of the calls say the same. Proved in proofs/Archive.antt.
 
 pub record Promise : Type 0 where
-  pub legal : (s : List ℕ) (n : ℕ) (r : Record) → (readIs s n ≡ acceptedAs r) ↔ LegalPdu s n r
-  pub agrees : (home : ℕ) (h : Held) → (bodyAgrees home h ≡ true) ↔ ((r : Record) × Agrees home h r)
-  pub well-formed : (a : Archive) → (wellFormed a ≡ true) ↔ WellFormed a
-  pub is-archive : (b : List ℕ) → (isArchive b ≡ true) ↔ IsArchive b
+  pub legal : (s : List ℕ) (n : ℕ) (r : Record) → (read_is s n ≡ accepted_as r) ↔ LegalPdu s n r
+  pub agrees : (home : ℕ) (h : Held) → (body_agrees home h ≡ true) ↔ ((r : Record) × Agrees home h r)
+  pub well-formed : (a : Archive) → (well_formed a ≡ true) ↔ WellFormed a
+  pub is-archive : (b : List ℕ) → (is_archive b ≡ true) ↔ IsArchive b
   -- "An archive has one reading."
   pub one-reading : (b : List ℕ) (k : IsArchive b) → k.archive ≡ reading b
   -- The bytes of well-formed archives are archives, and there are no others.
   pub archive-bytes : (b : List ℕ) → Bytes b → IsArchive b ↔ ((a : Archive) × WellFormed a × (bytes_of a ≡ b))
   pub one-archive : (a a' : Archive) → WellFormed a → WellFormed a' → bytes_of a ≡ bytes_of a' → a ≡ a'
   -- The entry count is the number of keys held, and the length is that of header, contents and bodies.
-  pub counts : (b : List ℕ) → isArchive b ≡ true → Counted b
+  pub counts : (b : List ℕ) → is_archive b ≡ true → Counted b
   pub in-range : (k : Key) → (in_range k ≡ true) ↔ Ranged k
   -- A lookup finds the entry of that network, SSI and part, or there is none.
-  pub found : (b : List ℕ) → isArchive b ≡ true → (k : Key) → Ranged k → (h : Held)
+  pub found : (b : List ℕ) → is_archive b ≡ true → (k : Key) → Ranged k → (h : Held)
       → (lookup k (reading b).held ≡ some h) ↔ HeldFor (reading b).held k h
-  pub not_found : (b : List ℕ) → isArchive b ≡ true → (k : Key) → Ranged k
+  pub not_found : (b : List ℕ) → is_archive b ≡ true → (k : Key) → Ranged k
       → (lookup k (reading b).held ≡ none) ↔ ((h : Held) → HeldFor (reading b).held k h → ⊥)
   -- A legal PDU may not be held exactly if it agrees with no entry of its bit length, whatever the home network.
-  pub no-entry : (s : List ℕ) (n : ℕ) → (readIs s n).answer ≡ Accepted → (mayHold (readIs s n).found ≡ false)
-      ↔ ((home : ℕ) (e : Entry) → e.bits.0 ≡ n → bodyAgrees home (record { entry = e; body = s }) ≡ false)
+  pub no-entry : (s : List ℕ) (n : ℕ) → (read_is s n).answer ≡ Accepted → (may_hold (read_is s n).found ≡ false)
+      ↔ ((home : ℕ) (e : Entry) → e.bits.0 ≡ n → body_agrees home (record { entry = e; body = s }) ≡ false)

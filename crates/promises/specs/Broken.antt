@@ -6,14 +6,14 @@ use Rattle.grammar.specs.declared.record.Record.{Record}
 use Rattle.walk.specs.declared.BitPlace.{BitPlace}
 use Rattle.walk.specs.declared.BitPlace.TheVariants.{Nowhere}
 use Rattle.walk.specs.declared.Refusal as pdu
-use Rattle.reader.specs.Read.{readIs}
+use Rattle.reader.specs.Read.{read_is}
 use Rattle.reader.specs.declared.Answer.TheVariants as reader
 use Rattle.archive.specs.Model.{Held, Archive}
-use Rattle.archive.specs.Refusals.{plain, ofBody}
-use Rattle.archive.specs.Checking.{hasShape, checkIs}
+use Rattle.archive.specs.Refusals.{plain, of_body}
+use Rattle.archive.specs.Checking.{has_shape, check_is}
 use Rattle.archive.specs.declared.refusal.Refusal.{Refusal}
 use Rattle.archive.specs.declared.checking.Checked.TheVariants as checked
-use Rattle.promises.specs.Archive.{Rising, Ranged, LegalPdu, Agrees, threeBytes, twoBytes, Laid, IsArchive}
+use Rattle.promises.specs.Archive.{Rising, Ranged, LegalPdu, Agrees, three_bytes, two_bytes, Laid, IsArchive}
 
 -- document 01's number of a refusal
 abbrev pub number_of : Refusal → ℕ
@@ -29,13 +29,13 @@ pub record HasShape (b : List ℕ) : Type 0 where
   pub keys : Each (λ h. Ranged h.entry.key) archive.held
   pub rising : Rising archive.held
   pub days : Each (λ h. h.entry.day < 65536) archive.held
-  pub home : archive.home ≡ threeBytes b 0
-  pub count : length archive.held ≡ twoBytes b 3
+  pub home : archive.home ≡ three_bytes b 0
+  pub count : length archive.held ≡ two_bytes b 3
   pub laid : Laid b 5 (5 + 11 * length archive.held) archive.held
 
 -- a body at fault is refused in reading, with that refusal's place; or it is a legal PDU that does not agree with its entry, which has no place
 pub data AtFault (home : ℕ) (h : Held) : BitPlace → Type 0 where
-  refused : (f : pdu.Refusal) → (readIs h.body h.entry.bits.0).answer ≡ reader.Refused f → AtFault home h f.place
+  refused : (f : pdu.Refusal) → (read_is h.body h.entry.bits.0).answer ≡ reader.Refused f → AtFault home h f.place
   unfit : (r : Record) → LegalPdu h.body h.entry.bits.0 r → (Agrees home h r → ⊥) → AtFault home h Nowhere
 
 -- the first body at fault: all before it agree with their entries
@@ -51,10 +51,10 @@ pub record FirstFault (home : ℕ) (hs : List Held) (index : ℕ) (place : BitPl
 -- refusal 7, with what it brings
 pub data Broken (b : List ℕ) : Refusal → Type 0 where
   shape : (HasShape b → ⊥) → Broken b (plain 7)
-  body : (k : HasShape b) (index : ℕ) (place : BitPlace) → FirstFault k.archive.home k.archive.held index place → Broken b (ofBody index place)
+  body : (k : HasShape b) (index : ℕ) (place : BitPlace) → FirstFault k.archive.home k.archive.held index place → Broken b (of_body index place)
 
 -- The check says the same. Proved in proofs/Broken.antt.
 pub record Promise : Type 0 where
-  pub has-shape : (b : List ℕ) → (hasShape b ≡ true) ↔ HasShape b
-  pub passes : (b : List ℕ) → (checkIs b ≡ checked.Archive) ↔ IsArchive b
-  pub refuses : (b : List ℕ) (f : Refusal) → (checkIs b ≡ checked.Refused f) ↔ Broken b f
+  pub has-shape : (b : List ℕ) → (has_shape b ≡ true) ↔ HasShape b
+  pub passes : (b : List ℕ) → (check_is b ≡ checked.Archive) ↔ IsArchive b
+  pub refuses : (b : List ℕ) (f : Refusal) → (check_is b ≡ checked.Refused f) ↔ Broken b f

@@ -3,35 +3,35 @@
 -- or BOC_NOWHERE; if it is 0, its pointer holds exactly the length, the day or the decision, and entry and place are what they were.
 use Rattle.std.specs.Prelude.{◌≡◌, List, [], ◌∷◌, ◌++◌, ℕ, length, drop}
 use Rattle.std.proofs.Math.Option.{none}
-use Rattle.bits.specs.Frame.{bytesFor, bitsIn, pack}
+use Rattle.bits.specs.Frame.{bytes_for, bits_in, pack}
 use Rattle.codec.specs.Codec.{Legal}
 use Rattle.grammar.specs.Grammar.{pdu}
 use Rattle.walk.specs.declared.BitPlace.TheVariants as bit
-use Rattle.reader.specs.Read.{refusalOf, readIs}
-use Rattle.reader.specs.Words.{readWordsIs, readWords}
+use Rattle.reader.specs.Read.{refusal_of, read_is}
+use Rattle.reader.specs.Words.{read_words_is, read_words}
 use Rattle.writer.specs.Write.{length_of}
 use Rattle.archive.specs.Model.{Held, bytes_of}
 use Rattle.archive.specs.Refusals.{plain}
-use Rattle.archive.specs.Keeping.{storedRefusal, over, captured, emptyOut, captureOut}
-use Rattle.archive.specs.Restoring.{listedRefusal, restoredRefusal, restoreOut}
-use Rattle.archive.specs.Listing.{listOut}
+use Rattle.archive.specs.Keeping.{stored_refusal, over, captured, empty_out, capture_out}
+use Rattle.archive.specs.Restoring.{listed_refusal, restored_refusal, restore_out}
+use Rattle.archive.specs.Listing.{list_out}
 use Rattle.archive.specs.Listing as lists
 use Rattle.archive.specs.declared.contents.Key.{Key}
-use Rattle.reload.specs.Define.{defineOf}
-use Rattle.reload.specs.Reload.{recordOf, reloadedRefusal, reloadIs, reloadOut}
+use Rattle.reload.specs.Define.{define_of}
+use Rattle.reload.specs.Reload.{record_of, reloaded_refusal, reload_is, reload_out}
 use Rattle.reload.specs.declared.Definition.{Definition}
 use Rattle.reload.specs.declared.Target.{Target}
 use Rattle.reload.specs.declared.Target.TheVariants.{Define, DefineExternal}
-use Rattle.words.specs.RecordWords.{word, recordWords, recordFrom}
-use Rattle.words.specs.RequestWords.{requestFrom}
-use Rattle.barring.specs.Decide.{partIn, decideIs}
-use Rattle.barring.specs.Decision.{decidedRefusal}
-use Rattle.boc.specs.Calls.{placeWord, entryWord, readNumber, read_place, writeNumber, writeOut, writeBits, emptyNumber, emptyLength}
-use Rattle.boc.specs.Calls.{storedNumber, storedLength, storedEntry, storedPlace, captureAnswer, contentsAnswer}
-use Rattle.boc.specs.Calls.{listedNumber, listedKey, listedLength, listedDay, listedEntry, listedPlace, entryAnswer}
-use Rattle.boc.specs.Calls.{restoredNumber, restoredLength, restoredDay, restoredEntry, restoredPlace, key_of, restoreAnswer}
-use Rattle.boc.specs.Calls.{reloadedNumber, reloadedLength, reloadedEntry, reloadedPlace, definitionOf}
-use Rattle.boc.specs.Calls.{decidedNumber, decidedVerdict, decidedEntry, decidedPlace, decideAnswer}
+use Rattle.words.specs.RecordWords.{word, record_words, record_from}
+use Rattle.words.specs.RequestWords.{request_from}
+use Rattle.barring.specs.Decide.{part_in, decide_is}
+use Rattle.barring.specs.Decision.{decided_refusal}
+use Rattle.boc.specs.Calls.{place_word, entry_word, read_number, read_place, write_number, write_out, write_bits, empty_number, empty_length}
+use Rattle.boc.specs.Calls.{stored_number, stored_length, stored_entry, stored_place, capture_answer, contents_answer}
+use Rattle.boc.specs.Calls.{listed_number, listed_key, listed_length, listed_day, listed_entry, listed_place, entry_answer}
+use Rattle.boc.specs.Calls.{restored_number, restored_length, restored_day, restored_entry, restored_place, key_of, restore_answer}
+use Rattle.boc.specs.Calls.{reloaded_number, reloaded_length, reloaded_entry, reloaded_place, definition_of}
+use Rattle.boc.specs.Calls.{decided_number, decided_verdict, decided_entry, decided_place, decide_answer}
 use Rattle.promises.specs.Answers.{Exactly}
 use Rattle.promises.specs.Archive.{IsArchive, HeldFor, StandsAt}
 use Rattle.promises.specs.Broken.{number_of}
@@ -75,122 +75,122 @@ pub record OfRequest (w : List ℕ) : Type 0 where
 
 -- boc_read: 0, 9 for another count of words than 520, and the numbers of reading
 pub record Read (pdu' : List ℕ) (bits : ℕ) (words : List ℕ) (place : ℕ) : Type 1 where
-  pub table : Exactly reading.number_of (refusalOf (readWordsIs pdu' bits (length words))) (reading.numbers ++ (9 ∷ []))
+  pub table : Exactly reading.number_of (refusal_of (read_words_is pdu' bits (length words))) (reading.numbers ++ (9 ∷ []))
       (Checked (reading.told 9 bit.Nowhere) (OfRecord words) (reading.Given pdu' bits))
   -- the words are those of the legal record whose writing the PDU is
-  pub success : readNumber pdu' bits (length words) ≡ 0 → let r = (readIs pdu' bits).found in
-      Legal pdu r × (bitsIn bits pdu' ≡ pdu.print r) × (readWords pdu' bits words ≡ recordWords r)
+  pub success : read_number pdu' bits (length words) ≡ 0 → let r = (read_is pdu' bits).found in
+      Legal pdu r × (bits_in bits pdu' ≡ pdu.print r) × (read_words pdu' bits words ≡ record_words r)
       × (read_place pdu' bits (length words) place ≡ place)
-  pub refusal : (readNumber pdu' bits (length words) ≡ 0 → ⊥)
-      → (readWords pdu' bits words ≡ words)
-      × (read_place pdu' bits (length words) place ≡ placeWord (refusalOf (readWordsIs pdu' bits (length words))).place)
+  pub refusal : (read_number pdu' bits (length words) ≡ 0 → ⊥)
+      → (read_words pdu' bits words ≡ words)
+      × (read_place pdu' bits (length words) place ≡ place_word (refusal_of (read_words_is pdu' bits (length words))).place)
 
 -- boc_write: 0, 9 for another count of words than 520, and the numbers of writing
 pub record Write (words out : List ℕ) (bits : ℕ) : Type 1 where
-  pub table : Exactly (λ k. k) (writeNumber words out) (0 ∷ 3 ∷ 4 ∷ 8 ∷ 9 ∷ []) (Checked 9 (OfRecord words) (writing.Given (recordFrom words) out))
-  pub success : writeNumber words out ≡ 0 → let r = recordFrom words in
-      (writeOut words out ≡ pack (pdu.print r) ++ drop (bytesFor (length_of r)) out) × (writeBits words out bits ≡ length_of r)
-  pub refusal : (writeNumber words out ≡ 0 → ⊥) → (writeOut words out ≡ out) × (writeBits words out bits ≡ bits)
+  pub table : Exactly (λ k. k) (write_number words out) (0 ∷ 3 ∷ 4 ∷ 8 ∷ 9 ∷ []) (Checked 9 (OfRecord words) (writing.Given (record_from words) out))
+  pub success : write_number words out ≡ 0 → let r = record_from words in
+      (write_out words out ≡ pack (pdu.print r) ++ drop (bytes_for (length_of r)) out) × (write_bits words out bits ≡ length_of r)
+  pub refusal : (write_number words out ≡ 0 → ⊥) → (write_out words out ≡ out) × (write_bits words out bits ≡ bits)
 
 -- boc_empty
 pub record Empty (home : ℕ) (out : List ℕ) (old : ℕ) : Type 0 where
-  pub table : Exactly (λ k. k) (emptyNumber home out) (0 ∷ 9 ∷ 8 ∷ []) (empty.Given home (length out))
-  pub success : emptyNumber home out ≡ 0 → (emptyOut home out ≡ over (empty.header home) out) × (emptyLength home out old ≡ 5)
-  pub refusal : (emptyNumber home out ≡ 0 → ⊥) → (emptyOut home out ≡ out) × (emptyLength home out old ≡ old)
+  pub table : Exactly (λ k. k) (empty_number home out) (0 ∷ 9 ∷ 8 ∷ []) (empty.Given home (length out))
+  pub success : empty_number home out ≡ 0 → (empty_out home out ≡ over (empty.header home) out) × (empty_length home out old ≡ 5)
+  pub refusal : (empty_number home out ≡ 0 → ⊥) → (empty_out home out ≡ out) × (empty_length home out old ≡ old)
 
 -- boc_capture
 pub record Capture (archive pdu' : List ℕ) (bits day : ℕ) (out : List ℕ) (old entry place : ℕ) : Type 0 where
-  pub table : let answer = captureAnswer archive pdu' bits day out in
-      Exactly number_of (storedRefusal answer) (reading.numbers ++ (9 ∷ 7 ∷ 6 ∷ 8 ∷ [])) (capture.Given archive pdu' bits day (length out))
-  pub success : let answer = captureAnswer archive pdu' bits day out in
-      storedNumber answer ≡ 0 → let b = bytes_of (captured archive pdu' bits day) in
-      (captureOut archive pdu' bits day out ≡ over b out) × (storedLength answer old ≡ length b)
-      × (storedEntry answer entry ≡ entry) × (storedPlace answer place ≡ place)
-  pub refusal : let answer = captureAnswer archive pdu' bits day out in
-      (storedNumber answer ≡ 0 → ⊥) → let f = storedRefusal answer in
-      (captureOut archive pdu' bits day out ≡ out) × (storedLength answer old ≡ old)
-      × (storedEntry answer entry ≡ entryWord f.entry) × (storedPlace answer place ≡ placeWord f.place)
+  pub table : let answer = capture_answer archive pdu' bits day out in
+      Exactly number_of (stored_refusal answer) (reading.numbers ++ (9 ∷ 7 ∷ 6 ∷ 8 ∷ [])) (capture.Given archive pdu' bits day (length out))
+  pub success : let answer = capture_answer archive pdu' bits day out in
+      stored_number answer ≡ 0 → let b = bytes_of (captured archive pdu' bits day) in
+      (capture_out archive pdu' bits day out ≡ over b out) × (stored_length answer old ≡ length b)
+      × (stored_entry answer entry ≡ entry) × (stored_place answer place ≡ place)
+  pub refusal : let answer = capture_answer archive pdu' bits day out in
+      (stored_number answer ≡ 0 → ⊥) → let f = stored_refusal answer in
+      (capture_out archive pdu' bits day out ≡ out) × (stored_length answer old ≡ old)
+      × (stored_entry answer entry ≡ entry_word f.entry) × (stored_place answer place ≡ place_word f.place)
 
 -- boc_entry: 0, 9 for another count of words than 3, 7, 11
-pub record Entry (archive : List ℕ) (index : ℕ) (key : List ℕ) (old oldDay entry place : ℕ) : Type 0 where
-  pub table : let answer = entryAnswer archive index (length key) in
-      Exactly number_of (listedRefusal answer) (0 ∷ 7 ∷ 11 ∷ 9 ∷ []) (Checked (plain 9) (length key ≡ 3) (entries.Given archive index))
+pub record Entry (archive : List ℕ) (index : ℕ) (key : List ℕ) (old old_day entry place : ℕ) : Type 0 where
+  pub table : let answer = entry_answer archive index (length key) in
+      Exactly number_of (listed_refusal answer) (0 ∷ 7 ∷ 11 ∷ 9 ∷ []) (Checked (plain 9) (length key ≡ 3) (entries.Given archive index))
   -- the entry that stands there: its key, its bits and its day
-  pub success : let answer = entryAnswer archive index (length key) in
-      listedNumber answer ≡ 0
+  pub success : let answer = entry_answer archive index (length key) in
+      listed_number answer ≡ 0
       → (k : IsArchive archive) × (h : Held) × StandsAt k.archive.held index h
-      × (listedKey answer key ≡ h.entry.key.network ∷ h.entry.key.ssi ∷ h.entry.key.part ∷ [])
-      × (listedLength answer old ≡ h.entry.bits.0) × (listedDay answer oldDay ≡ h.entry.day)
-      × (listedEntry answer entry ≡ entry) × (listedPlace answer place ≡ place)
-  pub refusal : let answer = entryAnswer archive index (length key) in
-      (listedNumber answer ≡ 0 → ⊥) → let f = listedRefusal answer in
-      (listedKey answer key ≡ key) × (listedLength answer old ≡ old) × (listedDay answer oldDay ≡ oldDay)
-      × (listedEntry answer entry ≡ entryWord f.entry) × (listedPlace answer place ≡ placeWord f.place)
+      × (listed_key answer key ≡ h.entry.key.network ∷ h.entry.key.ssi ∷ h.entry.key.part ∷ [])
+      × (listed_length answer old ≡ h.entry.bits.0) × (listed_day answer old_day ≡ h.entry.day)
+      × (listed_entry answer entry ≡ entry) × (listed_place answer place ≡ place)
+  pub refusal : let answer = entry_answer archive index (length key) in
+      (listed_number answer ≡ 0 → ⊥) → let f = listed_refusal answer in
+      (listed_key answer key ≡ key) × (listed_length answer old ≡ old) × (listed_day answer old_day ≡ old_day)
+      × (listed_entry answer entry ≡ entry_word f.entry) × (listed_place answer place ≡ place_word f.place)
 
 -- boc_restore
-pub record Restore (archive : List ℕ) (network ssi part : ℕ) (out : List ℕ) (old oldDay entry place : ℕ) : Type 0 where
-  pub table : let answer = restoreAnswer archive network ssi part out in
-      Exactly number_of (restoredRefusal answer) (0 ∷ 9 ∷ 7 ∷ 11 ∷ 8 ∷ []) (restore.Given archive (key_of network ssi part) (length out))
+pub record Restore (archive : List ℕ) (network ssi part : ℕ) (out : List ℕ) (old old_day entry place : ℕ) : Type 0 where
+  pub table : let answer = restore_answer archive network ssi part out in
+      Exactly number_of (restored_refusal answer) (0 ∷ 9 ∷ 7 ∷ 11 ∷ 8 ∷ []) (restore.Given archive (key_of network ssi part) (length out))
   -- the PDU that is held for that user and part, its bits and its day
-  pub success : let answer = restoreAnswer archive network ssi part out in
-      restoredNumber answer ≡ 0
+  pub success : let answer = restore_answer archive network ssi part out in
+      restored_number answer ≡ 0
       → (k : IsArchive archive) × (h : Held) × HeldFor k.archive.held (key_of network ssi part) h
-      × (restoreOut archive (key_of network ssi part) out ≡ over h.body out) × (restoredLength answer old ≡ h.entry.bits.0)
-      × (restoredDay answer oldDay ≡ h.entry.day)
-      × (restoredEntry answer entry ≡ entry) × (restoredPlace answer place ≡ place)
-  pub refusal : let answer = restoreAnswer archive network ssi part out in
-      (restoredNumber answer ≡ 0 → ⊥) → let f = restoredRefusal answer in
-      (restoreOut archive (key_of network ssi part) out ≡ out) × (restoredLength answer old ≡ old) × (restoredDay answer oldDay ≡ oldDay)
-      × (restoredEntry answer entry ≡ entryWord f.entry) × (restoredPlace answer place ≡ placeWord f.place)
+      × (restore_out archive (key_of network ssi part) out ≡ over h.body out) × (restored_length answer old ≡ h.entry.bits.0)
+      × (restored_day answer old_day ≡ h.entry.day)
+      × (restored_entry answer entry ≡ entry) × (restored_place answer place ≡ place)
+  pub refusal : let answer = restore_answer archive network ssi part out in
+      (restored_number answer ≡ 0 → ⊥) → let f = restored_refusal answer in
+      (restore_out archive (key_of network ssi part) out ≡ out) × (restored_length answer old ≡ old) × (restored_day answer old_day ≡ old_day)
+      × (restored_entry answer entry ≡ entry_word f.entry) × (restored_place answer place ≡ place_word f.place)
 
--- a part put back by a call: what it answers is reloadIs, what it leaves reloadOut
+-- a part put back by a call: what it answers is reload_is, what it leaves reload_out
 pub record Reloads (t : Target) (archive : List ℕ) (key : Key) (d : Definition) (out : List ℕ) (old entry place : ℕ) : Type 0 where
-  pub table : Exactly number_of (reloadedRefusal (reloadIs t archive key d out)) (0 ∷ 9 ∷ 7 ∷ 11 ∷ 12 ∷ 8 ∷ []) (reload.Given t archive key d (length out))
+  pub table : Exactly number_of (reloaded_refusal (reload_is t archive key d out)) (0 ∷ 9 ∷ 7 ∷ 11 ∷ 12 ∷ 8 ∷ []) (reload.Given t archive key d (length out))
   -- the PDU that puts back the one held for that user and part, and its bits
-  pub success : let answer = reloadIs t archive key d out in
-      reloadedNumber answer ≡ 0 → (k : IsArchive archive) × (h : Held) × HeldFor k.archive.held key h
-      × (reloadOut t archive key d out ≡ over (pack (pdu.print (defineOf t d (recordOf h)))) out)
-      × (reloadedLength answer old ≡ length_of (defineOf t d (recordOf h)))
-      × (reloadedEntry answer entry ≡ entry) × (reloadedPlace answer place ≡ place)
-  pub refusal : let answer = reloadIs t archive key d out in
-      (reloadedNumber answer ≡ 0 → ⊥) → let f = reloadedRefusal answer in
-      (reloadOut t archive key d out ≡ out) × (reloadedLength answer old ≡ old)
-      × (reloadedEntry answer entry ≡ entryWord f.entry) × (reloadedPlace answer place ≡ placeWord f.place)
+  pub success : let answer = reload_is t archive key d out in
+      reloaded_number answer ≡ 0 → (k : IsArchive archive) × (h : Held) × HeldFor k.archive.held key h
+      × (reload_out t archive key d out ≡ over (pack (pdu.print (define_of t d (record_of h)))) out)
+      × (reloaded_length answer old ≡ length_of (define_of t d (record_of h)))
+      × (reloaded_entry answer entry ≡ entry) × (reloaded_place answer place ≡ place)
+  pub refusal : let answer = reload_is t archive key d out in
+      (reloaded_number answer ≡ 0 → ⊥) → let f = reloaded_refusal answer in
+      (reload_out t archive key d out ≡ out) × (reloaded_length answer old ≡ old)
+      × (reloaded_entry answer entry ≡ entry_word f.entry) × (reloaded_place answer place ≡ place_word f.place)
 
 -- boc_reload: a DEFINE of either part
 abbrev pub Reload : List ℕ → ℕ → ℕ → ℕ → ℕ → ℕ → ℕ → List ℕ → ℕ → ℕ → ℕ → Type 0
 Reload archive network ssi part definition delivery acknowledgement =
-    Reloads Define archive (key_of network ssi part) (definitionOf definition delivery acknowledgement)
+    Reloads Define archive (key_of network ssi part) (definition_of definition delivery acknowledgement)
 
 -- boc_reload_external: a DEFINE EXTERNAL of the number part
 abbrev pub ReloadExternal : List ℕ → ℕ → ℕ → ℕ → ℕ → ℕ → List ℕ → ℕ → ℕ → ℕ → Type 0
 ReloadExternal archive network ssi definition delivery acknowledgement =
-    Reloads DefineExternal archive (key_of network ssi 2) (definitionOf definition delivery acknowledgement)
+    Reloads DefineExternal archive (key_of network ssi 2) (definition_of definition delivery acknowledgement)
 
 -- boc_decide and boc_decide_in_place, whose contracts are in the same words: 0, 9 for words that are no request's or a request out of its range, 7
 pub record Decide (archive words : List ℕ) (old entry place : ℕ) : Type 0 where
-  pub table : let answer = decideAnswer archive words in
-      Exactly number_of (decidedRefusal answer) (0 ∷ 9 ∷ 7 ∷ []) (Checked (plain 9) (OfRequest words) (decision.Given archive (requestFrom words)))
+  pub table : let answer = decide_answer archive words in
+      Exactly number_of (decided_refusal answer) (0 ∷ 9 ∷ 7 ∷ []) (Checked (plain 9) (OfRequest words) (decision.Given archive (request_from words)))
   -- 0 to 2 barred with that cause, 3 allowed, 4 not held
-  pub success : let answer = decideAnswer archive words in
-      decidedNumber answer ≡ 0 → decision.Verdict (decidedVerdict answer old) (decideIs archive (requestFrom words))
-      × (decidedEntry answer entry ≡ entry) × (decidedPlace answer place ≡ place)
+  pub success : let answer = decide_answer archive words in
+      decided_number answer ≡ 0 → decision.Verdict (decided_verdict answer old) (decide_is archive (request_from words))
+      × (decided_entry answer entry ≡ entry) × (decided_place answer place ≡ place)
   -- a part that is not held gives 4 and nothing else
-  pub not-held : let answer = decideAnswer archive words in
-      decidedNumber answer ≡ 0 → partIn archive (requestFrom words) ≡ none → decidedVerdict answer old ≡ 4
-  pub refusal : let answer = decideAnswer archive words in
-      (decidedNumber answer ≡ 0 → ⊥) → let f = decidedRefusal answer in
-      (decidedVerdict answer old ≡ old) × (decidedEntry answer entry ≡ entryWord f.entry) × (decidedPlace answer place ≡ placeWord f.place)
+  pub not-held : let answer = decide_answer archive words in
+      decided_number answer ≡ 0 → part_in archive (request_from words) ≡ none → decided_verdict answer old ≡ 4
+  pub refusal : let answer = decide_answer archive words in
+      (decided_number answer ≡ 0 → ⊥) → let f = decided_refusal answer in
+      (decided_verdict answer old ≡ old) × (decided_entry answer entry ≡ entry_word f.entry) × (decided_place answer place ≡ place_word f.place)
 
 -- boc_contents
 pub record Contents (archive out : List ℕ) (old entry place : ℕ) : Type 0 where
-  pub table : let answer = contentsAnswer archive out in
-      Exactly number_of (storedRefusal answer) (0 ∷ 7 ∷ 8 ∷ []) (listing.Given archive (length out))
-  pub success : let answer = contentsAnswer archive out in
-      storedNumber answer ≡ 0 → (k : IsArchive archive)
-      × (listOut archive out ≡ over (lists.listing k.archive) out) × (storedLength answer old ≡ length (lists.listing k.archive))
-      × (storedEntry answer entry ≡ entry) × (storedPlace answer place ≡ place)
-  pub refusal : let answer = contentsAnswer archive out in
-      (storedNumber answer ≡ 0 → ⊥) → let f = storedRefusal answer in
-      (listOut archive out ≡ out) × (storedLength answer old ≡ old)
-      × (storedEntry answer entry ≡ entryWord f.entry) × (storedPlace answer place ≡ placeWord f.place)
+  pub table : let answer = contents_answer archive out in
+      Exactly number_of (stored_refusal answer) (0 ∷ 7 ∷ 8 ∷ []) (listing.Given archive (length out))
+  pub success : let answer = contents_answer archive out in
+      stored_number answer ≡ 0 → (k : IsArchive archive)
+      × (list_out archive out ≡ over (lists.listing k.archive) out) × (stored_length answer old ≡ length (lists.listing k.archive))
+      × (stored_entry answer entry ≡ entry) × (stored_place answer place ≡ place)
+  pub refusal : let answer = contents_answer archive out in
+      (stored_number answer ≡ 0 → ⊥) → let f = stored_refusal answer in
+      (list_out archive out ≡ out) × (stored_length answer old ≡ old)
+      × (stored_entry answer entry ≡ entry_word f.entry) × (stored_place answer place ≡ place_word f.place)

@@ -1,9 +1,9 @@
 -- Worked cases of the six rules, as lists that antt computes beside the profiles: services, single entries and ranges with and without
 -- extension, groups, external numbers, visitors; and decisions from the bytes of an archive. Home network 1, user 1/5, visitor 2/5.
 use Rattle.std.specs.Prelude.{◌≡◌, refl, List, [], ◌∷◌, ◌++◌, map, ℕ, ◌-◌, length, replicate}
-use Rattle.grammar.specs.Grammar.{zeroIdentity}
-use Rattle.grammar.specs.Figures.{ofInterrogation}
-use Rattle.grammar.specs.Zero.{zeroIdentities, zeroNumber, zeroNumbers}
+use Rattle.grammar.specs.Grammar.{zero_identity}
+use Rattle.grammar.specs.Figures.{of_interrogation}
+use Rattle.grammar.specs.Zero.{zero_identities, zero_number, zero_numbers}
 use Rattle.grammar.specs.ProfileRecords.{A, C}
 use Rattle.grammar.specs.declared.record.Identity.{Identity}
 use Rattle.grammar.specs.declared.record.Identities.{Identities}
@@ -13,15 +13,15 @@ use Rattle.grammar.specs.declared.record.Lists.{Lists}
 use Rattle.grammar.specs.declared.record.Record.{Record}
 use Rattle.rules.specs.Request.{requests}
 use Rattle.rules.specs.Rule.{rules}
-use Rattle.rules.specs.ProfileCalls.{speech, circuitData, shortData, visitorSpeech}
+use Rattle.rules.specs.ProfileCalls.{speech, circuit_data, short_data, visitor_speech}
 use Rattle.rules.specs.declared.request.Destination.TheVariants as to
 use Rattle.rules.specs.declared.request.Group.{Group}
 use Rattle.rules.specs.declared.request.Group.TheVariants.{Of, NoGroup}
 use Rattle.rules.specs.declared.request.Request.{Request}
 use Rattle.rules.specs.declared.Ruling.TheVariants.{Allowed, Barred}
-use Rattle.archive.specs.Filing.{filingOf, bodyAgrees}
-use Rattle.archive.specs.Examples.{calls, bytesA}
-use Rattle.barring.specs.Decide.{partFor, decideIs}
+use Rattle.archive.specs.Filing.{filing_of, body_agrees}
+use Rattle.archive.specs.Examples.{calls, bytes_a}
+use Rattle.barring.specs.Decide.{part_for, decide_is}
 use Rattle.barring.specs.declared.Decision.TheVariants as decision
 use Rattle.promises.specs.Profiles.{Case, decides, All}
 
@@ -36,86 +36,86 @@ of network ssi = record { ssi = ssi; present = 1; extension = network }
 
 -- single entries, and a range
 abbrev identities : List Identity → Identities
-identities l = record { code = length l; entries = l ++ replicate (8 - length l) zeroIdentity }
+identities l = record { code = length l; entries = l ++ replicate (8 - length l) zero_identity }
 
 abbrev range : Identity → Identity → Identities
-range first last = record { code = 9; entries = first ∷ last ∷ replicate 6 zeroIdentity }
+range first last = record { code = 9; entries = first ∷ last ∷ replicate 6 zero_identity }
 
 abbrev number : List ℕ → Number
 number digits = record { length = record { 0 = length digits }; digits = digits ++ replicate (24 - length digits) 0 }
 
 abbrev numbers : List (List ℕ) → Numbers
-numbers l = record { code = length l; entries = map number l ++ replicate (8 - length l) zeroNumber }
+numbers l = record { code = length l; entries = map number l ++ replicate (8 - length l) zero_number }
 
 -- the part of an affected user and a result, with services and lists
 abbrev part_of : Identity → ℕ → List ℕ → Lists → Record
 part_of affected result services lists = record {
   kind = 12;
   affected = identities (affected ∷ []);
-  figures = ofInterrogation 0 result 0;
+  figures = of_interrogation 0 result 0;
   services = record { count = length services; list = services ++ replicate (7 - length services) 0 };
   lists = lists;
 }
 
 -- an identity part with groups, restricted identities and exceptions
-abbrev identityPartOf : Identity → List ℕ → Identities → Identities → Identities → Record
-identityPartOf affected services groups restricted exceptions =
+abbrev identity_part_of : Identity → List ℕ → Identities → Identities → Identities → Record
+identity_part_of affected services groups restricted exceptions =
     part_of affected 1 services
-    (record { groups = groups; restricted = restricted; exceptions = exceptions; numbers = zeroNumbers; excepted = zeroNumbers })
+    (record { groups = groups; restricted = restricted; exceptions = exceptions; numbers = zero_numbers; excepted = zero_numbers })
 
-abbrev identityPart : List ℕ → Identities → Identities → Identities → Record
-identityPart = identityPartOf (at 5)
+abbrev identity_part : List ℕ → Identities → Identities → Identities → Record
+identity_part = identity_part_of (at 5)
 
 -- a number part for speech with groups, restricted numbers and exceptions
-abbrev numberPartOf : Identity → List Identity → List (List ℕ) → List (List ℕ) → Record
-numberPartOf affected groups restricted excepted =
+abbrev number_part_of : Identity → List Identity → List (List ℕ) → List (List ℕ) → Record
+number_part_of affected groups restricted excepted =
     part_of affected 2 (1 ∷ [])
     (record {
       groups = identities groups;
-      restricted = zeroIdentities;
-      exceptions = zeroIdentities;
+      restricted = zero_identities;
+      exceptions = zero_identities;
       numbers = numbers restricted;
       excepted = numbers excepted;
     })
 
-abbrev numberPart : List Identity → List (List ℕ) → List (List ℕ) → Record
-numberPart = numberPartOf (at 5)
+abbrev number_part : List Identity → List (List ℕ) → List (List ℕ) → Record
+number_part = number_part_of (at 5)
 
 -- services alone
 abbrev bare : List ℕ → Record
-bare services = identityPart services zeroIdentities zeroIdentities zeroIdentities
+bare services = identity_part services zero_identities zero_identities zero_identities
 
 -- restricted 7 and 8 of the home network, the second spelt out, 9 of network 2 and 10 of network 0
 abbrev singles : Record
-singles = identityPart (1 ∷ []) zeroIdentities (identities (at 7 ∷ of 1 8 ∷ of 2 9 ∷ of 0 10 ∷ [])) zeroIdentities
+singles = identity_part (1 ∷ []) zero_identities (identities (at 7 ∷ of 1 8 ∷ of 2 9 ∷ of 0 10 ∷ [])) zero_identities
 
 -- restricted 11 to 18 one by one, but for the range 12 to 13
 abbrev eight : Record
 eight =
-    identityPart (1 ∷ []) zeroIdentities
+    identity_part (1 ∷ []) zero_identities
     (identities (at 11 ∷ at 12 ∷ at 13 ∷ at 14 ∷ at 15 ∷ at 16 ∷ at 17 ∷ at 18 ∷ [])) (range (at 12) (at 13))
 
 -- restricted 100 to 199 of network 2, but for its 150; 160 of the home network is excepted too
 abbrev abroad : Record
-abroad = identityPart (1 ∷ []) zeroIdentities (range (of 2 100) (of 2 199)) (identities (of 2 150 ∷ of 1 160 ∷ []))
+abroad = identity_part (1 ∷ []) zero_identities (range (of 2 100) (of 2 199)) (identities (of 2 150 ∷ of 1 160 ∷ []))
 
 -- groups 500 and 700 of the home network, the second spelt out, and 600 of network 2; exception 7
 abbrev grouped : Record
-grouped = identityPart (1 ∷ []) (identities (at 500 ∷ of 2 600 ∷ of 1 700 ∷ [])) zeroIdentities (identities (at 7 ∷ []))
+grouped = identity_part (1 ∷ []) (identities (at 500 ∷ of 2 600 ∷ of 1 700 ∷ [])) zero_identities (identities (at 7 ∷ []))
 
 -- groups 500 to 509 of the home network
 abbrev ranged : Record
-ranged = identityPart (1 ∷ []) (range (at 500) (at 509)) zeroIdentities zeroIdentities
+ranged = identity_part (1 ∷ []) (range (at 500) (at 509)) zero_identities zero_identities
 
 -- for any affected user: restricted 7, and 8 and 9 of networks 1 and 2 spelt out; exception 12; groups 500, and 600 and 700 of these networks
-abbrev singlesOf : Identity → Record
-singlesOf affected =
-    identityPartOf affected (1 ∷ []) (identities (at 500 ∷ of 1 600 ∷ of 2 700 ∷ [])) (identities (at 7 ∷ of 1 8 ∷ of 2 9 ∷ []))
+abbrev singles_of : Identity → Record
+singles_of affected =
+    identity_part_of affected (1 ∷ []) (identities (at 500 ∷ of 1 600 ∷ of 2 700 ∷ [])) (identities (at 7 ∷ of 1 8 ∷ of 2 9 ∷ []))
     (identities (at 12 ∷ []))
 
 -- for any affected user: groups 500 to 509, restricted 100 to 199, exceptions 150 to 159
-abbrev rangesOf : Identity → Record
-rangesOf affected = identityPartOf affected (1 ∷ []) (range (at 500) (at 509)) (range (at 100) (at 199)) (range (at 150) (at 159))
+abbrev ranges_of : Identity → Record
+ranges_of affected = identity_part_of affected (1 ∷ []) (range (at 500) (at 509)) (range (at 100) (at 199)) (range (at 150) (at 159))
 
 abbrev n112 : List ℕ
 n112 = 1 ∷ 1 ∷ 2 ∷ []
@@ -126,8 +126,8 @@ n113 = 1 ∷ 1 ∷ 3 ∷ []
 abbrev n114 : List ℕ
 n114 = 1 ∷ 1 ∷ 4 ∷ []
 
-abbrev eightNumbers : List (List ℕ)
-eightNumbers = map (λ d. d ∷ []) (1 ∷ 2 ∷ 3 ∷ 4 ∷ 5 ∷ 6 ∷ 7 ∷ 8 ∷ [])
+abbrev eight_numbers : List (List ℕ)
+eight_numbers = map (λ d. d ∷ []) (1 ∷ 2 ∷ 3 ∷ 4 ∷ 5 ∷ 6 ∷ 7 ∷ 8 ∷ [])
 
 -- ---- calls of user 1/5
 
@@ -135,8 +135,8 @@ abbrev group : ℕ → ℕ → Group
 group network ssi = Of (record { network = network; ssi = ssi })
 
 -- to an external number, by a service and by speech
-abbrev dialBy : ℕ → List ℕ → Group → Request
-dialBy service digits g = record {
+abbrev dial_by : ℕ → List ℕ → Group → Request
+dial_by service digits g = record {
   user = record { network = 1; ssi = 5 };
   service = service;
   destination = to.Number (number digits).length;
@@ -145,30 +145,30 @@ dialBy service digits g = record {
 }
 
 abbrev dial : List ℕ → Group → Request
-dial = dialBy 1
+dial = dial_by 1
 
 -- ---- the cases
 
 -- rule 1: which services a part lists; a part without entries bars what it lists with cause 1
-abbrev listedServices : List Case
-listedServices =
+abbrev listed_services : List Case
+listed_services =
     decides (bare (0 ∷ [])) (speech 1 9 NoGroup) (Barred 1)  -- 0 is every service
-    ∷ decides (bare (0 ∷ [])) (circuitData 1 9 NoGroup) (Barred 1)
-    ∷ decides (bare (0 ∷ [])) (shortData 1 9 NoGroup) (Barred 1)
+    ∷ decides (bare (0 ∷ [])) (circuit_data 1 9 NoGroup) (Barred 1)
+    ∷ decides (bare (0 ∷ [])) (short_data 1 9 NoGroup) (Barred 1)
     ∷ decides (bare (1 ∷ [])) (speech 1 9 NoGroup) (Barred 1)  -- this service
-    ∷ decides (bare (1 ∷ [])) (circuitData 1 9 NoGroup) Allowed  -- another
-    ∷ decides (bare (1 ∷ [])) (shortData 1 9 NoGroup) Allowed  -- a place that is not used lists no service 0
+    ∷ decides (bare (1 ∷ [])) (circuit_data 1 9 NoGroup) Allowed  -- another
+    ∷ decides (bare (1 ∷ [])) (short_data 1 9 NoGroup) Allowed  -- a place that is not used lists no service 0
     ∷ decides (bare (2 ∷ 3 ∷ [])) (speech 1 9 NoGroup) Allowed
-    ∷ decides (bare (2 ∷ 3 ∷ [])) (circuitData 1 9 NoGroup) (Barred 1)  -- the first of two
-    ∷ decides (bare (2 ∷ 3 ∷ [])) (shortData 1 9 NoGroup) (Barred 1)  -- the second
-    ∷ decides (bare (1 ∷ 1 ∷ 1 ∷ 1 ∷ 1 ∷ 1 ∷ 2 ∷ [])) (circuitData 1 9 NoGroup) (Barred 1)  -- the seventh
-    ∷ decides (bare (1 ∷ 1 ∷ 1 ∷ 1 ∷ 1 ∷ 1 ∷ 0 ∷ [])) (shortData 1 9 NoGroup) (Barred 1)  -- 0 in the seventh place
+    ∷ decides (bare (2 ∷ 3 ∷ [])) (circuit_data 1 9 NoGroup) (Barred 1)  -- the first of two
+    ∷ decides (bare (2 ∷ 3 ∷ [])) (short_data 1 9 NoGroup) (Barred 1)  -- the second
+    ∷ decides (bare (1 ∷ 1 ∷ 1 ∷ 1 ∷ 1 ∷ 1 ∷ 2 ∷ [])) (circuit_data 1 9 NoGroup) (Barred 1)  -- the seventh
+    ∷ decides (bare (1 ∷ 1 ∷ 1 ∷ 1 ∷ 1 ∷ 1 ∷ 0 ∷ [])) (short_data 1 9 NoGroup) (Barred 1)  -- 0 in the seventh place
     ∷ decides (bare (1 ∷ [])) (speech 1 9 (group 1 500)) (Barred 1)  -- rule 5, whatever the group
     ∷ []
 
 -- single entries: without extension, with the home network spelt out, of other networks
-abbrev singleEntries : List Case
-singleEntries =
+abbrev single_entries : List Case
+single_entries =
     decides singles (speech 1 7 NoGroup) (Barred 2)  -- no extension: the home network
     ∷ decides singles (speech 2 7 NoGroup) Allowed
     ∷ decides singles (speech 1 8 NoGroup) (Barred 2)  -- the home network spelt out
@@ -187,8 +187,8 @@ singleEntries =
     ∷ []
 
 -- ranges of another network; exceptions with extension
-abbrev rangesAbroad : List Case
-rangesAbroad =
+abbrev ranges_abroad : List Case
+ranges_abroad =
     decides abroad (speech 2 99 NoGroup) Allowed
     ∷ decides abroad (speech 2 100 NoGroup) (Barred 2)  -- the first
     ∷ decides abroad (speech 2 199 NoGroup) (Barred 2)  -- the last
@@ -199,8 +199,8 @@ rangesAbroad =
     ∷ []
 
 -- groups: no extension, another network, the home network spelt out; none restricted
-abbrev groupLists : List Case
-groupLists =
+abbrev group_lists : List Case
+group_lists =
     decides grouped (speech 1 9 (group 1 500)) Allowed  -- its group is in the list
     ∷ decides grouped (speech 1 9 (group 2 500)) (Barred 0)  -- another network
     ∷ decides grouped (speech 1 9 (group 2 600)) Allowed  -- with extension
@@ -209,14 +209,14 @@ groupLists =
     ∷ decides grouped (speech 1 9 (group 1 501)) (Barred 0)
     ∷ decides grouped (speech 1 9 NoGroup) (Barred 0)  -- the call has none
     ∷ decides grouped (speech 1 7 NoGroup) Allowed  -- an exception needs no group
-    ∷ decides grouped (circuitData 1 9 NoGroup) Allowed  -- nor does a service that is not listed
+    ∷ decides grouped (circuit_data 1 9 NoGroup) Allowed  -- nor does a service that is not listed
     ∷ decides C (speech 1 8 NoGroup) (Barred 2)  -- restricted comes before the group
     ∷ decides A (speech 1 99 (group 1 500)) Allowed  -- an empty group list asks for none
     ∷ []
 
 -- a range of groups
-abbrev groupRanges : List Case
-groupRanges =
+abbrev group_ranges : List Case
+group_ranges =
     decides ranged (speech 1 9 (group 1 499)) (Barred 0)
     ∷ decides ranged (speech 1 9 (group 1 500)) Allowed  -- the first
     ∷ decides ranged (speech 1 9 (group 1 509)) Allowed  -- the last
@@ -225,93 +225,93 @@ groupRanges =
     ∷ []
 
 -- number parts: restricted, excepted, both, and neither
-abbrev numberLists : List Case
-numberLists =
-    decides (numberPart [] (n112 ∷ []) []) (dial n112 NoGroup) (Barred 2)  -- restricted
-    ∷ decides (numberPart [] (n112 ∷ []) []) (dial n113 NoGroup) Allowed  -- another number
-    ∷ decides (numberPart [] [] (n112 ∷ [])) (dial n112 NoGroup) Allowed  -- excepted
-    ∷ decides (numberPart [] [] (n112 ∷ [])) (dial n113 NoGroup) (Barred 1)  -- no groups, none restricted
-    ∷ decides (numberPart [] (n112 ∷ n113 ∷ []) (n112 ∷ [])) (dial n112 NoGroup) Allowed  -- restricted and excepted
-    ∷ decides (numberPart [] (n112 ∷ n113 ∷ []) (n112 ∷ [])) (dial n113 NoGroup) (Barred 2)  -- the second of two
-    ∷ decides (numberPart [] (n112 ∷ n113 ∷ []) (n112 ∷ [])) (dial n114 NoGroup) Allowed
-    ∷ decides (numberPart [] [] []) (dial n112 NoGroup) (Barred 1)  -- both lists empty
-    ∷ decides (numberPart [] [] []) (dialBy 2 n112 NoGroup) Allowed  -- a service that is not listed
-    ∷ decides (numberPart (at 500 ∷ []) (n112 ∷ []) []) (dial n113 (group 1 500)) Allowed  -- in the group
-    ∷ decides (numberPart (at 500 ∷ []) (n112 ∷ []) []) (dial n113 (group 1 501)) (Barred 0)
-    ∷ decides (numberPart (at 500 ∷ []) (n112 ∷ []) []) (dial n113 NoGroup) (Barred 0)  -- the call has none
-    ∷ decides (numberPart (at 500 ∷ []) (n112 ∷ []) []) (dial n112 (group 1 500)) (Barred 2)  -- restricted comes first
-    ∷ decides (numberPart (at 500 ∷ []) [] (n112 ∷ [])) (dial n113 (group 1 500)) Allowed  -- none restricted, but groups
-    ∷ decides (numberPart (at 500 ∷ []) [] (n112 ∷ [])) (dial n112 NoGroup) Allowed  -- an exception needs no group
+abbrev number_lists : List Case
+number_lists =
+    decides (number_part [] (n112 ∷ []) []) (dial n112 NoGroup) (Barred 2)  -- restricted
+    ∷ decides (number_part [] (n112 ∷ []) []) (dial n113 NoGroup) Allowed  -- another number
+    ∷ decides (number_part [] [] (n112 ∷ [])) (dial n112 NoGroup) Allowed  -- excepted
+    ∷ decides (number_part [] [] (n112 ∷ [])) (dial n113 NoGroup) (Barred 1)  -- no groups, none restricted
+    ∷ decides (number_part [] (n112 ∷ n113 ∷ []) (n112 ∷ [])) (dial n112 NoGroup) Allowed  -- restricted and excepted
+    ∷ decides (number_part [] (n112 ∷ n113 ∷ []) (n112 ∷ [])) (dial n113 NoGroup) (Barred 2)  -- the second of two
+    ∷ decides (number_part [] (n112 ∷ n113 ∷ []) (n112 ∷ [])) (dial n114 NoGroup) Allowed
+    ∷ decides (number_part [] [] []) (dial n112 NoGroup) (Barred 1)  -- both lists empty
+    ∷ decides (number_part [] [] []) (dial_by 2 n112 NoGroup) Allowed  -- a service that is not listed
+    ∷ decides (number_part (at 500 ∷ []) (n112 ∷ []) []) (dial n113 (group 1 500)) Allowed  -- in the group
+    ∷ decides (number_part (at 500 ∷ []) (n112 ∷ []) []) (dial n113 (group 1 501)) (Barred 0)
+    ∷ decides (number_part (at 500 ∷ []) (n112 ∷ []) []) (dial n113 NoGroup) (Barred 0)  -- the call has none
+    ∷ decides (number_part (at 500 ∷ []) (n112 ∷ []) []) (dial n112 (group 1 500)) (Barred 2)  -- restricted comes first
+    ∷ decides (number_part (at 500 ∷ []) [] (n112 ∷ [])) (dial n113 (group 1 500)) Allowed  -- none restricted, but groups
+    ∷ decides (number_part (at 500 ∷ []) [] (n112 ∷ [])) (dial n112 NoGroup) Allowed  -- an exception needs no group
     ∷ []
 
 -- numbers match if all digits and the length are equal
-abbrev numberDigits : List Case
-numberDigits =
-    decides (numberPart [] (n112 ∷ []) []) (dial (1 ∷ 1 ∷ []) NoGroup) Allowed  -- shorter
-    ∷ decides (numberPart [] (n112 ∷ []) []) (dial (1 ∷ 1 ∷ 2 ∷ 0 ∷ []) NoGroup) Allowed  -- longer by a zero
-    ∷ decides (numberPart [] (n112 ∷ []) []) (dial (2 ∷ 1 ∷ 2 ∷ []) NoGroup) Allowed  -- the first digit differs
-    ∷ decides (numberPart [] (n112 ∷ []) []) (dial (1 ∷ 0 ∷ 2 ∷ []) NoGroup) Allowed  -- the second differs
-    ∷ decides (numberPart [] (n112 ∷ []) []) (dial (2 ∷ 1 ∷ 1 ∷ []) NoGroup) Allowed  -- the same digits in another order
-    ∷ decides (numberPart [] ((1 ∷ 0 ∷ []) ∷ []) []) (dial (1 ∷ []) NoGroup) Allowed  -- shorter by a zero
-    ∷ decides (numberPart [] ((1 ∷ 0 ∷ []) ∷ []) []) (dial (1 ∷ 0 ∷ []) NoGroup) (Barred 2)
-    ∷ decides (numberPart [] ((10 ∷ 11 ∷ 12 ∷ 0 ∷ []) ∷ []) []) (dial (10 ∷ 11 ∷ 12 ∷ 0 ∷ []) NoGroup) (Barred 2)  -- * # + 0
-    ∷ decides (numberPart [] ((10 ∷ 11 ∷ 12 ∷ 0 ∷ []) ∷ []) []) (dial (11 ∷ 10 ∷ 12 ∷ 0 ∷ []) NoGroup) Allowed  -- # * + 0
-    ∷ decides (numberPart [] ((12 ∷ 4 ∷ 4 ∷ []) ∷ []) []) (dial (0 ∷ 4 ∷ 4 ∷ []) NoGroup) Allowed  -- +44 is not 044
-    ∷ decides (numberPart [] (replicate 24 9 ∷ []) []) (dial (replicate 24 9) NoGroup) (Barred 2)  -- 24 digits
-    ∷ decides (numberPart [] (replicate 24 9 ∷ []) []) (dial (replicate 23 9 ++ (8 ∷ [])) NoGroup) Allowed  -- the last of them differs
-    ∷ decides (numberPart [] (replicate 24 9 ∷ []) []) (dial (replicate 23 9) NoGroup) Allowed  -- one less
-    ∷ decides (numberPart [] eightNumbers []) (dial (8 ∷ []) NoGroup) (Barred 2)  -- the eighth number
-    ∷ decides (numberPart [] eightNumbers []) (dial (9 ∷ []) NoGroup) Allowed
+abbrev number_digits : List Case
+number_digits =
+    decides (number_part [] (n112 ∷ []) []) (dial (1 ∷ 1 ∷ []) NoGroup) Allowed  -- shorter
+    ∷ decides (number_part [] (n112 ∷ []) []) (dial (1 ∷ 1 ∷ 2 ∷ 0 ∷ []) NoGroup) Allowed  -- longer by a zero
+    ∷ decides (number_part [] (n112 ∷ []) []) (dial (2 ∷ 1 ∷ 2 ∷ []) NoGroup) Allowed  -- the first digit differs
+    ∷ decides (number_part [] (n112 ∷ []) []) (dial (1 ∷ 0 ∷ 2 ∷ []) NoGroup) Allowed  -- the second differs
+    ∷ decides (number_part [] (n112 ∷ []) []) (dial (2 ∷ 1 ∷ 1 ∷ []) NoGroup) Allowed  -- the same digits in another order
+    ∷ decides (number_part [] ((1 ∷ 0 ∷ []) ∷ []) []) (dial (1 ∷ []) NoGroup) Allowed  -- shorter by a zero
+    ∷ decides (number_part [] ((1 ∷ 0 ∷ []) ∷ []) []) (dial (1 ∷ 0 ∷ []) NoGroup) (Barred 2)
+    ∷ decides (number_part [] ((10 ∷ 11 ∷ 12 ∷ 0 ∷ []) ∷ []) []) (dial (10 ∷ 11 ∷ 12 ∷ 0 ∷ []) NoGroup) (Barred 2)  -- * # + 0
+    ∷ decides (number_part [] ((10 ∷ 11 ∷ 12 ∷ 0 ∷ []) ∷ []) []) (dial (11 ∷ 10 ∷ 12 ∷ 0 ∷ []) NoGroup) Allowed  -- # * + 0
+    ∷ decides (number_part [] ((12 ∷ 4 ∷ 4 ∷ []) ∷ []) []) (dial (0 ∷ 4 ∷ 4 ∷ []) NoGroup) Allowed  -- +44 is not 044
+    ∷ decides (number_part [] (replicate 24 9 ∷ []) []) (dial (replicate 24 9) NoGroup) (Barred 2)  -- 24 digits
+    ∷ decides (number_part [] (replicate 24 9 ∷ []) []) (dial (replicate 23 9 ++ (8 ∷ [])) NoGroup) Allowed  -- the last of them differs
+    ∷ decides (number_part [] (replicate 24 9 ∷ []) []) (dial (replicate 23 9) NoGroup) Allowed  -- one less
+    ∷ decides (number_part [] eight_numbers []) (dial (8 ∷ []) NoGroup) (Barred 2)  -- the eighth number
+    ∷ decides (number_part [] eight_numbers []) (dial (9 ∷ []) NoGroup) Allowed
     ∷ []
 
 -- visitor 2/5: single entries and groups without extension are of network 2
-abbrev visitorEntries : List Case
-visitorEntries =
-    decides (singlesOf (of 2 5)) (visitorSpeech 2 7 (group 2 500)) (Barred 2)  -- no extension: the visitor's network
-    ∷ decides (singlesOf (of 2 5)) (visitorSpeech 1 7 (group 2 500)) Allowed  -- and not the home network
-    ∷ decides (singlesOf (of 2 5)) (visitorSpeech 1 8 (group 2 500)) (Barred 2)  -- the home network spelt out
-    ∷ decides (singlesOf (of 2 5)) (visitorSpeech 2 8 (group 2 500)) Allowed
-    ∷ decides (singlesOf (of 2 5)) (visitorSpeech 2 9 (group 2 500)) (Barred 2)  -- the visitor's network spelt out
-    ∷ decides (singlesOf (of 2 5)) (visitorSpeech 1 9 (group 2 500)) Allowed
-    ∷ decides (singlesOf (of 2 5)) (visitorSpeech 2 12 NoGroup) Allowed  -- an exception of the visitor's network
-    ∷ decides (singlesOf (of 2 5)) (visitorSpeech 1 12 NoGroup) (Barred 0)  -- not one of the home network
-    ∷ decides (singlesOf (of 2 5)) (visitorSpeech 2 10 (group 2 500)) Allowed  -- a group of the visitor's network
-    ∷ decides (singlesOf (of 2 5)) (visitorSpeech 2 10 (group 1 500)) (Barred 0)  -- not of the home network
-    ∷ decides (singlesOf (of 2 5)) (visitorSpeech 2 10 (group 1 600)) Allowed  -- the home network spelt out
-    ∷ decides (singlesOf (of 2 5)) (visitorSpeech 2 10 (group 2 600)) (Barred 0)
-    ∷ decides (singlesOf (of 2 5)) (visitorSpeech 2 10 (group 2 700)) Allowed  -- the visitor's network spelt out
-    ∷ decides (numberPartOf (of 2 5) (at 500 ∷ []) (n112 ∷ []) []) (dial n113 (group 2 500)) Allowed  -- groups of a number part
-    ∷ decides (numberPartOf (of 2 5) (at 500 ∷ []) (n112 ∷ []) []) (dial n113 (group 1 500)) (Barred 0)
+abbrev visitor_entries : List Case
+visitor_entries =
+    decides (singles_of (of 2 5)) (visitor_speech 2 7 (group 2 500)) (Barred 2)  -- no extension: the visitor's network
+    ∷ decides (singles_of (of 2 5)) (visitor_speech 1 7 (group 2 500)) Allowed  -- and not the home network
+    ∷ decides (singles_of (of 2 5)) (visitor_speech 1 8 (group 2 500)) (Barred 2)  -- the home network spelt out
+    ∷ decides (singles_of (of 2 5)) (visitor_speech 2 8 (group 2 500)) Allowed
+    ∷ decides (singles_of (of 2 5)) (visitor_speech 2 9 (group 2 500)) (Barred 2)  -- the visitor's network spelt out
+    ∷ decides (singles_of (of 2 5)) (visitor_speech 1 9 (group 2 500)) Allowed
+    ∷ decides (singles_of (of 2 5)) (visitor_speech 2 12 NoGroup) Allowed  -- an exception of the visitor's network
+    ∷ decides (singles_of (of 2 5)) (visitor_speech 1 12 NoGroup) (Barred 0)  -- not one of the home network
+    ∷ decides (singles_of (of 2 5)) (visitor_speech 2 10 (group 2 500)) Allowed  -- a group of the visitor's network
+    ∷ decides (singles_of (of 2 5)) (visitor_speech 2 10 (group 1 500)) (Barred 0)  -- not of the home network
+    ∷ decides (singles_of (of 2 5)) (visitor_speech 2 10 (group 1 600)) Allowed  -- the home network spelt out
+    ∷ decides (singles_of (of 2 5)) (visitor_speech 2 10 (group 2 600)) (Barred 0)
+    ∷ decides (singles_of (of 2 5)) (visitor_speech 2 10 (group 2 700)) Allowed  -- the visitor's network spelt out
+    ∷ decides (number_part_of (of 2 5) (at 500 ∷ []) (n112 ∷ []) []) (dial n113 (group 2 500)) Allowed  -- groups of a number part
+    ∷ decides (number_part_of (of 2 5) (at 500 ∷ []) (n112 ∷ []) []) (dial n113 (group 1 500)) (Barred 0)
     ∷ []
 
 -- visitor 2/5: ranges without extension are of network 2; a user of network 0 is a visitor too
-abbrev visitorRanges : List Case
-visitorRanges =
-    decides (rangesOf (of 2 5)) (visitorSpeech 2 100 NoGroup) (Barred 2)  -- the first
-    ∷ decides (rangesOf (of 2 5)) (visitorSpeech 2 199 NoGroup) (Barred 2)  -- the last
-    ∷ decides (rangesOf (of 2 5)) (visitorSpeech 2 200 (group 2 509)) Allowed
-    ∷ decides (rangesOf (of 2 5)) (visitorSpeech 1 100 (group 2 500)) Allowed  -- the home network is not in it
-    ∷ decides (rangesOf (of 2 5)) (visitorSpeech 2 155 NoGroup) Allowed  -- excepted
-    ∷ decides (rangesOf (of 2 5)) (visitorSpeech 1 155 NoGroup) (Barred 0)  -- the home network is not excepted
-    ∷ decides (rangesOf (of 2 5)) (visitorSpeech 2 200 (group 1 509)) (Barred 0)  -- nor are its groups listed
-    ∷ decides (rangesOf (of 0 5)) (speech 0 100 NoGroup) (Barred 2)
-    ∷ decides (rangesOf (of 0 5)) (speech 1 100 (group 0 500)) Allowed
+abbrev visitor_ranges : List Case
+visitor_ranges =
+    decides (ranges_of (of 2 5)) (visitor_speech 2 100 NoGroup) (Barred 2)  -- the first
+    ∷ decides (ranges_of (of 2 5)) (visitor_speech 2 199 NoGroup) (Barred 2)  -- the last
+    ∷ decides (ranges_of (of 2 5)) (visitor_speech 2 200 (group 2 509)) Allowed
+    ∷ decides (ranges_of (of 2 5)) (visitor_speech 1 100 (group 2 500)) Allowed  -- the home network is not in it
+    ∷ decides (ranges_of (of 2 5)) (visitor_speech 2 155 NoGroup) Allowed  -- excepted
+    ∷ decides (ranges_of (of 2 5)) (visitor_speech 1 155 NoGroup) (Barred 0)  -- the home network is not excepted
+    ∷ decides (ranges_of (of 2 5)) (visitor_speech 2 200 (group 1 509)) (Barred 0)  -- nor are its groups listed
+    ∷ decides (ranges_of (of 0 5)) (speech 0 100 NoGroup) (Barred 2)
+    ∷ decides (ranges_of (of 0 5)) (speech 1 100 (group 0 500)) Allowed
     ∷ []
 
 -- user 1/5 with the home network spelt out is judged as without: no extension means the home network
-abbrev homeSpeltOut : List Case
-homeSpeltOut =
-    decides (singlesOf (of 1 5)) (speech 1 7 (group 1 500)) (Barred 2)
-    ∷ decides (singlesOf (of 1 5)) (speech 2 7 (group 1 500)) Allowed
-    ∷ decides (singlesOf (of 1 5)) (speech 1 10 (group 1 500)) Allowed
-    ∷ decides (singlesOf (of 1 5)) (speech 1 10 (group 2 500)) (Barred 0)
-    ∷ decides (rangesOf (of 1 5)) (speech 1 100 NoGroup) (Barred 2)
-    ∷ decides (rangesOf (of 1 5)) (speech 1 155 NoGroup) Allowed
-    ∷ decides (rangesOf (of 1 5)) (speech 2 100 (group 1 509)) Allowed
+abbrev home_spelt_out : List Case
+home_spelt_out =
+    decides (singles_of (of 1 5)) (speech 1 7 (group 1 500)) (Barred 2)
+    ∷ decides (singles_of (of 1 5)) (speech 2 7 (group 1 500)) Allowed
+    ∷ decides (singles_of (of 1 5)) (speech 1 10 (group 1 500)) Allowed
+    ∷ decides (singles_of (of 1 5)) (speech 1 10 (group 2 500)) (Barred 0)
+    ∷ decides (ranges_of (of 1 5)) (speech 1 100 NoGroup) (Barred 2)
+    ∷ decides (ranges_of (of 1 5)) (speech 1 155 NoGroup) Allowed
+    ∷ decides (ranges_of (of 1 5)) (speech 2 100 (group 1 509)) Allowed
     ∷ []
 
-pub cases : All listedServices × All singleEntries × All rangesAbroad × All groupLists × All groupRanges × All numberLists × All numberDigits
-    × All visitorEntries × All visitorRanges × All homeSpeltOut
+pub cases : All listed_services × All single_entries × All ranges_abroad × All group_lists × All group_ranges × All number_lists × All number_digits
+    × All visitor_entries × All visitor_ranges × All home_spelt_out
 unfolding rules
 cases = (
   (refl, (refl, (refl, (refl, (refl, (refl, (refl, (refl, (refl, (refl, (refl, (refl, tt)))))))))))),
@@ -327,28 +327,28 @@ cases = (
 )
 
 -- Only A held. A number is judged by the number part, which is not held; nor is any part of user 2/5. The other answers are what A says.
-held : (decideIs bytesA (dial n112 NoGroup) ≡ decision.NotHeld)
-    × (decideIs bytesA (speech 1 200 NoGroup) ≡ decision.Allowed)
-    × (decideIs bytesA (speech 1 100 NoGroup) ≡ decision.Barred 2)
-    × (decideIs bytesA (record {
+held : (decide_is bytes_a (dial n112 NoGroup) ≡ decision.NotHeld)
+    × (decide_is bytes_a (speech 1 200 NoGroup) ≡ decision.Allowed)
+    × (decide_is bytes_a (speech 1 100 NoGroup) ≡ decision.Barred 2)
+    × (decide_is bytes_a (record {
       user = record { network = 2; ssi = 5 };
       service = 1;
       destination = to.Identity (record { network = 1; ssi = 200 });
       digits = replicate 24 0;
       group = NoGroup;
     }) ≡ decision.NotHeld)
-unfolding calls rules requests bodyAgrees filingOf partFor decideIs
+unfolding calls rules requests body_agrees filing_of part_for decide_is
 held = (refl, refl, refl, refl)
 
 -- Only visitor 2/5 with A's lists held: network 2 is judged by them, the home network is not, and user 1/5 has no part.
-abbrev bytesVisitor : List ℕ
-bytesVisitor =
+abbrev bytes_visitor : List ℕ
+bytes_visitor =
     0x00 ∷ 0x00 ∷ 0x01 ∷ 0x00 ∷ 0x01 ∷ 0x00 ∷ 0x00 ∷ 0x02 ∷ 0x00 ∷ 0x00 ∷ 0x05 ∷ 0x01 ∷ 0x00 ∷ 0xa2 ∷ 0x01 ∷ 0x2c
     ∷ 0x49 ∷ 0x82 ∷ 0x00 ∷ 0x00 ∷ 0x0b ∷ 0x00 ∷ 0x00 ∷ 0x02 ∷ 0x21 ∷ 0x21 ∷ 0x20 ∷ 0x00
     ∷ 0x0c ∷ 0x80 ∷ 0x00 ∷ 0x0c ∷ 0x70 ∷ 0x80 ∷ 0x00 ∷ 0x4b ∷ 0x00 ∷ []
 
-held-visitor : (decideIs bytesVisitor (visitorSpeech 2 100 NoGroup) ≡ decision.Barred 2)
-    × (decideIs bytesVisitor (visitorSpeech 1 100 NoGroup) ≡ decision.Allowed)
-    × (decideIs bytesVisitor (speech 2 100 NoGroup) ≡ decision.NotHeld)
-unfolding calls rules requests bodyAgrees filingOf partFor decideIs
+held-visitor : (decide_is bytes_visitor (visitor_speech 2 100 NoGroup) ≡ decision.Barred 2)
+    × (decide_is bytes_visitor (visitor_speech 1 100 NoGroup) ≡ decision.Allowed)
+    × (decide_is bytes_visitor (speech 2 100 NoGroup) ≡ decision.NotHeld)
+unfolding calls rules requests body_agrees filing_of part_for decide_is
 held-visitor = (refl, refl, refl)

@@ -2,7 +2,7 @@
 use Rattle.std.specs.Prelude.{◌≡◌, List, [], ◌∷◌, ℕ, ◌+◌, ◌*◌, ◌/◌, ◌%◌, ◌≤◌, ◌<◌, length}
 use Rattle.bits.specs.Bits.{Bytes, splice}
 use Rattle.archive.specs.Model.{Held}
-use Rattle.archive.specs.Keeping.{over, captureIs, captureOut}
+use Rattle.archive.specs.Keeping.{over, capture_is, capture_out}
 use Rattle.archive.specs.declared.Stored.TheVariants as stored
 use Rattle.promises.specs.Archive.{IsArchive, StandsAt}
 
@@ -15,11 +15,11 @@ pub record HoldsAt (b s : List ℕ) (n index : ℕ) : Type 0 where
   pub bits : here.entry.bits.0 ≡ n
 
 -- where the day of that entry stands: behind the header, the entries before it, and its network, SSI, part and bit length
-abbrev pub dayPlace : ℕ → ℕ
-dayPlace index = 5 + 11 * index + 9
+abbrev pub day_place : ℕ → ℕ
+day_place index = 5 + 11 * index + 9
 
 -- Proved in proofs/Days.antt.
 pub record Promise : Type 0 where
   pub another-day : (b s : List ℕ) (n index day : ℕ) (out : List ℕ) → Bytes b → HoldsAt b s n index → day < 65536 → length b ≤ length out
-      → (captureIs b s n day (length out) ≡ stored.Bytes (length b))
-      × (captureOut b s n day out ≡ over (splice b (dayPlace index) (day / 256 ∷ day % 256 ∷ [])) out)
+      → (capture_is b s n day (length out) ≡ stored.Bytes (length b))
+      × (capture_out b s n day out ≡ over (splice b (day_place index) (day / 256 ∷ day % 256 ∷ [])) out)

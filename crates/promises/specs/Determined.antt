@@ -17,11 +17,11 @@ module _ {n : ℕ} (ps : List (ParamKind n)) (r : ResultKind n) (says : Out n ps
         → Allows κs a x v → Allows κs a y w → (x ≡ y) × (v ≡ w)
 
 -- they are, where the contract equates the answer and the memory with something
-pub by-equations : {n : ℕ} {ps : List (ParamKind n)} {r : ResultKind n} {says : Out n ps r}
+pub by_equations : {n : ℕ} {ps : List (ParamKind n)} {r : ResultKind n} {says : Out n ps r}
     {f : (κs : Lfts n) → Dens κs ps → (res_t r κs).Denot} {g : (κs : Lfts n) (a : Dens κs ps) → Lasts (ended_of n ps r) κs a}
     → ((κs : Lfts n) (a : Dens κs ps) (x : (res_t r κs).Denot) (v : Lasts (ended_of n ps r) κs a) → Allows ps r says κs a x v → (x ≡ f κs a) × (v ≡ g κs a))
     → Determined ps r says
-by-equations e = record {
+by_equations e = record {
   same = λ κs a x y v w p q.
       let m = e κs a x v p in
       let k = e κs a y w q in

@@ -4,17 +4,17 @@ use Rattle.std.proofs.Common.{sym, ap, ◌∙◌, inl, inr, arith, leb-true, leb
 use Rattle.bits.specs.Bits.{pick}
 use Rattle.bits.proofs.Tests.{false-unless, both, both⁻¹, by-test}
 use Rattle.grammar.specs.declared.record.Record.{Record}
-use Rattle.reader.specs.Read.{readIs}
+use Rattle.reader.specs.Read.{read_is}
 use Rattle.reader.specs.declared.Answer.TheVariants as reader
-use Rattle.judging.specs.Judge.{mayHold}
-use Rattle.archive.specs.Model.{length_of, withinLimits}
-use Rattle.archive.specs.Reading.{isArchive}
+use Rattle.judging.specs.Judge.{may_hold}
+use Rattle.archive.specs.Model.{length_of, within_limits}
+use Rattle.archive.specs.Reading.{is_archive}
 use Rattle.archive.specs.Refusals.{plain}
-use Rattle.archive.specs.Keeping.{storedRefusal, captured, placed, captureIs, captureOut}
+use Rattle.archive.specs.Keeping.{stored_refusal, captured, placed, capture_is, capture_out}
 use Rattle.archive.specs.Examples.{calls}
 use Rattle.archive.specs.declared.Stored.{Stored}
 use Rattle.archive.specs.declared.Stored.TheVariants.{Bytes, Refused}
-use Rattle.archive.proofs.Model.Checked.{archive-checked}
+use Rattle.archive.proofs.Model.Checked.{archive_checked}
 
 -- an INTERROGATE ACK (PDU type 12) that accepts (interrogation result 1 or 2), for one user (affected range type 1)
 pub record Holdable (r : Record) : Type 0 where
@@ -22,53 +22,53 @@ pub record Holdable (r : Record) : Type 0 where
   pub result : (r.figures.result ≡ 1) ⊎ (r.figures.result ≡ 2)
   pub affected : r.affected.code ≡ 1
 
-pub one-or-two : (v : ℕ) → 1 ≤ v → v ≤ 2 → (v ≡ 1) ⊎ (v ≡ 2)
-one-or-two v l h = go (leb v 1) refl
+pub one_or-two : (v : ℕ) → 1 ≤ v → v ≤ 2 → (v ≡ 1) ⊎ (v ≡ 2)
+one_or-two v l h = go (leb v 1) refl
   where
     go : (t : Bool) → leb v 1 ≡ t → (v ≡ 1) ⊎ (v ≡ 2)
     go true e = inl (omega (arith, leb-true v 1 e))
     go false e = inr (omega (arith, leb-false v 1 e))
 
-says : (r : Record) → mayHold r ≡ true → Holdable r
+says : (r : Record) → may_hold r ≡ true → Holdable r
 says r m =
     let p = both (eqb r.kind 12) (leb 1 r.figures.result && (leb r.figures.result 2 && eqb r.affected.code 1)) m in
     let q = both (leb 1 r.figures.result) (leb r.figures.result 2 && eqb r.affected.code 1) p.1 in
     let t = both (leb r.figures.result 2) (eqb r.affected.code 1) q.1 in
-    record { kind = eqb-true _ _ p.0; result = one-or-two r.figures.result (leb-true _ _ q.0) (leb-true _ _ t.0); affected = eqb-true _ _ t.1 }
+    record { kind = eqb-true _ _ p.0; result = one_or-two r.figures.result (leb-true _ _ q.0) (leb-true _ _ t.0); affected = eqb-true _ _ t.1 }
 
-is : (r : Record) → Holdable r → mayHold r ≡ true
+is : (r : Record) → Holdable r → may_hold r ≡ true
 is r h = go h.result
   where
-    at : 1 ≤ r.figures.result → r.figures.result ≤ 2 → mayHold r ≡ true
+    at : 1 ≤ r.figures.result → r.figures.result ≤ 2 → may_hold r ≡ true
     at l g = both⁻¹ (eq-eqb _ _ h.kind) (both⁻¹ (le-leb _ _ l) (both⁻¹ (le-leb _ _ g) (eq-eqb _ _ h.affected)))
 
-    go : (r.figures.result ≡ 1) ⊎ (r.figures.result ≡ 2) → mayHold r ≡ true
+    go : (r.figures.result ≡ 1) ⊎ (r.figures.result ≡ 2) → may_hold r ≡ true
     go (inl e) = at (omega (arith, e)) (omega (arith, e))
     go (inr e) = at (omega (arith, e)) (omega (arith, e))
 
 -- Exactly such a PDU may be held.
-pub may-be-held : (r : Record) → (mayHold r ≡ true) ↔ Holdable r
-may-be-held r = (says r, is r)
+pub may_be-held : (r : Record) → (may_hold r ≡ true) ↔ Holdable r
+may_be-held r = (says r, is r)
 
 -- Captured into an archive, a legal PDU gives 6 exactly if it is not such a one.
-module _ (b s : List ℕ) (n day room : ℕ) (dated : day < 65536) (archive : isArchive b ≡ true) (legal : (readIs s n).answer ≡ reader.Accepted) where
+module _ (b s : List ℕ) (n day room : ℕ) (dated : day < 65536) (archive : is_archive b ≡ true) (legal : (read_is s n).answer ≡ reader.Accepted) where
   abbrev fits : Bool
-  fits = withinLimits (length (captured b s n day).held) (length_of (captured b s n day)) && leb (length_of (captured b s n day)) room
+  fits = within_limits (length (captured b s n day).held) (length_of (captured b s n day)) && leb (length_of (captured b s n day)) room
 
-  answer : (t : Bool) → mayHold (readIs s n).found ≡ t
-      → captureIs b s n day room ≡ pick t (pick fits (Bytes (length_of (captured b s n day))) (Refused (plain 8))) (Refused (plain 6))
-  unfolding captureIs placed
-  answer t e = rw (lt-ltb _ _ dated, archive-checked b archive, legal, e)
+  answer : (t : Bool) → may_hold (read_is s n).found ≡ t
+      → capture_is b s n day room ≡ pick t (pick fits (Bytes (length_of (captured b s n day))) (Refused (plain 8))) (Refused (plain 6))
+  unfolding capture_is placed
+  answer t e = rw (lt-ltb _ _ dated, archive_checked b archive, legal, e)
 
-  not-6 : mayHold (readIs s n).found ≡ true → captureIs b s n day room ≡ Refused (plain 6) → ⊥
+  not-6 : may_hold (read_is s n).found ≡ true → capture_is b s n day room ≡ Refused (plain 6) → ⊥
   not-6 m e =
-      let refused : Stored → ℕ = λ a. (storedRefusal a).number in
+      let refused : Stored → ℕ = λ a. (stored_refusal a).number in
       by-test (λ (a : Stored). refused a ≡ 6 → ⊥) fits (λ x. omega (arith, x)) (λ x. omega (arith, x)) (ap refused (sym (answer true m) ∙ e))
 
-  pub gives-6 : (captureIs b s n day room ≡ Refused (plain 6)) ↔ (Holdable (readIs s n).found → ⊥)
+  pub gives-6 : (capture_is b s n day room ≡ Refused (plain 6)) ↔ (Holdable (read_is s n).found → ⊥)
   gives-6 = (
-    λ e h. not-6 (is (readIs s n).found h) e,
-    λ none. answer false (false-unless _ (λ m. none (says (readIs s n).found m))),
+    λ e h. not-6 (is (read_is s n).found h) e,
+    λ none. answer false (false-unless _ (λ m. none (says (read_is s n).found m))),
   )
 
 -- ---- worked cases: PDUs for user 5 that list service 1, captured into the empty archive of home network 1
@@ -78,7 +78,7 @@ nothing = 0x00 ∷ 0x00 ∷ 0x01 ∷ 0x00 ∷ 0x00 ∷ []
 
 -- the number of the answer to a PDU of n bits, of day 300
 abbrev number : List ℕ → ℕ → ℕ
-number s n = (storedRefusal (captureIs nothing s n 300 100)).number
+number s n = (stored_refusal (capture_is nothing s n 300 100)).number
 
 -- results 1 and 2, with three empty lists: held
 accepting : (number (0x49 ∷ 0x82 ∷ 0x00 ∷ 0x00 ∷ 0x0a ∷ 0x21 ∷ 0x20 ∷ 0x00 ∷ []) 63 ≡ 0)
@@ -115,7 +115,7 @@ defining = refl
 -- ---- the entry under which a PDU is filed: eleven bytes, network (3), SSI (3), part (1), bit length (2), day (2)
 
 abbrev filed : List ℕ → ℕ → List ℕ
-filed s n = take 11 (drop 5 (captureOut nothing s n 300 (replicate 30 0)))
+filed s n = take 11 (drop 5 (capture_out nothing s n 300 (replicate 30 0)))
 
 -- no extension: the home network 1; result 1 is part 1
 home-meant : filed (0x49 ∷ 0x82 ∷ 0x00 ∷ 0x00 ∷ 0x0a ∷ 0x21 ∷ 0x20 ∷ 0x00 ∷ []) 63

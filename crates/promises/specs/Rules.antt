@@ -2,7 +2,7 @@
 use Rattle.std.specs.Prelude.{◌≡◌, true, false, ℕ}
 use Rattle.grammar.specs.declared.record.Record.{Record}
 use Rattle.rules.specs.Matching.{covered}
-use Rattle.rules.specs.Rule.{isExcepted, missingIn, ruling, outsideGroup}
+use Rattle.rules.specs.Rule.{is_excepted, missing_in, ruling, outside_group}
 use Rattle.rules.specs.declared.request.Request.{Request}
 use Rattle.rules.specs.declared.Ruling.TheVariants.{Allowed, Barred}
 use Rattle.rules.proofs.Rules as rules
@@ -13,9 +13,9 @@ module _ (home : ℕ) (part : Record) (q : Request) where
   unlisted-allowed = rules.unlisted-allowed home part q
 
   -- A destination among the exceptions is never barred, though it is restricted or the group is missing.
-  pub excepted-allowed : isExcepted (missingIn home part) part.lists q.destination q.digits ≡ true → ruling home part q ≡ Allowed
+  pub excepted-allowed : is_excepted (missing_in home part) part.lists q.destination q.digits ≡ true → ruling home part q ≡ Allowed
   excepted-allowed = rules.excepted-allowed home part q
 
   -- An empty group list bars no call for its group.
-  pub no-groups : part.lists.groups.code ≡ 0 → ruling home part q ≡ Barred outsideGroup → ⊥
+  pub no-groups : part.lists.groups.code ≡ 0 → ruling home part q ≡ Barred outside_group → ⊥
   no-groups = rules.no-groups home part q

@@ -3,16 +3,16 @@
 use Rattle.std.specs.Prelude.{◌≡◌, ◌↔◌, true, false, List, [], ◌∷◌, ◌++◌, ℕ, ◌+◌, ◌≤◌, ◌<◌, length, get_or, drop, replicate, eqb}
 use Rattle.bits.specs.Bits.{pick}
 use Rattle.text.specs.Decimal.{decimal}
-use Rattle.terminals.specs.Lines.{setWord, fields_of, Says}
-use Rattle.terminals.specs.Profiles.{resetIs, resetOut}
+use Rattle.terminals.specs.Lines.{set_word, fields_of, Says}
+use Rattle.terminals.specs.Profiles.{reset_is, reset_out}
 use Rattle.terminals.specs.Reading.{text_of}
-use Rattle.terminals.specs.Answers.{tableAfter, outAfter}
+use Rattle.terminals.specs.Answers.{table_after, out_after}
 use Rattle.terminals.specs.declared.layers.Third.{Third}
 use Rattle.terminals.specs.declared.layers.Third.TheVariants.{Given, Missing}
 use Rattle.terminals.specs.declared.lines.Fields.{Fields}
 use Rattle.terminals.specs.declared.lines.Line.{Line}
 use Rattle.terminals.specs.declared.lines.Line.TheVariants.{Read, Set}
-use Rattle.boc.specs.Serial.{lineAnswer, lineNumber, lineLength}
+use Rattle.boc.specs.Serial.{line_answer, line_number, line_length}
 use Rattle.promises.specs.Answers.{Exactly}
 
 -- ---- the table
@@ -25,13 +25,13 @@ pub record IsTable (t : List ℕ) : Type 0 where
 -- the place at an index: its layer 1, and its layer 2 or PID
 pub data Place : ℕ → ℕ → Third → Type 0 where
   -- CC: voice and data
-  in-cc : (x : ℕ) → x < 2 → Place x 0 (Given x)
+  in_cc : (x : ℕ) → x < 2 → Place x 0 (Given x)
   -- MM: registration to energy saving
-  in-mm : (x : ℕ) → x < 5 → Place (2 + x) 1 (Given (10 + x))
+  in_mm : (x : ℕ) → x < 5 → Place (2 + x) 1 (Given (10 + x))
   -- SDS: status and types 1 to 4
-  in-sds : (x : ℕ) → x < 5 → Place (7 + x) 2 (Given (20 + x))
+  in_sds : (x : ℕ) → x < 5 → Place (7 + x) 2 (Given (20 + x))
   -- SDS-TL: the PIDs
-  in-sds-tl : (x : ℕ) → x < 256 → Place (12 + x) 3 (Given x)
+  in_sds_tl : (x : ℕ) → x < 256 → Place (12 + x) 3 (Given x)
   -- Packet Data: one place, without a third field
   in-packet-data : Place 268 4 Missing
 
@@ -70,31 +70,31 @@ pub data Gives (s t : List ℕ) (room : ℕ) : ℕ → Type 0 where
 
 -- boc_terminal_reset
 pub record Reset (t : List ℕ) : Type 0 where
-  pub taken : length t ≡ 269 → (resetIs (length t) ≡ 0) × (resetOut t ≡ replicate 269 2)
-  pub refused : (length t ≡ 269 → ⊥) → (resetIs (length t) ≡ 9) × (resetOut t ≡ t)
+  pub taken : length t ≡ 269 → (reset_is (length t) ≡ 0) × (reset_out t ≡ replicate 269 2)
+  pub refused : (length t ≡ 269 → ⊥) → (reset_is (length t) ≡ 9) × (reset_out t ≡ t)
 
 -- boc_terminal_line: each number exactly then;
 pub record OnLine (s t out : List ℕ) (old : ℕ) : Type 0 where
-  pub table : Exactly (λ k. k) (lineNumber (lineAnswer s t out)) (0 ∷ 9 ∷ 15 ∷ 16 ∷ 17 ∷ 8 ∷ []) (Gives s t (length out))
+  pub table : Exactly (λ k. k) (line_number (line_answer s t out)) (0 ∷ 9 ∷ 15 ∷ 16 ∷ 17 ∷ 8 ∷ []) (Gives s t (length out))
   -- a set line changes exactly the places that it names, to its profile, and writes nothing;
-  pub set : (f : Fields) → Says s (Set f) → lineNumber (lineAnswer s t out) ≡ 0
-      → (lineLength (lineAnswer s t out) old ≡ 0) × (outAfter s t out ≡ out) × (length (tableAfter s t) ≡ 269)
+  pub set : (f : Fields) → Says s (Set f) → line_number (line_answer s t out) ≡ 0
+      → (line_length (line_answer s t out) old ≡ 0) × (out_after s t out ≡ out) × (length (table_after s t) ≡ 269)
       × ((i l : ℕ) (third : Third) → Place i l third
-      → (Names f l third → get_or (tableAfter s t) i 0 ≡ f.profile)
-      × ((Names f l third → ⊥) → get_or (tableAfter s t) i 0 ≡ get_or t i 0))
+      → (Names f l third → get_or (table_after s t) i 0 ≡ f.profile)
+      × ((Names f l third → ⊥) → get_or (table_after s t) i 0 ≡ get_or t i 0))
   -- the read form changes no place, and writes the text; bytes after it stay;
-  pub read : Says s Read → lineNumber (lineAnswer s t out) ≡ 0
-      → (lineLength (lineAnswer s t out) old ≡ length (text_of t)) × (outAfter s t out ≡ text_of t ++ drop (length (text_of t)) out)
-      × (tableAfter s t ≡ t)
+  pub read : Says s Read → line_number (line_answer s t out) ≡ 0
+      → (line_length (line_answer s t out) old ≡ length (text_of t)) × (out_after s t out ≡ text_of t ++ drop (length (text_of t)) out)
+      × (table_after s t ≡ t)
   -- a refused line changes nothing.
-  pub refusal : (lineNumber (lineAnswer s t out) ≡ 0 → ⊥)
-      → (tableAfter s t ≡ t) × (outAfter s t out ≡ out) × (lineLength (lineAnswer s t out) old ≡ old)
+  pub refusal : (line_number (line_answer s t out) ≡ 0 → ⊥)
+      → (table_after s t ≡ t) × (out_after s t out ≡ out) × (line_length (line_answer s t out) old ≡ old)
 
 -- ---- lines one after another
 
-unfoldable pub afterAll : List (List ℕ) → List ℕ → List ℕ
-afterAll [] t = t
-afterAll (s ∷ ss) t = afterAll ss (tableAfter s t)
+unfoldable pub after_all : List (List ℕ) → List ℕ → List ℕ
+after_all [] t = t
+after_all (s ∷ ss) t = after_all ss (table_after s t)
 
 -- a line among others
 pub data Among (s : List ℕ) : List (List ℕ) → Type 0 where
@@ -109,13 +109,13 @@ pub record ByPlace (profile l : ℕ) (ss : List (List ℕ)) : Type 0 where
 -- ---- the text
 
 -- a place of the text by its index, rising: `profile,layer1[,third]` CR LF
-unfoldable pub thirdText : Third → List ℕ
-thirdText Missing = []
-thirdText (Given x) = 44 ∷ decimal x
+unfoldable pub third_text : Third → List ℕ
+third_text Missing = []
+third_text (Given x) = 44 ∷ decimal x
 
 pub data Line-of (t : List ℕ) (i : ℕ) : List ℕ → Type 0 where
   spelt : (l : ℕ) (third : Third) → Place i l third
-      → Line-of t i (decimal (get_or t i 0) ++ (44 ∷ decimal l ++ (thirdText third ++ (13 ∷ 10 ∷ []))))
+      → Line-of t i (decimal (get_or t i 0) ++ (44 ∷ decimal l ++ (third_text third ++ (13 ∷ 10 ∷ []))))
 
 -- the lines of the places off "both" from an index on, each once, rising
 pub data Lines-from (t : List ℕ) : ℕ → List ℕ → Type 0 where
@@ -134,13 +134,13 @@ pieces before [] = []
 pieces before (b ∷ s) = pick (eqb b 10) (before ∷ pieces [] s) (pieces (before ++ (b ∷ [])) s)
 
 -- `AT+CTSP=` before each
-unfoldable pub asSetLines : List (List ℕ) → List (List ℕ)
-asSetLines [] = []
-asSetLines (w ∷ ws) = (setWord ++ w) ∷ asSetLines ws
+unfoldable pub as_set_lines : List (List ℕ) → List (List ℕ)
+as_set_lines [] = []
+as_set_lines (w ∷ ws) = (set_word ++ w) ∷ as_set_lines ws
 
 -- the set lines of a text: without `+CTSP: `, cut at each LF
-abbrev pub setLines : List ℕ → List (List ℕ)
-setLines text = asSetLines (pieces [] (drop 7 text))
+abbrev pub set_lines : List ℕ → List (List ℕ)
+set_lines text = as_set_lines (pieces [] (drop 7 text))
 
 -- Proved in proofs/Terminals.antt.
 pub record Promise : Type 0 where
@@ -152,11 +152,11 @@ pub record Promise : Type 0 where
   pub lines : (s t out : List ℕ) (old : ℕ) → OnLine s t out old
   -- a line without a third field is as good as the lines for each place of its layer, in any order
   pub whole-layer : (s t : List ℕ) (ss : List (List ℕ)) (profile l : ℕ) → IsTable t → profile ≤ 3 → l ≤ 3
-      → Says s (Set (fields_of profile l Missing false)) → ByPlace profile l ss → afterAll ss t ≡ tableAfter s t
+      → Says s (Set (fields_of profile l Missing false)) → ByPlace profile l ss → after_all ss t ≡ table_after s t
   -- the text names each place off "both" once, rising; it is nothing exactly if there is none
   pub text : (t : List ℕ) → IsTable t → (s : List ℕ) × Lines-from t 0 s × (text_of t ≡ first s)
   pub nothing : (t : List ℕ) → IsTable t → (text_of t ≡ []) ↔ ((i : ℕ) → i < 269 → get_or t i 0 ≡ 2)
   -- it has at most 2,300 bytes
   pub short : (t : List ℕ) → IsTable t → length (text_of t) ≤ 2300
   -- it puts the table back: reset, then a set line for each line of the text
-  pub put_back : (t lent : List ℕ) → IsTable t → length lent ≡ 269 → afterAll (setLines (text_of t)) (resetOut lent) ≡ t
+  pub put_back : (t lent : List ℕ) → IsTable t → length lent ≡ 269 → after_all (set_lines (text_of t)) (reset_out lent) ≡ t

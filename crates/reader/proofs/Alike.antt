@@ -4,9 +4,9 @@ use mathlib.Core.Bool.{Bool}
 use mathlib.Core.List.{List}
 use Prim.Native.Nat.{ℕ, ◌+◌}
 use Rattle.codec.specs.Parts.{number, element}
-use Rattle.codec.specs.Reading.{got, unlessAt, readAt}
-use Rattle.codec.proofs.Reading.{readAt-tested}
-use Rattle.grammar.specs.SiteSheet.{rangeType, refusalIn, rangeRefusal}
+use Rattle.codec.specs.Reading.{got, unless_at, read_at}
+use Rattle.codec.proofs.Reading.{read_at-tested}
+use Rattle.grammar.specs.SiteSheet.{range_type, refusal_in, range_refusal}
 use Rattle.grammar.specs.Grammar.{identities}
 use Rattle.grammar.specs.declared.record.Identities.{Identities}
 use Rattle.grammar.specs.declared.site.ListKind.{ListKind}
@@ -17,7 +17,7 @@ use Rattle.grammar.proofs.Steps.{identities-at}
 use Rattle.reader.specs.Inner.{Reads, Fills}
 use Rattle.reader.proofs.Elements.{steps, passed}
 
-in-identities : (j : ListKind) (t : RangeType) → refusalIn j t ≡ 0 → refusalIn of.Identities t ≡ 0
+in-identities : (j : ListKind) (t : RangeType) → refusal_in j t ≡ 0 → refusal_in of.Identities t ≡ 0
 in-identities j Empty e = refl
 in-identities j (Single n) e = refl
 in-identities j FirstAndLast e = refl
@@ -25,17 +25,17 @@ in-identities of.Users NoRangeType e = e
 in-identities of.Identities NoRangeType e = e
 in-identities of.Numbers NoRangeType e = e
 
-code_alike : (j : ListKind) (s : List Bool) (at : ℕ) {v m : ℕ} → readAt (element 4 (rangeRefusal j)) s at ≡ got v m
-    → readAt (element 4 (rangeRefusal of.Identities)) s at ≡ got v m
-unfolding element rangeRefusal
+code_alike : (j : ListKind) (s : List Bool) (at : ℕ) {v m : ℕ} → read_at (element 4 (range_refusal j)) s at ≡ got v m
+    → read_at (element 4 (range_refusal of.Identities)) s at ≡ got v m
+unfolding element range_refusal
 code_alike j s at e =
-    let x = steps (readAt (number 4) s at) (λ v m. unlessAt (rangeRefusal j v) (at + 0) (got v m))
-    (sym (readAt-tested (number 4) (rangeRefusal j) (λ v. 0) s at) ∙ e) in
-    let p = passed (rangeRefusal j x.value) (at + 0) (got x.value x.next) x.then in
-    readAt-tested (number 4) (rangeRefusal of.Identities) (λ v. 0) s at ∙ rw (x.first, in-identities j (rangeType x.value) p.0) p.1
+    let x = steps (read_at (number 4) s at) (λ v m. unless_at (range_refusal j v) (at + 0) (got v m))
+    (sym (read_at-tested (number 4) (range_refusal j) (λ v. 0) s at) ∙ e) in
+    let p = passed (range_refusal j x.value) (at + 0) (got x.value x.next) x.then in
+    read_at-tested (number 4) (range_refusal of.Identities) (λ v. 0) s at ∙ rw (x.first, in-identities j (range_type x.value) p.0) p.1
 
 module _ {s : List Bool} {at : ℕ} (j : ListKind) (r : Reads (identities j) s at) where
-  alike : readAt (identities j) s at ≡ readAt (identities of.Identities) s at
+  alike : read_at (identities j) s at ≡ read_at (identities of.Identities) s at
   alike =
       let x = steps _ _ (sym (identities-at s at j) ∙ r.read.same) in
       rw (identities-at s at j, identities-at s at of.Identities, x.first, code_alike j s at x.first)

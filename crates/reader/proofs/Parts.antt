@@ -7,13 +7,13 @@ use Prim.Native.Nat.{ℕ, ◌+◌, ◌≤◌}
 use native.Mathlib.Nat.{add_assoc}
 use lib.ListN.{length, replicate}
 use Rattle.codec.specs.Codec.{Codec}
-use Rattle.codec.specs.Parts.{number, numberFault, element, seq, tested, shaped, mark, only, first-none}
+use Rattle.codec.specs.Parts.{number, number_fault, element, seq, tested, shaped, mark, only, first-none}
 use Rattle.codec.specs.Places.{places}
-use Rattle.codec.specs.Reading.{got, andNext, unlessAt, readAt}
-use Rattle.codec.proofs.Reading.{readAt-seq, readAt-tested, readAt-shaped, readAt-legal, mark-at}
-use Rattle.grammar.specs.Grammar.{noIdentities, noExternals}
-use Rattle.grammar.specs.Zero.{zeroIdentities, zeroNumbers}
-use Rattle.grammar.proofs.Steps.{noIdentities-at, noExternals-at}
+use Rattle.codec.specs.Reading.{got, and_next, unless_at, read_at}
+use Rattle.codec.proofs.Reading.{read_at-seq, read_at-tested, read_at-shaped, read_at-legal, mark-at}
+use Rattle.grammar.specs.Grammar.{no_identities, no_externals}
+use Rattle.grammar.specs.Zero.{zero_identities, zero_numbers}
+use Rattle.grammar.proofs.Steps.{no_identities-at, no_externals-at}
 use Rattle.walk.proofs.Numbers.{element-says}
 use Rattle.words.specs.Inner.{Put}
 use Rattle.words.proofs.Putting as words
@@ -25,15 +25,15 @@ use Rattle.reader.proofs.Entries.{put_as}
 
 module _ {A B : Type 0} (c : Codec A) (d : A → Codec B) {s : List Bool} {at : ℕ} where
   pub reads_first : Reads (seq c d) s at → Reads c s at
-  reads_first r = first_reads (steps _ _ (sym (readAt-seq c d s at) ∙ r.read.same))
+  reads_first r = first_reads (steps _ _ (sym (read_at-seq c d s at) ∙ r.read.same))
 
   pub reads-next : {a : A} {m : ℕ} → Reads (seq c d) s at → Read c s at a m → Reads (d a) s m
   reads-next {a} {m} r e =
-      let whole : readAt (seq c d) s at ≡ andNext (readAt (d a) s m) (λ b end. got (a, b) end) = readAt-seq c d s at ∙ rw e.same in
+      let whole : read_at (seq c d) s at ≡ and_next (read_at (d a) s m) (λ b end. got (a, b) end) = read_at-seq c d s at ∙ rw e.same in
       first_reads (steps _ _ (sym whole ∙ r.read.same))
 
   pub read-then : {a : A} {b : B} {m end : ℕ} → Read c s at a m → Read (d a) s m b end → Read (seq c d) s at (a, b) end
-  read-then e f = record { same = readAt-seq c d s at ∙ rw (e.same, f.same) }
+  read-then e f = record { same = read_at-seq c d s at ∙ rw (e.same, f.same) }
 
   pub fill-then : (g : A → List ℕ) {h : B → List ℕ} {m end to j k : ℕ} {a : A} {w w' w'' : List ℕ}
       → to ≤ length w → Read c s at a m → Put w to (g a) j w' (to + j) → Fills (d a) h k s m w' (to + j) w'' end
@@ -49,13 +49,13 @@ module _ {A B : Type 0} (c : Codec A) (d : A → Codec B) {s : List Bool} {at : 
 module _ {A B : Type 0} (c : Codec A) (to : A → B) (from : B → A)
     (there : (a : A) → c.clean a ≡ true → c.fault a ≡ 0 → from (to a) ≡ a) (back : (b : B) → to (from b) ≡ b) {s : List Bool} {at : ℕ} where
   pub reads-shaped : Reads (shaped c to from there back) s at → Reads c s at
-  reads-shaped r = first_reads (steps _ _ (sym (readAt-shaped c to from there back s at) ∙ r.read.same))
+  reads-shaped r = first_reads (steps _ _ (sym (read_at-shaped c to from there back s at) ∙ r.read.same))
 
   pub fill-shaped : {f : A → List ℕ} {g : B → List ℕ} {n o end : ℕ} {w w' : List ℕ} → ((a : A) → f a ≡ g (to a))
       → Fills c f n s at w o w' end → Fills (shaped c to from there back) g n s at w o w' end
   fill-shaped e f = record {
     value = to f.value;
-    read = record { same = readAt-shaped c to from there back s at ∙ rw f.read.same };
+    read = record { same = read_at-shaped c to from there back s at ∙ rw f.read.same };
     put = put_as f.put (e f.value) refl refl;
   }
 
@@ -63,15 +63,15 @@ module _ {A B : Type 0} (c : Codec A) (to : A → B) (from : B → A)
 
 module _ {A : Type 0} (c : Codec A) (refuse into : A → ℕ) {s : List Bool} {at : ℕ} (r : Reads (tested c refuse into) s at) where
   pub reads-tested : Reads c s at
-  reads-tested = first_reads (steps _ _ (sym (readAt-tested c refuse into s at) ∙ r.read.same))
+  reads-tested = first_reads (steps _ _ (sym (read_at-tested c refuse into s at) ∙ r.read.same))
 
   pub tested-read : {a : A} {end : ℕ} → Read c s at a end → Read (tested c refuse into) s at a end
   tested-read {a} {end} e =
-      let x = steps (readAt c s at) (λ v m. unlessAt (refuse v) (at + into v) (got v m)) (sym (readAt-tested c refuse into s at) ∙ r.read.same)
+      let x = steps (read_at c s at) (λ v m. unless_at (refuse v) (at + into v) (got v m)) (sym (read_at-tested c refuse into s at) ∙ r.read.same)
       in
       let va : x.value ≡ a = cc (x.first, e.same) in
       let t : refuse a ≡ 0 = rw va at (passed (refuse x.value) (at + into x.value) (got x.value x.next) x.then).0 in
-      record { same = readAt-tested c refuse into s at ∙ rw (e.same, t) }
+      record { same = read_at-tested c refuse into s at ∙ rw (e.same, t) }
 
   pub fill-tested : {f : A → List ℕ} {n to end : ℕ} {w w' : List ℕ} → Fills c f n s at w to w' end → Fills (tested c refuse into) f n s at w to w' end
   fill-tested f = record { value = f.value; read = tested-read f.read; put = f.put }
@@ -100,16 +100,16 @@ module _ {A B : Type 0} (w : ℕ) (refuse : ℕ → ℕ) (d : ℕ → Codec A) (
   pub head_passed : {v m : ℕ} → Read (number w) s at v m → refuse v ≡ 0
   unfolding element tested number
   head_passed {v} {m} e =
-      (first-none (numberFault w v) (refuse v) (readAt-legal (element w refuse) s at v m (head_read e).same).0.faultless).1
+      (first-none (number_fault w v) (refuse v) (read_at-legal (element w refuse) s at v m (head_read e).same).0.faultless).1
 
   pub rest-reads : {v m : ℕ} → Read (number w) s at v m → Reads (d v) s m
   rest-reads e = reads-next _ d (reads-shaped _ to from there back r) (head_read e)
 
-  pub headed-fill : {h : A → List ℕ} {g : B → List ℕ} {v m end o k : ℕ} {words words' words'' : List ℕ}
+  pub headed_fill : {h : A → List ℕ} {g : B → List ℕ} {v m end o k : ℕ} {words words' words'' : List ℕ}
       → ((p : ℕ × A) → one p.0 ++ h p.1 ≡ g (to p)) → o ≤ length words
       → Read (number w) s at v m → Put words o (one v) 1 words' (o + 1) → Fills (d v) h k s m words' (o + 1) words'' end
       → Fills (shaped (seq (element w refuse) d) to from there back) g (1 + k) s at words o words'' end
-  headed-fill same room e p f = fill-shaped _ to from there back same (fill-then _ d one room (head_read e) p f)
+  headed_fill same room e p f = fill-shaped _ to from there back same (fill-then _ d one room (head_read e) p f)
 
 -- ---- a list as it stands
 
@@ -129,24 +129,24 @@ module _ {A : Type 0} (c z : Codec A) (m : ℕ) {n k : ℕ} (e : n ≡ k) {s : L
 
 -- ---- a part that the PDU does not carry: zeros
 
-pub none-fill : {A : Type 0} (c : Codec A) (f : A → List ℕ) (v : A) {s : List Bool} {at : ℕ} → readAt c s at ≡ got v at
+pub none_fill : {A : Type 0} (c : Codec A) (f : A → List ℕ) (v : A) {s : List Bool} {at : ℕ} → read_at c s at ≡ got v at
     → {n to : ℕ} {w w' : List ℕ} → f v ≡ replicate n 0 → Put w to (replicate n 0) n w' (to + n) → Fills c f n s at w to w' at
-none-fill c f v e z p = record { value = v; read = record { same = e }; put = put_as p (sym z) refl refl }
+none_fill c f v e z p = record { value = v; read = record { same = e }; put = put_as p (sym z) refl refl }
 
-pub no-numbers : (s : List Bool) (at : ℕ) → readAt (seq noExternals (λ l. noExternals)) s at ≡ got (zeroNumbers, zeroNumbers) at
-no-numbers s at = readAt-seq noExternals (λ l. noExternals) s at ∙ rw (noExternals-at, noExternals-at)
+pub no-numbers : (s : List Bool) (at : ℕ) → read_at (seq no_externals (λ l. no_externals)) s at ≡ got (zero_numbers, zero_numbers) at
+no-numbers s at = read_at-seq no_externals (λ l. no_externals) s at ∙ rw (no_externals-at, no_externals-at)
 
 -- a list of identities that the PDU does not carry
-pub no-identities : (s : List Bool) (at : ℕ) → Read noIdentities s at zeroIdentities at
-no-identities s at = record { same = noIdentities-at s at }
+pub no-identities : (s : List Bool) (at : ℕ) → Read no_identities s at zero_identities at
+no-identities s at = record { same = no_identities-at s at }
 
 -- ---- a fixed number before a part: it has no word
 
 module _ {A : Type 0} (w v : ℕ) (c : Codec A) {s : List Bool} {at : ℕ} (r : Reads (mark w v c) s at) where
-  mark-read : readAt (mark w v c) s at ≡ readAt c s (at + w)
+  mark-read : read_at (mark w v c) s at ≡ read_at c s (at + w)
   mark-read =
-      let x = steps (readAt (element w (only v)) s at) (λ n m. readAt c s m) (sym (mark-at w v c s at) ∙ r.read.same) in
-      mark-at w v c s at ∙ rw x.first (ap (readAt c s) (number-end s at w (element-says w (only v) s at x.first).0))
+      let x = steps (read_at (element w (only v)) s at) (λ n m. read_at c s m) (sym (mark-at w v c s at) ∙ r.read.same) in
+      mark-at w v c s at ∙ rw x.first (ap (read_at c s) (number-end s at w (element-says w (only v) s at x.first).0))
 
   pub reads-mark : Reads c s (at + w)
   reads-mark = record { value = r.value; end = r.end; read = record { same = sym mark-read ∙ r.read.same } }

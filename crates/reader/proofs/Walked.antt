@@ -7,28 +7,28 @@ use native.Mathlib.Omega.{arith}
 use borrow.Author.Tests.{eq-eqb}
 use lib.ListN.{length, drop, replicate, take-append-drop}
 use Rattle.bits.specs.Bits.{bits, pick}
-use Rattle.bits.specs.Frame.{bitsIn, framed}
+use Rattle.bits.specs.Frame.{bits_in, framed}
 use Rattle.bits.proofs.Tests.{never}
 use Rattle.bits.proofs.Frames.{framed-says}
 use Rattle.codec.specs.Codec.{Outcome, ok, no, Legal}
-use Rattle.codec.specs.Whole.{wholeParse}
-use Rattle.codec.specs.Reading.{answer, readAt}
+use Rattle.codec.specs.Whole.{whole_parse}
+use Rattle.codec.specs.Reading.{answer, read_at}
 use Rattle.codec.proofs.Whole.{whole-sound}
 use Rattle.grammar.specs.Grammar.{pdu}
-use Rattle.grammar.specs.Zero.{zeroRecord}
+use Rattle.grammar.specs.Zero.{zero_record}
 use Rattle.grammar.specs.declared.record.Record.{Record}
 use Rattle.walk.specs.Walk as walk
 use Rattle.walk.specs.declared.BitPlace.TheVariants.{Nowhere}
 use Rattle.walk.specs.declared.Head.{Head}
 use Rattle.walk.specs.declared.Walked.{Walked}
 use Rattle.walk.specs.declared.Walked.TheVariants as walked
-use Rattle.words.specs.RecordWords.{recordWords, givenRecord, records}
+use Rattle.words.specs.RecordWords.{record_words, given_record, records}
 use Rattle.words.proofs.Given.{record-found}
 use Rattle.words.proofs.LegalRecords.{record-sized}
 use Rattle.words.proofs.RecordInverse.{record-long, record-back}
 use Rattle.reader.specs.Inner.{Read}
-use Rattle.reader.specs.Read.{answered, refusing, readIs}
-use Rattle.reader.specs.Words.{ifAccepted, readWords}
+use Rattle.reader.specs.Read.{answered, refusing, read_is}
+use Rattle.reader.specs.Words.{if_accepted, read_words}
 use Rattle.reader.specs.declared.Answer.{Answer}
 use Rattle.reader.specs.declared.Answer.TheVariants.{Accepted, Refused}
 
@@ -43,34 +43,34 @@ pub record Accepts (s : List ℕ) (n : ℕ) : Type 0 where
   pub end : ℕ
   pub few : length s ≤ 512
   pub read : Read pdu (bits s) 0 found end
-  pub same : readIs s n ≡ record { answer = Accepted; found = found }
+  pub same : read_is s n ≡ record { answer = Accepted; found = found }
 
 module _ (s : List ℕ) (n : ℕ) where
-  pub same_answer : (readIs s n).answer ≡ answer_of (walk.walkIs s n)
-  unfolding readIs walk.walkIs
-  same_answer = go (framed s n) (wholeParse pdu (bitsIn n s))
+  pub same_answer : (read_is s n).answer ≡ answer_of (walk.walk_is s n)
+  unfolding read_is walk.walk_is
+  same_answer = go (framed s n) (whole_parse pdu (bits_in n s))
     where
       go : (t : Bool) (o : Outcome Record)
-          → (pick t (answered o) (refusing 1 Nowhere)).answer ≡ answer_of (pick t (walk.walkedOf o) (walk.refusing 1 Nowhere))
+          → (pick t (answered o) (refusing 1 Nowhere)).answer ≡ answer_of (pick t (walk.walked_of o) (walk.refusing 1 Nowhere))
       go true (ok r at left) = refl
       go true (no k p) = refl
       go false o = refl
 
-  pub same_head : {h : Head} → walk.walkIs s n ≡ walked.Accepted h → h ≡ walk.head_of (readIs s n).found
-  unfolding readIs walk.walkIs
-  same_head {h} = go (framed s n) (wholeParse pdu (bitsIn n s))
+  pub same_head : {h : Head} → walk.walk_is s n ≡ walked.Accepted h → h ≡ walk.head_of (read_is s n).found
+  unfolding read_is walk.walk_is
+  same_head {h} = go (framed s n) (whole_parse pdu (bits_in n s))
     where
-      go : (t : Bool) (o : Outcome Record) → pick t (walk.walkedOf o) (walk.refusing 1 Nowhere) ≡ walked.Accepted h
+      go : (t : Bool) (o : Outcome Record) → pick t (walk.walked_of o) (walk.refusing 1 Nowhere) ≡ walked.Accepted h
           → h ≡ walk.head_of (pick t (answered o) (refusing 1 Nowhere)).found
       go true (ok r at left) e = cc
       go true (no k p) e = never cc
       go false o e = never cc
 
-  whole-read : (r : Record) (at : ℕ) (left : List Bool) → wholeParse pdu (bitsIn n s) ≡ ok r at left
+  whole-read : (r : Record) (at : ℕ) (left : List Bool) → whole_parse pdu (bits_in n s) ≡ ok r at left
       → Read pdu (bits s) 0 r (0 + length (pdu.print r))
-  unfolding readAt
+  unfolding read_at
   whole-read r at left e =
-      let w = whole-sound pdu (bitsIn n s) r at left e in
+      let w = whole-sound pdu (bits_in n s) r at left e in
       let split : bits s ≡ pdu.print r ++ drop n (bits s) =
       sym (take-append-drop n (bits s)) ∙ ap (λ (x : List Bool). x ++ drop n (bits s)) w.1 in
       record {
@@ -79,17 +79,17 @@ module _ (s : List ℕ) (n : ℕ) where
             ∙ ap answer (pdu.reads r w.0.clean w.0.faultless 0 (drop n (bits s)));
       }
 
-  read_is : (r : Record) (at : ℕ) (left : List Bool) → framed s n ≡ true → wholeParse pdu (bitsIn n s) ≡ ok r at left
-      → readIs s n ≡ record { answer = Accepted; found = r }
-  unfolding readIs
-  read_is r at left f w = ap (λ (t : Bool). pick t (answered (wholeParse pdu (bitsIn n s))) (refusing 1 Nowhere)) f ∙ ap answered w
+  read_is_lem : (r : Record) (at : ℕ) (left : List Bool) → framed s n ≡ true → whole_parse pdu (bits_in n s) ≡ ok r at left
+      → read_is s n ≡ record { answer = Accepted; found = r }
+  unfolding read_is
+  read_is_lem r at left f w = ap (λ (t : Bool). pick t (answered (whole_parse pdu (bits_in n s))) (refusing 1 Nowhere)) f ∙ ap answered w
 
-  pub accepts : {h : Head} → walk.walkIs s n ≡ walked.Accepted h → Accepts s n
-  unfolding walk.walkIs
-  accepts {h} = go (framed s n) refl (wholeParse pdu (bitsIn n s)) refl
+  pub accepts : {h : Head} → walk.walk_is s n ≡ walked.Accepted h → Accepts s n
+  unfolding walk.walk_is
+  accepts {h} = go (framed s n) refl (whole_parse pdu (bits_in n s)) refl
     where
-      go : (t : Bool) → framed s n ≡ t → (o : Outcome Record) → wholeParse pdu (bitsIn n s) ≡ o
-          → pick t (walk.walkedOf o) (walk.refusing 1 Nowhere) ≡ walked.Accepted h → Accepts s n
+      go : (t : Bool) → framed s n ≡ t → (o : Outcome Record) → whole_parse pdu (bits_in n s) ≡ o
+          → pick t (walk.walked_of o) (walk.refusing 1 Nowhere) ≡ walked.Accepted h → Accepts s n
       go true f (ok r at left) w e =
           let b = framed-says s n f in
           record {
@@ -97,27 +97,27 @@ module _ (s : List ℕ) (n : ℕ) where
             end = 0 + length (pdu.print r);
             few = omega (arith, b.short, b.count);
             read = whole-read r at left w;
-            same = read_is r at left f w;
+            same = read_is_lem r at left f w;
           }
       go true f (no k p) w e = never cc
       go false f o w e = never cc
 
 -- ---- the record that the words give back
 
-given_back : (r : Record) → Legal pdu r → (givenRecord (recordWords r)).found ≡ r
-given_back r l = let f = record-sized r l in record-found (recordWords r) (eq-eqb _ 520 (record-long r f)) ∙ record-back r f
+given_back : (r : Record) → Legal pdu r → (given_record (record_words r)).found ≡ r
+given_back r l = let f = record-sized r l in record-found (record_words r) (eq-eqb _ 520 (record-long r f)) ∙ record-back r f
 
-given-zeros : (givenRecord (replicate 520 0)).found ≡ zeroRecord
-unfolding givenRecord records
+given-zeros : (given_record (replicate 520 0)).found ≡ zero_record
+unfolding given_record records
 given-zeros = refl
 
 -- what reading accepts is read back from its words, and zeros are the record beside a refusal
-pub found_back : (s : List ℕ) (n : ℕ) → (givenRecord (readWords s n (replicate 520 0))).found ≡ (readIs s n).found
-unfolding readIs readWords
-found_back s n = go (framed s n) (wholeParse pdu (bitsIn n s)) refl
+pub found_back : (s : List ℕ) (n : ℕ) → (given_record (read_words s n (replicate 520 0))).found ≡ (read_is s n).found
+unfolding read_is read_words
+found_back s n = go (framed s n) (whole_parse pdu (bits_in n s)) refl
   where
-    go : (t : Bool) (o : Outcome Record) → wholeParse pdu (bitsIn n s) ≡ o → let q = pick t (answered o) (refusing 1 Nowhere) in
-        (givenRecord (ifAccepted q.answer (recordWords q.found) (replicate 520 0))).found ≡ q.found
-    go true (ok r at left) e = given_back r (whole-sound pdu (bitsIn n s) r at left e).0
+    go : (t : Bool) (o : Outcome Record) → whole_parse pdu (bits_in n s) ≡ o → let q = pick t (answered o) (refusing 1 Nowhere) in
+        (given_record (if_accepted q.answer (record_words q.found) (replicate 520 0))).found ≡ q.found
+    go true (ok r at left) e = given_back r (whole-sound pdu (bits_in n s) r at left e).0
     go true (no k p) e = given-zeros
     go false o e = given-zeros

@@ -4,13 +4,13 @@ use Rattle.bits.specs.Bits.{bits, pick}
 use Rattle.bits.proofs.Table.{values}
 use Rattle.codec.specs.Codec.{Codec}
 use Rattle.codec.specs.Parts.{seq}
-use Rattle.codec.specs.Reading.{got, readAt}
-use Rattle.grammar.specs.Grammar.{services, noServices, part_of, Rest}
+use Rattle.codec.specs.Reading.{got, read_at}
+use Rattle.grammar.specs.Grammar.{services, no_services, part_of, Rest}
 use Rattle.grammar.specs.declared.record.Figures.{Figures}
 use Rattle.grammar.specs.declared.record.Services.{Services}
 use Rattle.grammar.specs.declared.record.Lists.{Lists}
 use Rattle.words.specs.Inner.{Put}
-use Rattle.words.specs.RecordWords.{identitiesWords, servicesWords, listsWords}
+use Rattle.words.specs.RecordWords.{identities_words, services_words, lists_words}
 
 -- a number as one word
 abbrev pub one : ℕ → List ℕ
@@ -18,29 +18,29 @@ one x = x ∷ []
 
 -- services, if they are carried, and the lists of a part; and their words
 abbrev pub listed : Bool → ℕ → Codec (Services × Lists)
-listed served part = seq (pick served services noServices) (λ s. part_of part)
+listed served part = seq (pick served services no_services) (λ s. part_of part)
 
-abbrev pub listedWords : Services × Lists → List ℕ
-listedWords (s, l) = servicesWords s ++ listsWords l
+abbrev pub listed_words : Services × Lists → List ℕ
+listed_words (s, l) = services_words s ++ lists_words l
 
 -- the figures of an interrogation, of a definition and of an outcome, as words
-abbrev pub interrogationWords : Figures → List ℕ
-interrogationWords f = f.asked ∷ f.result ∷ f.status ∷ []
+abbrev pub interrogation_words : Figures → List ℕ
+interrogation_words f = f.asked ∷ f.result ∷ f.status ∷ []
 
-abbrev pub definitionWords : Figures → List ℕ
-definitionWords f = f.delivery ∷ f.acknowledgement ∷ f.definition ∷ []
+abbrev pub definition_words : Figures → List ℕ
+definition_words f = f.delivery ∷ f.acknowledgement ∷ f.definition ∷ []
 
-abbrev pub outcomeWords : Figures → List ℕ
-outcomeWords f = f.defined ∷ f.distributed ∷ f.cause ∷ []
+abbrev pub outcome_words : Figures → List ℕ
+outcome_words f = f.defined ∷ f.distributed ∷ f.cause ∷ []
 
 -- what follows the PDU type, as words: figures of a definition and of an outcome come last
-abbrev pub restWords : Rest → List ℕ
-restWords (u, (f, (s, l))) =
-    identitiesWords u ++ (interrogationWords f ++ (servicesWords s ++ (listsWords l ++ (definitionWords f ++ outcomeWords f))))
+abbrev pub rest_words : Rest → List ℕ
+rest_words (u, (f, (s, l))) =
+    identities_words u ++ (interrogation_words f ++ (services_words s ++ (lists_words l ++ (definition_words f ++ outcome_words f))))
 
 -- the part c at a place is the value v, up to `end`
 pub record Read {A : Type 0} (c : Codec A) (s : List Bool) (at : ℕ) (v : A) (end : ℕ) : Type 0 where
-  pub same : readAt c s at ≡ got v end
+  pub same : read_at c s at ≡ got v end
 
 -- the part c is read at a place: some value, up to some place
 pub record Reads {A : Type 0} (c : Codec A) (s : List Bool) (at : ℕ) : Type 0 where
@@ -64,15 +64,15 @@ pub record Fills {A : Type 0} (c : Codec A) (f : A → List ℕ) (n : ℕ) (s : 
 -- ---- several numbers from one window
 
 -- the `used` bits after the first `skip` of a window's 57, and zeros after them: `whole` bits, below those that were skipped
-unfoldable pub heldIn : ℕ → ℕ → ℕ → ℕ → ℕ
-heldIn window skip whole used = window / 2 ^ (57 - skip - used) * 2 ^ (whole - used)
+unfoldable pub held_in : ℕ → ℕ → ℕ → ℕ → ℕ
+held_in window skip whole used = window / 2 ^ (57 - skip - used) * 2 ^ (whole - used)
 
 -- the four numbers of four bits in 16, the twelve in 48, and the seven of three bits in 21
-unfoldable pub fourIn : ℕ → List ℕ
-fourIn run = values (λ i. run / 2 ^ (12 - 4 * i) % 16) 0 4
+unfoldable pub four_in : ℕ → List ℕ
+four_in run = values (λ i. run / 2 ^ (12 - 4 * i) % 16) 0 4
 
-unfoldable pub twelveIn : ℕ → List ℕ
-twelveIn run = values (λ i. run / 2 ^ (44 - 4 * i) % 16) 0 12
+unfoldable pub twelve_in : ℕ → List ℕ
+twelve_in run = values (λ i. run / 2 ^ (44 - 4 * i) % 16) 0 12
 
-unfoldable pub sevenIn : ℕ → List ℕ
-sevenIn run = values (λ i. run / 2 ^ (18 - 3 * i) % 8) 0 7
+unfoldable pub seven_in : ℕ → List ℕ
+seven_in run = values (λ i. run / 2 ^ (18 - 3 * i) % 8) 0 7

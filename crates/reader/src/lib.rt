@@ -7,8 +7,8 @@ mod services;
 mod stores;
 
 ghost use Rattle.std.specs.Prelude.{◌≡◌, length};
-ghost use Rattle.reader.specs.Read.{readIs};
-ghost use Rattle.reader.specs.Words.{readWordsIs, readWords};
+ghost use Rattle.reader.specs.Read.{read_is};
+ghost use Rattle.reader.specs.Words.{read_words_is, read_words};
 
 use bits::BitCount;
 use grammar::record::Record;
@@ -32,8 +32,8 @@ pub struct Reading {
 
 // Reads the PDU of n bits in s into the words of its record: 9 for another number of words than a record's, then as `read`.
 pub fn read_words(s: &[u8], n: BitCount, words: &mut [u32]) -> Answer
-    ensures value { result ≡ readWordsIs s.now n.0 (length words.old) }
-    ensures words_after { words.new ≡ readWords s.now n.0 words.old }
+    ensures value { result ≡ read_words_is s.now n.0 (length words.old) }
+    ensures words_after { words.new ≡ read_words s.now n.0 words.old }
 {
     if words.len() != RECORD_WORDS {
         return Answer::Refused(Refusal {
@@ -52,7 +52,7 @@ pub fn read_words(s: &[u8], n: BitCount, words: &mut [u32]) -> Answer
 
 // Reads the PDU of n bits in s: refusal 1 first, then element by element, 5 last.
 pub fn read(s: &[u8], n: BitCount) -> Reading
-    ensures { result ≡ readIs s.now n.0 }
+    ensures { result ≡ read_is s.now n.0 }
 {
     let mut words = [0u32; RECORD_WORDS];
     let answer = read_words(s, n, &mut words);

@@ -1,7 +1,7 @@
 // The lists of a part: 477 words, zero where the PDU carries none.
 ghost use Rattle.bits.specs.Bits.{bits};
-ghost use Rattle.grammar.specs.Grammar.{identityPart, numberPart, part_of};
-ghost use Rattle.words.specs.RecordWords.{listsWords};
+ghost use Rattle.grammar.specs.Grammar.{identity_part, number_part, part_of};
+ghost use Rattle.words.specs.RecordWords.{lists_words};
 ghost use Rattle.reader.specs.Inner.{Fillable, Fills};
 
 use crate::identities::fill_identities;
@@ -11,8 +11,8 @@ use bits::Cursor;
 
 // Closed user groups, restricted identities, exceptions to them; zeros for the two lists of numbers.
 fn fill_identity_part(s: &[u8], c: Cursor, words: &mut [u32], to: usize) -> Cursor
-    requires { Fillable identityPart s.now c.at words.old to 477 }
-    ensures { Fills identityPart listsWords 477 (bits s.now) c.at words.old to words.new result.at }
+    requires { Fillable identity_part s.now c.at words.old to 477 }
+    ensures { Fills identity_part lists_words 477 (bits s.now) c.at words.old to words.new result.at }
 {
     let restricted_to = to + 25;
     let exceptions_to = restricted_to + 25;
@@ -26,8 +26,8 @@ fn fill_identity_part(s: &[u8], c: Cursor, words: &mut [u32], to: usize) -> Curs
 
 // Closed user groups, restricted external numbers, exceptions to them; zeros for two lists of identities.
 fn fill_number_part(s: &[u8], c: Cursor, words: &mut [u32], to: usize) -> Cursor
-    requires { Fillable numberPart s.now c.at words.old to 477 }
-    ensures { Fills numberPart listsWords 477 (bits s.now) c.at words.old to words.new result.at }
+    requires { Fillable number_part s.now c.at words.old to 477 }
+    ensures { Fills number_part lists_words 477 (bits s.now) c.at words.old to words.new result.at }
 {
     let restricted_to = to + 25;
     let exceptions_to = restricted_to + 25;
@@ -43,7 +43,7 @@ fn fill_number_part(s: &[u8], c: Cursor, words: &mut [u32], to: usize) -> Cursor
 // The lists of a part: 1 identities, 2 external numbers, any other none.
 pub(crate) fn fill_part(s: &[u8], c: Cursor, words: &mut [u32], to: usize, part: u32) -> Cursor
     requires { Fillable (part_of part) s.now c.at words.old to 477 }
-    ensures { Fills (part_of part) listsWords 477 (bits s.now) c.at words.old to words.new result.at }
+    ensures { Fills (part_of part) lists_words 477 (bits s.now) c.at words.old to words.new result.at }
 {
     if part == 1 {
         return fill_identity_part(s, c, words, to);

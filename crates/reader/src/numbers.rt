@@ -2,10 +2,10 @@
 ghost use Rattle.std.specs.Prelude.{◌+◌, ◌≤◌, length};
 ghost use Rattle.bits.specs.Bits.{bits};
 ghost use Rattle.codec.specs.Places.{places};
-ghost use Rattle.grammar.specs.Grammar.{external, noExternal, externals};
+ghost use Rattle.grammar.specs.Grammar.{external, no_external, externals};
 ghost use Rattle.words.specs.Inner.{Put};
-ghost use Rattle.words.specs.RecordWords.{in_turn, numberWords, numbersWords};
-ghost use Rattle.reader.specs.Inner.{Fillable, Fills, fourIn, twelveIn};
+ghost use Rattle.words.specs.RecordWords.{in_turn, number_words, numbers_words};
+ghost use Rattle.reader.specs.Inner.{Fillable, Fills, four_in, twelve_in};
 
 use crate::stores::{entries_of, held, number_at, store, zero_words};
 use bits::Cursor;
@@ -13,7 +13,7 @@ use bits::Cursor;
 // Four digits. A fixed number of turns, so that it becomes code without a loop: one store of four words.
 fn put_four(words: &mut [u32], to: usize, run: u32)
     requires { to + 4 ≤ length words.old }
-    ensures { Put words.old to (fourIn run) 4 words.new (to + 4) }
+    ensures { Put words.old to (four_in run) 4 words.new (to + 4) }
 {
     let mut next = to;
     let mut i: usize = 0;
@@ -27,7 +27,7 @@ fn put_four(words: &mut [u32], to: usize, run: u32)
 // Twelve digits.
 fn put_twelve(words: &mut [u32], to: usize, run: u64)
     requires { to + 12 ≤ length words.old }
-    ensures { Put words.old to (twelveIn run) 12 words.new (to + 12) }
+    ensures { Put words.old to (twelve_in run) 12 words.new (to + 12) }
 {
     let second = to + 4;
     let third = second + 4;
@@ -39,7 +39,7 @@ fn put_twelve(words: &mut [u32], to: usize, run: u64)
 // The length, the digits, and zeros in the other places: the length and twelve digits from one window, twelve from another.
 fn fill_number(s: &[u8], c: Cursor, words: &mut [u32], to: usize) -> Cursor
     requires { Fillable external s.now c.at words.old to 25 }
-    ensures { Fills external numberWords 25 (bits s.now) c.at words.old to words.new result.at }
+    ensures { Fills external number_words 25 (bits s.now) c.at words.old to words.new result.at }
 {
     let at = c.at;
     let window = bits::window(s, at);
@@ -59,8 +59,8 @@ fn fill_number(s: &[u8], c: Cursor, words: &mut [u32], to: usize) -> Cursor
 
 // The numbers that the PDU carries, and zeros in the other places.
 fn fill_number_entries(s: &[u8], c: Cursor, words: &mut [u32], to: usize, count: usize) -> Cursor
-    requires { (count ≤ 8) × Fillable (places external noExternal 8 count) s.now c.at words.old to 200 }
-    ensures { Fills (places external noExternal 8 count) (in_turn numberWords) 200 (bits s.now) c.at words.old to words.new result.at }
+    requires { (count ≤ 8) × Fillable (places external no_external 8 count) s.now c.at words.old to 200 }
+    ensures { Fills (places external no_external 8 count) (in_turn number_words) 200 (bits s.now) c.at words.old to words.new result.at }
 {
     let mut at = c;
     let mut next = to;
@@ -77,7 +77,7 @@ fn fill_number_entries(s: &[u8], c: Cursor, words: &mut [u32], to: usize, count:
 // The range type, and as many numbers as it says.
 pub(crate) fn fill_numbers(s: &[u8], c: Cursor, words: &mut [u32], to: usize) -> Cursor
     requires { Fillable externals s.now c.at words.old to 201 }
-    ensures { Fills externals numbersWords 201 (bits s.now) c.at words.old to words.new result.at }
+    ensures { Fills externals numbers_words 201 (bits s.now) c.at words.old to words.new result.at }
 {
     let at = c.at;
     let code = number_at(s, at, 4);

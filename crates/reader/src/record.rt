@@ -1,9 +1,9 @@
 // The whole record: the PDU type, then what its row says; 520 words, zero where the PDU carries nothing.
 ghost use Rattle.bits.specs.Bits.{bits, pick};
-ghost use Rattle.grammar.specs.Grammar.{identities, noIdentities, services, noServices, pdu};
+ghost use Rattle.grammar.specs.Grammar.{identities, no_identities, services, no_services, pdu};
 ghost use Rattle.grammar.specs.declared.site.ListKind.TheVariants as of;
-ghost use Rattle.words.specs.RecordWords.{identitiesWords, servicesWords, recordWords};
-ghost use Rattle.reader.specs.Inner.{listed, listedWords, Fillable, Fills};
+ghost use Rattle.words.specs.RecordWords.{identities_words, services_words, record_words};
+ghost use Rattle.reader.specs.Inner.{listed, listed_words, Fillable, Fills};
 
 use crate::identities::fill_identities;
 use crate::lists::fill_part;
@@ -14,8 +14,8 @@ use grammar::{figures, site};
 
 // The affected users, or zeros where the PDU carries none.
 fn fill_users(s: &[u8], c: Cursor, words: &mut [u32], to: usize, carried: bool) -> Cursor
-    requires { Fillable (pick carried (identities of.Users) noIdentities) s.now c.at words.old to 25 }
-    ensures { Fills (pick carried (identities of.Users) noIdentities) identitiesWords 25 (bits s.now) c.at words.old to words.new result.at }
+    requires { Fillable (pick carried (identities of.Users) no_identities) s.now c.at words.old to 25 }
+    ensures { Fills (pick carried (identities of.Users) no_identities) identities_words 25 (bits s.now) c.at words.old to words.new result.at }
 {
     if carried {
         return fill_identities(s, c, words, to);
@@ -26,8 +26,8 @@ fn fill_users(s: &[u8], c: Cursor, words: &mut [u32], to: usize, carried: bool) 
 
 // The services, or zeros where the PDU carries none.
 fn fill_served(s: &[u8], c: Cursor, words: &mut [u32], to: usize, carried: bool) -> Cursor
-    requires { Fillable (pick carried services noServices) s.now c.at words.old to 8 }
-    ensures { Fills (pick carried services noServices) servicesWords 8 (bits s.now) c.at words.old to words.new result.at }
+    requires { Fillable (pick carried services no_services) s.now c.at words.old to 8 }
+    ensures { Fills (pick carried services no_services) services_words 8 (bits s.now) c.at words.old to words.new result.at }
 {
     if carried {
         return fill_services(s, c, words, to);
@@ -39,7 +39,7 @@ fn fill_served(s: &[u8], c: Cursor, words: &mut [u32], to: usize, carried: bool)
 // The services, if they are carried, and the lists of a part.
 fn fill_listed(s: &[u8], c: Cursor, words: &mut [u32], to: usize, served: bool, part: u32) -> Cursor
     requires { Fillable (listed served part) s.now c.at words.old to 485 }
-    ensures { Fills (listed served part) listedWords 485 (bits s.now) c.at words.old to words.new result.at }
+    ensures { Fills (listed served part) listed_words 485 (bits s.now) c.at words.old to words.new result.at }
 {
     let lists_to = to + 8;
     let lists = fill_served(s, c, words, to, served);
@@ -49,7 +49,7 @@ fn fill_listed(s: &[u8], c: Cursor, words: &mut [u32], to: usize, served: bool, 
 // The PDU type, the affected users, the figures from one window, services and lists.
 pub(crate) fn fill_record(s: &[u8], words: &mut [u32]) -> Cursor
     requires { Fillable pdu s.now 0 words.old 0 520 }
-    ensures { Fills pdu recordWords 520 (bits s.now) 0 words.old 0 words.new result.at }
+    ensures { Fills pdu record_words 520 (bits s.now) 0 words.old 0 words.new result.at }
 {
     let code = number_at(s, 6, 5);
     let kind = site::pdu_type(code);

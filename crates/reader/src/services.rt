@@ -3,8 +3,8 @@ ghost use Rattle.std.specs.Prelude.{◌+◌, ◌≤◌, length};
 ghost use Rattle.bits.specs.Bits.{bits};
 ghost use Rattle.grammar.specs.Grammar.{services};
 ghost use Rattle.words.specs.Inner.{Put};
-ghost use Rattle.words.specs.RecordWords.{servicesWords};
-ghost use Rattle.reader.specs.Inner.{Fillable, Fills, sevenIn};
+ghost use Rattle.words.specs.RecordWords.{services_words};
+ghost use Rattle.reader.specs.Inner.{Fillable, Fills, seven_in};
 
 use crate::stores::{held, store};
 use bits::Cursor;
@@ -12,7 +12,7 @@ use bits::Cursor;
 // Seven numbers of three bits. A fixed number of turns, so that it becomes code without a loop.
 fn put_seven(words: &mut [u32], to: usize, run: u64)
     requires { to + 7 ≤ length words.old }
-    ensures { Put words.old to (sevenIn run) 7 words.new (to + 7) }
+    ensures { Put words.old to (seven_in run) 7 words.new (to + 7) }
 {
     let mut next = to;
     let mut i: usize = 0;
@@ -26,7 +26,7 @@ fn put_seven(words: &mut [u32], to: usize, run: u64)
 // The number of services, the services, and zeros in the other places.
 pub(crate) fn fill_services(s: &[u8], c: Cursor, words: &mut [u32], to: usize) -> Cursor
     requires { Fillable services s.now c.at words.old to 8 }
-    ensures { Fills services servicesWords 8 (bits s.now) c.at words.old to words.new result.at }
+    ensures { Fills services services_words 8 (bits s.now) c.at words.old to words.new result.at }
 {
     let at = c.at;
     let window = bits::window(s, at);

@@ -2,9 +2,9 @@
 ghost use Rattle.std.specs.Prelude.{◌≡◌, ◌∷◌, [], ◌+◌, ◌^◌, ◌≤◌, ◌<◌, length, replicate};
 ghost use Rattle.bits.specs.Bits.{bits};
 ghost use Rattle.codec.specs.Parts.{number};
-ghost use Rattle.grammar.specs.SiteSheet.{entriesOf};
+ghost use Rattle.grammar.specs.SiteSheet.{entries_of};
 ghost use Rattle.words.specs.Inner.{Put};
-ghost use Rattle.reader.specs.Inner.{one, Read, Reads, heldIn};
+ghost use Rattle.reader.specs.Inner.{one, Read, Reads, held_in};
 
 // The number of `width` bits at a place.
 pub(crate) fn number_at(s: &[u8], at: usize, width: usize) -> u32
@@ -17,7 +17,7 @@ pub(crate) fn number_at(s: &[u8], at: usize, width: usize) -> u32
 // The entries of a legal range type: the two ends of a range, or as many as its number.
 pub(crate) fn entries_of(code: u32) -> usize
     requires { code ≤ 9 }
-    ensures { result ≡ entriesOf code }
+    ensures { result ≡ entries_of code }
 {
     if code == 9 {
         return 2;
@@ -28,7 +28,7 @@ pub(crate) fn entries_of(code: u32) -> usize
 // The `used` bits after the first `skip` of a window, and zeros after them: `whole` bits, below those that were skipped.
 pub(crate) fn held(window: u64, skip: usize, whole: usize, used: usize) -> u64
     requires { (window < 2 ^ 57) × (used ≤ whole) × (skip + whole ≤ 57) }
-    ensures { result ≡ heldIn window skip whole used }
+    ensures { result ≡ held_in window skip whole used }
 {
     (window >> (57 - skip - used)) << (whole - used)
 }

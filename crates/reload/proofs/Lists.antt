@@ -8,8 +8,8 @@ use Rattle.codec.specs.Codec.{Codec, Legal}
 use Rattle.codec.specs.Parts.{number, element, tested}
 use Rattle.codec.specs.Places.{places}
 use Rattle.codec.proofs.Legality.{legal-seq, legal-shaped, legal-tested, legal-absent, pair-legal, shaped-legal, tested-legal, absent-legal}
-use Rattle.grammar.specs.SiteSheet.{rangeType, rowOf, rangeRefusal}
-use Rattle.grammar.specs.Grammar.{rangeEnds, identities, noIdentities, externals, noExternals}
+use Rattle.grammar.specs.SiteSheet.{range_type, row_of, range_refusal}
+use Rattle.grammar.specs.Grammar.{range_ends, identities, no_identities, externals, no_externals}
 use Rattle.grammar.specs.declared.site.ListKind.TheVariants as of
 use Rattle.grammar.specs.declared.record.Identities.{Identities}
 use Rattle.grammar.specs.declared.record.Numbers.{Numbers}
@@ -17,20 +17,20 @@ use Rattle.grammar.specs.declared.record.Numbers.{Numbers}
 -- ---- identities
 
 -- carried and empty, it may be left out
-dropped : (l : Identities) → l.code ≡ 0 → Legal (identities of.Identities) l → Legal noIdentities l
-unfolding identities noIdentities rowOf rangeType places
+dropped : (l : Identities) → l.code ≡ 0 → Legal (identities of.Identities) l → Legal no_identities l
+unfolding identities no_identities row_of range_type places
 dropped l e h =
     let t = legal-tested _ _ _ _ (legal-seq _ _ _ (legal-shaped _ _ _ _ _ _ h)).1 in
     shaped-legal _ _ _ _ _ (pair-legal _ _ _ (rw e absent-legal) (rw e at t))
 
 -- not carried, it is empty
-empty : (l : Identities) → Legal noIdentities l → l.code ≡ 0
-unfolding noIdentities
+empty : (l : Identities) → Legal no_identities l → l.code ≡ 0
+unfolding no_identities
 empty l h = legal-absent _ (legal-seq _ _ _ (legal-shaped _ _ _ _ _ _ h)).0
 
 -- and may be carried
-carried : (l : Identities) → Legal noIdentities l → Legal (identities of.Identities) l
-unfolding identities noIdentities rowOf rangeType rangeRefusal rangeEnds places element tested number
+carried : (l : Identities) → Legal no_identities l → Legal (identities of.Identities) l
+unfolding identities no_identities row_of range_type range_refusal range_ends places element tested number
 carried l h =
     let e = empty l h in
     let t = (legal-seq _ _ _ (legal-shaped _ _ _ _ _ _ h)).1 in
@@ -38,18 +38,18 @@ carried l h =
 
 -- ---- numbers, in the same way
 
-dropped-numbers : (l : Numbers) → l.code ≡ 0 → Legal externals l → Legal noExternals l
-unfolding externals noExternals rowOf rangeType places
+dropped-numbers : (l : Numbers) → l.code ≡ 0 → Legal externals l → Legal no_externals l
+unfolding externals no_externals row_of range_type places
 dropped-numbers l e h =
     let t = (legal-seq _ _ _ (legal-shaped _ _ _ _ _ _ h)).1 in
     shaped-legal _ _ _ _ _ (pair-legal _ _ _ (rw e absent-legal) (rw e at t))
 
-empty-numbers : (l : Numbers) → Legal noExternals l → l.code ≡ 0
-unfolding noExternals
+empty-numbers : (l : Numbers) → Legal no_externals l → l.code ≡ 0
+unfolding no_externals
 empty-numbers l h = legal-absent _ (legal-seq _ _ _ (legal-shaped _ _ _ _ _ _ h)).0
 
-carried-numbers : (l : Numbers) → Legal noExternals l → Legal externals l
-unfolding externals noExternals rowOf rangeType rangeRefusal places element tested number
+carried-numbers : (l : Numbers) → Legal no_externals l → Legal externals l
+unfolding externals no_externals row_of range_type range_refusal places element tested number
 carried-numbers l h =
     let e = empty-numbers l h in
     let t = (legal-seq _ _ _ (legal-shaped _ _ _ _ _ _ h)).1 in
@@ -63,10 +63,10 @@ pub record Optional {A : Type 0} (code : A → ℕ) (used unused : Codec A) : Ty
   pub none : (l : A) → Legal unused l → code l ≡ 0
   pub carry : (l : A) → Legal unused l → Legal used l
 
-pub of-identities : Optional (λ l. l.code) (identities of.Identities) noIdentities
+pub of-identities : Optional (λ l. l.code) (identities of.Identities) no_identities
 of-identities = record { drop = dropped; none = empty; carry = carried }
 
-pub of-numbers : Optional (λ l. l.code) externals noExternals
+pub of-numbers : Optional (λ l. l.code) externals no_externals
 of-numbers = record { drop = dropped-numbers; none = empty-numbers; carry = carried-numbers }
 
 module _ {A : Type 0} {code : A → ℕ} {used unused : Codec A} (list : Optional code used unused) where

@@ -1,10 +1,10 @@
 // A held part put back into a switch: the DEFINE or DEFINE EXTERNAL that is written for it (document 02, requests 2026-01 and 2026-06).
 ghost use Rattle.std.specs.Prelude.{◌≡◌, ◌+◌, ◌≤◌, length};
-ghost use Rattle.bits.specs.Frame.{bytesFor};
+ghost use Rattle.bits.specs.Frame.{bytes_for};
 ghost use Rattle.archive.specs.Refusals.{plain};
-ghost use Rattle.reload.specs.Define.{isDefinition, kind_of, partFor, defineOf, noIdentities, noNumbers, standsIn};
-ghost use Rattle.reload.specs.Reload.{reloadIs, reloadOut};
-ghost use Rattle.reload.specs.Inner.{reloadedFrom, reloadedOut};
+ghost use Rattle.reload.specs.Define.{is_definition, kind_of, part_for, define_of, no_identities, no_numbers, stands_in};
+ghost use Rattle.reload.specs.Reload.{reload_is, reload_out};
+ghost use Rattle.reload.specs.Inner.{reloaded_from, reloaded_out};
 
 use archive::{EntryPlace, Fetched, Key, Refusal};
 use bits::BitCount;
@@ -36,7 +36,7 @@ pub enum Reloaded {
 
 // Whether a definition may be asked for.
 fn is_definition(wanted: Definition) -> bool
-    ensures { result ≡ isDefinition wanted }
+    ensures { result ≡ is_definition wanted }
 {
     if 2 < wanted.definition {
         return false;
@@ -48,7 +48,7 @@ fn is_definition(wanted: Definition) -> bool
 }
 
 fn no_identities(lists: Lists) -> bool
-    ensures { result ≡ noIdentities lists }
+    ensures { result ≡ no_identities lists }
 {
     if lists.restricted.code != 0 {
         return false;
@@ -57,7 +57,7 @@ fn no_identities(lists: Lists) -> bool
 }
 
 fn no_numbers(lists: Lists) -> bool
-    ensures { result ≡ noNumbers lists }
+    ensures { result ≡ no_numbers lists }
 {
     if lists.numbers.code != 0 {
         return false;
@@ -67,7 +67,7 @@ fn no_numbers(lists: Lists) -> bool
 
 // Whether each list that is not empty is one of a part.
 fn stand_in(part: u32, lists: Lists) -> bool
-    ensures { result ≡ standsIn part lists }
+    ensures { result ≡ stands_in part lists }
 {
     if part == 1 {
         return no_numbers(lists);
@@ -86,7 +86,7 @@ fn stand_in(part: u32, lists: Lists) -> bool
 
 // The part whose lists the PDU has.
 fn part_for(target: Target) -> u32
-    ensures { result ≡ partFor target }
+    ensures { result ≡ part_for target }
 {
     match target {
         Target::Define => 1,
@@ -105,7 +105,7 @@ fn kind_of(target: Target) -> u32
 
 // The PDU that puts a part back: its affected user, services and lists as they are.
 fn define_of(target: Target, wanted: Definition, part: Record) -> Record
-    ensures { result ≡ defineOf target wanted part }
+    ensures { result ≡ define_of target wanted part }
 {
     let affected = part.affected;
     let services = part.services;
@@ -150,9 +150,9 @@ fn reload_body(
     wanted: Definition,
     out: &mut [u8],
 ) -> Reloaded
-    requires { at + bytesFor n.0 ≤ length archive.now }
-    ensures value { result ≡ reloadedFrom target archive.now at n.0 wanted out.old }
-    ensures out_after { out.new ≡ reloadedOut target archive.now at n.0 wanted out.old }
+    requires { at + bytes_for n.0 ≤ length archive.now }
+    ensures value { result ≡ reloaded_from target archive.now at n.0 wanted out.old }
+    ensures out_after { out.new ≡ reloaded_out target archive.now at n.0 wanted out.old }
 {
     let end = at + n.bytes();
     let reading = pdu::read(&archive[at..end], n);
@@ -176,8 +176,8 @@ pub fn reload(
     wanted: Definition,
     out: &mut [u8],
 ) -> Reloaded
-    ensures value { result ≡ reloadIs target archive.now key wanted out.old }
-    ensures out_after { out.new ≡ reloadOut target archive.now key wanted out.old }
+    ensures value { result ≡ reload_is target archive.now key wanted out.old }
+    ensures out_after { out.new ≡ reload_out target archive.now key wanted out.old }
 {
     if !archive::in_range(key) {
         return refused(9);

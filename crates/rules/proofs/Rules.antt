@@ -7,36 +7,36 @@ use Rattle.bits.specs.Bits.{pick}
 use Rattle.bits.proofs.Tests.{never, same-pick}
 use Rattle.grammar.specs.declared.record.Record.{Record}
 use Rattle.rules.specs.Matching.{covered}
-use Rattle.rules.specs.Rule.{isExcepted, isRestricted, isOutside, in_groups, bothEmpty, missingIn, ruling, sixRules}
-use Rattle.rules.specs.Rule.{outsideGroup, restrictedService, restrictedAddress}
+use Rattle.rules.specs.Rule.{is_excepted, is_restricted, is_outside, in_groups, both_empty, missing_in, ruling, six_rules}
+use Rattle.rules.specs.Rule.{outside_group, restricted_service, restricted_address}
 use Rattle.rules.specs.declared.request.Request.{Request}
 use Rattle.rules.specs.declared.Ruling.TheVariants.{Allowed, Barred}
 
 module _ (home : ℕ) (r : Record) (q : Request) where
   -- a call by a service that the part does not list is allowed
   pub unlisted-allowed : covered r.services q.service ≡ false → ruling home r q ≡ Allowed
-  unfolding ruling sixRules
+  unfolding ruling six_rules
   unlisted-allowed h = rw h
 
   -- an excepted destination is never barred
-  pub excepted-allowed : isExcepted (missingIn home r) r.lists q.destination q.digits ≡ true → ruling home r q ≡ Allowed
-  unfolding ruling sixRules
+  pub excepted-allowed : is_excepted (missing_in home r) r.lists q.destination q.digits ≡ true → ruling home r q ≡ Allowed
+  unfolding ruling six_rules
   excepted-allowed h = rw h (same-pick (not (covered r.services q.service)) Allowed)
 
   -- an empty group list bars no call for its group
-  inside : r.lists.groups.code ≡ 0 → isOutside (missingIn home r) r.lists.groups q.group ≡ false
-  unfolding isOutside
-  inside h = ap (λ (t : Bool). not t && not (in_groups (missingIn home r) r.lists.groups q.group)) (eq-eqb r.lists.groups.code 0 h)
+  inside : r.lists.groups.code ≡ 0 → is_outside (missing_in home r) r.lists.groups q.group ≡ false
+  unfolding is_outside
+  inside h = ap (λ (t : Bool). not t && not (in_groups (missing_in home r) r.lists.groups q.group)) (eq-eqb r.lists.groups.code 0 h)
 
-  pub no-groups : r.lists.groups.code ≡ 0 → ruling home r q ≡ Barred outsideGroup → ⊥
-  unfolding ruling sixRules
+  pub no-groups : r.lists.groups.code ≡ 0 → ruling home r q ≡ Barred outside_group → ⊥
+  unfolding ruling six_rules
   no-groups h e =
-      apart (covered r.services q.service) (isExcepted (missingIn home r) r.lists q.destination q.digits)
-      (isRestricted (missingIn home r) r.lists q.destination q.digits) (bothEmpty r.lists q.destination) (rw (inside h) at e)
+      apart (covered r.services q.service) (is_excepted (missing_in home r) r.lists q.destination q.digits)
+      (is_restricted (missing_in home r) r.lists q.destination q.digits) (both_empty r.lists q.destination) (rw (inside h) at e)
     where
       apart : (a b c d : Bool)
-          → pick (not a) Allowed (pick b Allowed (pick c (Barred restrictedAddress) (pick d (Barred restrictedService) Allowed)))
-          ≡ Barred outsideGroup → ⊥
+          → pick (not a) Allowed (pick b Allowed (pick c (Barred restricted_address) (pick d (Barred restricted_service) Allowed)))
+          ≡ Barred outside_group → ⊥
       apart false b c d e = never cc
       apart true true c d e = never cc
       apart true false true d e = never cc

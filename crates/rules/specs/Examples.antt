@@ -1,6 +1,6 @@
 -- Worked cases that antt computes: each limit of a request from both sides, and which numbers match.
 use Rattle.std.specs.Prelude.{◌≡◌, refl, true, false, List, [], ◌∷◌, ◌++◌, map, ℕ, replicate}
-use Rattle.rules.specs.Request.{requestRefusal, requests}
+use Rattle.rules.specs.Request.{request_refusal, requests}
 use Rattle.rules.specs.Matching.{is_number}
 use Rattle.rules.specs.Rule.{rules}
 use Rattle.rules.specs.declared.request.User.{User}
@@ -15,29 +15,29 @@ abbrev user : ℕ → ℕ → User
 user network ssi = record { network = network; ssi = ssi }
 
 -- a call of user 1/5 to identity 1/100, and one to an external number, but for what a case changes
-abbrev toIdentity : User → ℕ → User → List ℕ → Group → Request
-toIdentity caller service called digits group =
+abbrev to_identity : User → ℕ → User → List ℕ → Group → Request
+to_identity caller service called digits group =
     record { user = caller; service = service; destination = Identity called; digits = digits; group = group }
 
-abbrev toNumber : ℕ → List ℕ → Request
-toNumber length digits =
+abbrev to_number : ℕ → List ℕ → Request
+to_number length digits =
     record { user = user 1 5; service = 1; destination = Number (record { 0 = length }); digits = digits; group = NoGroup }
 
 abbrev by : ℕ → Request
-by service = toIdentity (user 1 5) service (user 1 100) (replicate 24 0) NoGroup
+by service = to_identity (user 1 5) service (user 1 100) (replicate 24 0) NoGroup
 
 abbrev from : User → Request
-from caller = toIdentity caller 1 (user 1 100) (replicate 24 0) NoGroup
+from caller = to_identity caller 1 (user 1 100) (replicate 24 0) NoGroup
 
 abbrev to : User → Request
-to called = toIdentity (user 1 5) 1 called (replicate 24 0) NoGroup
+to called = to_identity (user 1 5) 1 called (replicate 24 0) NoGroup
 
 abbrev within : User → Request
-within group = toIdentity (user 1 5) 1 (user 1 100) (replicate 24 0) (Of group)
+within group = to_identity (user 1 5) 1 (user 1 100) (replicate 24 0) (Of group)
 
 -- the refusals at these values
 abbrev refusals : (ℕ → Request) → List ℕ → List ℕ
-refusals q = map (λ v. requestRefusal (q v))
+refusals q = map (λ v. request_refusal (q v))
 
 -- a service 1 to 3
 services : refusals by (0 ∷ 1 ∷ 2 ∷ 3 ∷ 4 ∷ 4294967295 ∷ []) ≡ 9 ∷ 0 ∷ 0 ∷ 0 ∷ 9 ∷ 9 ∷ []
@@ -61,7 +61,7 @@ unfolding requests
 ssis = (refl, refl, refl)
 
 -- 1 to 24 digits
-lengths : refusals (λ n. toNumber n (replicate 24 0)) (0 ∷ 1 ∷ 2 ∷ 23 ∷ 24 ∷ 25 ∷ 255 ∷ []) ≡ 9 ∷ 0 ∷ 0 ∷ 0 ∷ 0 ∷ 9 ∷ 9 ∷ []
+lengths : refusals (λ n. to_number n (replicate 24 0)) (0 ∷ 1 ∷ 2 ∷ 23 ∷ 24 ∷ 25 ∷ 255 ∷ []) ≡ 9 ∷ 0 ∷ 0 ∷ 0 ∷ 0 ∷ 9 ∷ 9 ∷ []
 unfolding requests
 lengths = refl
 
@@ -72,16 +72,16 @@ digits = 0 ∷ 9 ∷ 10 ∷ 11 ∷ 12 ∷ 13 ∷ 14 ∷ 15 ∷ 16 ∷ 255 ∷ []
 abbrev legal : List ℕ
 legal = 0 ∷ 0 ∷ 0 ∷ 0 ∷ 0 ∷ 9 ∷ 9 ∷ 9 ∷ 9 ∷ 9 ∷ []
 
-used-places : (refusals (λ d. toNumber 1 (d ∷ replicate 23 0)) digits ≡ legal)
-    × (refusals (λ d. toNumber 24 (replicate 23 1 ++ (d ∷ []))) digits ≡ legal)
+used-places : (refusals (λ d. to_number 1 (d ∷ replicate 23 0)) digits ≡ legal)
+    × (refusals (λ d. to_number 24 (replicate 23 1 ++ (d ∷ []))) digits ≡ legal)
 unfolding requests
 used-places = (refl, refl)
 
 -- a place that is not used is zero: after the digits of a number, and anywhere beside an identity
-unused-places : (refusals (λ d. toNumber 2 (1 ∷ 1 ∷ d ∷ replicate 21 0)) (0 ∷ 1 ∷ 2 ∷ []) ≡ 0 ∷ 9 ∷ 9 ∷ [])
-    × (refusals (λ d. toNumber 23 (replicate 23 1 ++ (d ∷ []))) (0 ∷ 1 ∷ 12 ∷ []) ≡ 0 ∷ 9 ∷ 9 ∷ [])
-    × (refusals (λ d. toIdentity (user 1 5) 1 (user 1 100) (d ∷ replicate 23 0) NoGroup) (0 ∷ 1 ∷ []) ≡ 0 ∷ 9 ∷ [])
-    × (refusals (λ d. toIdentity (user 1 5) 1 (user 1 100) (replicate 23 0 ++ (d ∷ [])) NoGroup) (0 ∷ 1 ∷ []) ≡ 0 ∷ 9 ∷ [])
+unused-places : (refusals (λ d. to_number 2 (1 ∷ 1 ∷ d ∷ replicate 21 0)) (0 ∷ 1 ∷ 2 ∷ []) ≡ 0 ∷ 9 ∷ 9 ∷ [])
+    × (refusals (λ d. to_number 23 (replicate 23 1 ++ (d ∷ []))) (0 ∷ 1 ∷ 12 ∷ []) ≡ 0 ∷ 9 ∷ 9 ∷ [])
+    × (refusals (λ d. to_identity (user 1 5) 1 (user 1 100) (d ∷ replicate 23 0) NoGroup) (0 ∷ 1 ∷ []) ≡ 0 ∷ 9 ∷ [])
+    × (refusals (λ d. to_identity (user 1 5) 1 (user 1 100) (replicate 23 0 ++ (d ∷ [])) NoGroup) (0 ∷ 1 ∷ []) ≡ 0 ∷ 9 ∷ [])
 unfolding requests
 unused-places = (refl, refl, refl, refl)
 

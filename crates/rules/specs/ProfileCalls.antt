@@ -6,8 +6,8 @@ use Rattle.rules.specs.declared.request.Group.TheVariants.{Of}
 use Rattle.rules.specs.declared.request.Request.{Request}
 
 -- of user 5 of a network by a service, to a network and SSI, in a group
-abbrev pub callFrom : ℕ → ℕ → ℕ → ℕ → Group → Request
-callFrom from service network ssi group = record {
+abbrev pub call_from : ℕ → ℕ → ℕ → ℕ → Group → Request
+call_from from service network ssi group = record {
   user = record { network = from; ssi = 5 };
   service = service;
   destination = Identity (record { network = network; ssi = ssi });
@@ -16,17 +16,17 @@ callFrom from service network ssi group = record {
 }
 
 abbrev pub speech : ℕ → ℕ → Group → Request
-speech = callFrom 1 1
+speech = call_from 1 1
 
-abbrev pub circuitData : ℕ → ℕ → Group → Request
-circuitData = callFrom 1 2
+abbrev pub circuit_data : ℕ → ℕ → Group → Request
+circuit_data = call_from 1 2
 
-abbrev pub shortData : ℕ → ℕ → Group → Request
-shortData = callFrom 1 3
+abbrev pub short_data : ℕ → ℕ → Group → Request
+short_data = call_from 1 3
 
 -- of visitor 2/5
-abbrev pub visitorSpeech : ℕ → ℕ → Group → Request
-visitorSpeech = callFrom 2 1
+abbrev pub visitor_speech : ℕ → ℕ → Group → Request
+visitor_speech = call_from 2 1
 
 abbrev pub group500 : Group
 group500 = Of (record { network = 1; ssi = 500 })

@@ -4,7 +4,7 @@ mod matching;
 pub mod request;
 
 ghost use Rattle.std.specs.Prelude.{◌≡◌};
-ghost use Rattle.rules.specs.Rule.{ruling, sixRules};
+ghost use Rattle.rules.specs.Rule.{ruling, six_rules};
 
 use grammar::record::Record;
 use grammar::site::network_of;
@@ -38,7 +38,7 @@ pub fn rule(part: Record, home: u32, request: Request) -> Ruling
 
 // The first rule that applies. `missing` is the network that a missing extension means.
 fn six_rules(part: Record, missing: u32, request: Request) -> Ruling
-    ensures { result ≡ sixRules missing part request }
+    ensures { result ≡ six_rules missing part request }
 {
     let services = part.services;
     if !covers(services, request.service) {

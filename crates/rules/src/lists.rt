@@ -1,6 +1,6 @@
 // What the lists of a part say of a call. `missing` is the network that a missing extension means.
 ghost use Rattle.std.specs.Prelude.{◌≡◌};
-ghost use Rattle.rules.specs.Rule.{isExcepted, isRestricted, isOutside, bothEmpty};
+ghost use Rattle.rules.specs.Rule.{is_excepted, is_restricted, is_outside, both_empty};
 
 use crate::matching::{identity_among, number_among};
 use crate::request::{Destination, Group};
@@ -13,7 +13,7 @@ pub(crate) fn is_excepted(
     destination: Destination,
     digits: [u8; 24],
 ) -> bool
-    ensures { result ≡ isExcepted missing lists destination digits }
+    ensures { result ≡ is_excepted missing lists destination digits }
 {
     match destination {
         Destination::Identity(u) => identity_among(lists.exceptions, missing, u),
@@ -28,7 +28,7 @@ pub(crate) fn is_restricted(
     destination: Destination,
     digits: [u8; 24],
 ) -> bool
-    ensures { result ≡ isRestricted missing lists destination digits }
+    ensures { result ≡ is_restricted missing lists destination digits }
 {
     match destination {
         Destination::Identity(u) => identity_among(lists.restricted, missing, u),
@@ -38,7 +38,7 @@ pub(crate) fn is_restricted(
 
 // The group list isn't empty, and either the call has no group or its group is not in the list.
 pub(crate) fn is_outside(groups: Identities, missing: u32, group: Group) -> bool
-    ensures { result ≡ isOutside missing groups group }
+    ensures { result ≡ is_outside missing groups group }
 {
     if groups.code == 0 {
         return false;
@@ -51,7 +51,7 @@ pub(crate) fn is_outside(groups: Identities, missing: u32, group: Group) -> bool
 
 // The group list and the restricted list are both empty.
 pub(crate) fn both_empty(lists: Lists, destination: Destination) -> bool
-    ensures { result ≡ bothEmpty lists destination }
+    ensures { result ≡ both_empty lists destination }
 {
     if lists.groups.code != 0 {
         return false;

@@ -1,7 +1,7 @@
 // Whether a list names a user, an external number or a service. `missing` is the network that a missing extension means.
 ghost use Rattle.std.specs.Prelude.{◌≡◌, take};
 ghost use Rattle.bits.specs.Lists.{some};
-ghost use Rattle.rules.specs.Matching.{isEntry, in_range, identityAmong, numberAmong, isCovering, covered};
+ghost use Rattle.rules.specs.Matching.{is_entry, in_range, identity_among, number_among, is_covering, covered};
 
 use crate::request::User;
 use bits::DigitCount;
@@ -10,7 +10,7 @@ use grammar::site::{RangeType, network_of};
 
 // A single entry is this user.
 pub fn is_entry(e: Identity, missing: u32, u: User) -> bool
-    ensures { result ≡ isEntry missing u e }
+    ensures { result ≡ is_entry missing u e }
 {
     if network_of(missing, e) != u.network {
         return false;
@@ -33,7 +33,7 @@ pub fn in_range(first: Identity, last: Identity, missing: u32, u: User) -> bool
 
 // One of n single entries is this user.
 fn is_one_of(entries: [Identity; 8], n: u32, missing: u32, u: User) -> bool
-    ensures { result ≡ some (isEntry missing u) (take n entries) }
+    ensures { result ≡ some (is_entry missing u) (take n entries) }
 {
     let count = bits::least(n as usize, 8);
     let mut found = false;
@@ -50,7 +50,7 @@ fn is_one_of(entries: [Identity; 8], n: u32, missing: u32, u: User) -> bool
 
 // The user is among the identities of a list.
 pub(crate) fn identity_among(list: Identities, missing: u32, u: User) -> bool
-    ensures { result ≡ identityAmong missing list u }
+    ensures { result ≡ identity_among missing list u }
 {
     let entries = list.entries;
     match grammar::site::range_type(list.code) {
@@ -63,7 +63,7 @@ pub(crate) fn identity_among(list: Identities, missing: u32, u: User) -> bool
 
 // The external number is among the numbers of a list: the same length and the same digits.
 pub(crate) fn number_among(list: Numbers, length: DigitCount, digits: [u8; 24]) -> bool
-    ensures { result ≡ numberAmong list length.0 digits }
+    ensures { result ≡ number_among list length.0 digits }
 {
     let entries = list.entries;
     let count = bits::least(grammar::site::row_of(list.code).entries as usize, 8);
@@ -92,7 +92,7 @@ pub(crate) fn number_among(list: Numbers, length: DigitCount, digits: [u8; 24]) 
 
 // A listed service covers this one: 0 is all applicable services.
 pub fn is_covering(listed: u32, service: u32) -> bool
-    ensures { result ≡ isCovering service listed }
+    ensures { result ≡ is_covering service listed }
 {
     if listed == 0 {
         return true;

@@ -1,7 +1,7 @@
 // A request: who calls, by which service, to whom, and in which group (document 01, "The barring rule").
 ghost use Rattle.std.specs.Prelude.{◌≡◌, ◌<◌, take, drop};
 ghost use Rattle.bits.specs.Lists.{every};
-ghost use Rattle.rules.specs.Request.{isUser, isService, isDestination, is_group, isDigit, isUnused, digitsUsed, requestRefusal};
+ghost use Rattle.rules.specs.Request.{is_user, is_service, is_destination, is_group, is_digit, is_unused, digits_used, request_refusal};
 
 use bits::DigitCount;
 
@@ -36,7 +36,7 @@ pub struct Request {
 
 // Networks and SSIs are of 24 bits.
 fn is_user(u: User) -> bool
-    ensures { result ≡ isUser u }
+    ensures { result ≡ is_user u }
 {
     if 16777216 <= u.network {
         return false;
@@ -45,7 +45,7 @@ fn is_user(u: User) -> bool
 }
 
 fn is_service(service: u32) -> bool
-    ensures { result ≡ isService service }
+    ensures { result ≡ is_service service }
 {
     match service {
         1..=3 => true,
@@ -54,7 +54,7 @@ fn is_service(service: u32) -> bool
 }
 
 fn is_destination(destination: Destination) -> bool
-    ensures { result ≡ isDestination destination }
+    ensures { result ≡ is_destination destination }
 {
     match destination {
         Destination::Identity(u) => is_user(u),
@@ -78,7 +78,7 @@ fn is_group(group: Group) -> bool
 
 // How many digit places the destination uses: an identity none.
 fn digits_used(destination: Destination) -> DigitCount
-    ensures { result.0 ≡ digitsUsed destination }
+    ensures { result.0 ≡ digits_used destination }
 {
     match destination {
         Destination::Identity(_) => DigitCount(0),
@@ -88,7 +88,7 @@ fn digits_used(destination: Destination) -> DigitCount
 
 // Each used place has a legal digit.
 fn used_are_digits(digits: [u8; 24], length: DigitCount) -> bool
-    ensures { result ≡ every isDigit (take length.0 digits) }
+    ensures { result ≡ every is_digit (take length.0 digits) }
 {
     let n = bits::least(length.0 as usize, 24);
     let mut refused = 0u32;
@@ -108,7 +108,7 @@ fn wide(digit: u8) -> u32
 
 // Each place that is not used is zero.
 fn unused_are_zero(digits: [u8; 24], length: DigitCount) -> bool
-    ensures { result ≡ every isUnused (drop length.0 digits) }
+    ensures { result ≡ every is_unused (drop length.0 digits) }
 {
     let mut sum = 0u32;
     let mut i = bits::least(length.0 as usize, 24);
@@ -121,7 +121,7 @@ fn unused_are_zero(digits: [u8; 24], length: DigitCount) -> bool
 
 // 9 for a request out of its range, otherwise 0.
 pub fn request_refusal(request: Request) -> u32
-    ensures { result ≡ requestRefusal request }
+    ensures { result ≡ request_refusal request }
 {
     let user = request.user;
     if !is_user(user) {

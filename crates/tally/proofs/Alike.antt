@@ -10,9 +10,9 @@ use lib.Bits.{bit_or, bit_xor, or_add_and, xor_add_and, and_le_l, and_le_r}
 use lib.ListN.{drop}
 use Rattle.codec.specs.Parts.{absent}
 use Rattle.codec.specs.Places.{places}
-use Rattle.grammar.specs.Grammar.{identity, noIdentity, extension}
+use Rattle.grammar.specs.Grammar.{identity, no_identity, extension}
 use Rattle.grammar.specs.declared.record.Identity.{Identity}
-use Rattle.words.specs.RecordWords.{entriesFrom, identityFrom}
+use Rattle.words.specs.RecordWords.{entries_from, identity_from}
 use Rattle.tally.specs.Tally.{Tallies}
 use Rattle.tally.specs.Inner.{Fits, Plain, Alike}
 use Rattle.tally.specs.declared.Tally.{Tally}
@@ -60,11 +60,11 @@ plain t (suc zero) {e} few h =
 plain t (suc (suc p)) few h = absurd (omega arith)
 
 module _ {n p from : ℕ} {words : List ℕ} {start : Tally} (few : n ≤ 8) (alike : Alike n p from words)
-    (fits : Fits (places identity noIdentity 8 n) (entriesFrom identityFrom 3 8 (drop from words)) start) where
+    (fits : Fits (places identity no_identity 8 n) (entries_from identity_from 3 8 (drop from words)) start) where
   -- so many are counted, up to a place and so many bits
   abbrev pub Counted : ℕ → ℕ → ℕ → Type 0
   Counted i place size =
-      Tallying identity noIdentity identityFrom 3 8 n words from start i place
+      Tallying identity no_identity identity_from 3 8 n words from start i place
       (record { clean = start.clean; refusal = start.refusal; bits = size })
 
   moved : {i j x y a b : ℕ} → i ≡ j → x ≡ y → a ≡ b → Counted i x a → Counted j y b

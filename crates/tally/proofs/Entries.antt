@@ -9,7 +9,7 @@ use lib.Seq.{drop-drop}
 use Rattle.codec.specs.Codec.{Codec}
 use Rattle.codec.specs.Parts.{seq}
 use Rattle.codec.specs.Places.{cons, places}
-use Rattle.words.specs.RecordWords.{entriesFrom}
+use Rattle.words.specs.RecordWords.{entries_from}
 use Rattle.tally.specs.Tally.{Tallies}
 use Rattle.tally.specs.Inner.{Fits, Skips}
 use Rattle.tally.specs.declared.Tally.{Tally}
@@ -26,11 +26,11 @@ places-next c z m n i h k =
     rw (p, q)
 
 pub entries_next : {A : Type 0} (f : List ℕ → A) (k m i : ℕ) (w : List ℕ) (at : ℕ) → i < m
-    → entriesFrom f k (m - i) (drop at w) ≡ f (drop at w) ∷ entriesFrom f k (m - (i + 1)) (drop (at + k) w)
-unfolding entriesFrom
+    → entries_from f k (m - i) (drop at w) ≡ f (drop at w) ∷ entries_from f k (m - (i + 1)) (drop (at + k) w)
+unfolding entries_from
 entries_next f k m i w at h =
     let p : m - i ≡ suc (m - (i + 1)) = omega arith in
-    ap (λ (x : ℕ). entriesFrom f k x (drop at w)) p ∙ ap (λ (v : List ℕ). f (drop at w) ∷ entriesFrom f k (m - (i + 1)) v) (drop-drop k at w)
+    ap (λ (x : ℕ). entries_from f k x (drop at w)) p ∙ ap (λ (v : List ℕ). f (drop at w) ∷ entries_from f k (m - (i + 1)) v) (drop-drop k at w)
 
 -- as many are used as there are places
 pub places-most : {A : Type 0} (c z : Codec A) (m n : ℕ) → places c z m n ≡ places c z m (min n m)
@@ -49,9 +49,9 @@ pub record Tallying {A : Type 0} (c z : Codec A) (f : List ℕ → A) (k m n : �
     (t : Tally) : Type 0 where
   pub done : i ≤ n
   pub there : place ≡ from + k * i
-  pub fits : Fits (places c z (m - i) (n - i)) (entriesFrom f k (m - i) (drop place words)) t
-  pub rest : (r : Tally) → Tallies (places c z (m - i) (n - i)) (entriesFrom f k (m - i) (drop place words)) t r
-      → Tallies (places c z m n) (entriesFrom f k m (drop from words)) start r
+  pub fits : Fits (places c z (m - i) (n - i)) (entries_from f k (m - i) (drop place words)) t
+  pub rest : (r : Tally) → Tallies (places c z (m - i) (n - i)) (entries_from f k (m - i) (drop place words)) t r
+      → Tallies (places c z m n) (entries_from f k m (drop from words)) start r
 
 -- one entry before others
 module _ {A : Type 0} (c : Codec A) (d : Codec (List A)) {a : A} {l : List A} {t : Tally} where
@@ -64,7 +64,7 @@ module _ {A : Type 0} (c : Codec A) (d : Codec (List A)) {a : A} {l : List A} {t
   fits-before h = record { short = h.short }
 
 module _ {A : Type 0} {c z : Codec A} {f : List ℕ → A} {k m n : ℕ} {words : List ℕ} {from : ℕ} {start : Tally} where
-  pub tallying-start : Fits (places c z m n) (entriesFrom f k m (drop from words)) start → Tallying c z f k m n words from start 0 from start
+  pub tallying-start : Fits (places c z m n) (entries_from f k m (drop from words)) start → Tallying c z f k m n words from start 0 from start
   tallying-start h = record {
     done = omega arith;
     there = omega arith;
@@ -76,7 +76,7 @@ module _ {A : Type 0} {c z : Codec A} {f : List ℕ → A} {k m n : ℕ} {words 
   module _ {i place : ℕ} {t : Tally} (h : Tallying c z f k m n words from start i place t) where
     module _ (inside : i < n) (few : n ≤ m) where
       here : Fits (seq c (λ x. places c z (m - (i + 1)) (n - (i + 1))))
-          (f (drop place words), entriesFrom f k (m - (i + 1)) (drop (place + k) words)) t
+          (f (drop place words), entries_from f k (m - (i + 1)) (drop (place + k) words)) t
       here = fits-before _ _ (rw (places-next c z m n i (omega arith) inside, entries_next f k m i words place (omega arith)) at h.fits)
 
       pub tallying-fits : Fits c (f (drop place words)) t
@@ -92,7 +92,7 @@ module _ {A : Type 0} {c z : Codec A} {f : List ℕ → A} {k m n : ℕ} {words 
 
     -- after the last that is used, the words of the others
     pub tallying-done : {r : Tally} {count : ℕ} → Uncarried k z f → n ≤ i → count ≡ k * (m - i) → place + count ≤ length words
-        → Skips (take count (drop place words)) t r → Tallies (places c z m n) (entriesFrom f k m (drop from words)) start r
+        → Skips (take count (drop place words)) t r → Tallies (places c z m n) (entries_from f k m (drop from words)) start r
     tallying-done {r} {count} none all e room s =
         let last : n - i ≡ 0 = omega arith in
         h.rest r (rw last (skipped (uncarried-places c none (m - i) (drop place words) (omega (arith, length-drop place words))) (rw e at s)))

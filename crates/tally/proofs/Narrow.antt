@@ -5,10 +5,10 @@ use Prim.Native.Nat.{ℕ, zero, suc, ◌+◌, ◌≤◌, ◌<◌}
 use native.Mathlib.Omega.{arith}
 use lib.Dec.{leb, ltb}
 use borrow.Author.Tests.{leb-true, leb-false, le-leb, lt-leb, ltb-true, ltb-false, lt-ltb, le-ltb}
-use Rattle.bits.proofs.Numbers.{length-bitsOf}
+use Rattle.bits.proofs.Numbers.{length-bits_of}
 use Rattle.codec.specs.Codec.{first}
-use Rattle.codec.specs.Parts.{is_zero, numberFault, number, element, tested}
-use Rattle.grammar.specs.SiteSheet.{lengthRefusal}
+use Rattle.codec.specs.Parts.{is_zero, number_fault, number, element, tested}
+use Rattle.grammar.specs.SiteSheet.{length_refusal}
 use Rattle.words.specs.RecordWords.{narrow}
 use Rattle.tally.specs.Tally.{Tallies}
 use Rattle.tally.specs.declared.Tally.{Tally}
@@ -41,14 +41,14 @@ zero-leb (suc d) = sym (lt-leb (suc d) 0 (omega arith))
 
 -- ---- the length of a number
 
-length-fault : (x : ℕ) → first (numberFault 5 (narrow x)) (lengthRefusal (narrow x)) ≡ first (numberFault 5 x) (lengthRefusal x)
+length-fault : (x : ℕ) → first (number_fault 5 (narrow x)) (length_refusal (narrow x)) ≡ first (number_fault 5 x) (length_refusal x)
 length-fault x = rw (narrow-ltb x 32 (omega arith), leb-narrow x 1 (omega arith), narrow-leb x 24 (omega arith))
 
-pub length-narrowed : {x k : ℕ} {t s : Tally} → Tallies (element 5 (λ v. k)) x t s → k ≡ lengthRefusal x → Tallies (element 5 lengthRefusal)
+pub length-narrowed : {x k : ℕ} {t s : Tally} → Tallies (element 5 (λ v. k)) x t s → k ≡ length_refusal x → Tallies (element 5 length_refusal)
     (narrow x) t s
 unfolding element tested number
 length-narrowed {x} {t = t} h e = record {
   clean = h.clean;
-  refusal = h.refusal ∙ ap (λ (n : ℕ). first t.refusal (first (numberFault 5 x) n)) e ∙ ap (first t.refusal) (sym (length-fault x));
-  bits = h.bits ∙ ap (λ (n : ℕ). t.bits + n) (length-bitsOf 5 x ∙ sym (length-bitsOf 5 (narrow x)));
+  refusal = h.refusal ∙ ap (λ (n : ℕ). first t.refusal (first (number_fault 5 x) n)) e ∙ ap (first t.refusal) (sym (length-fault x));
+  bits = h.bits ∙ ap (λ (n : ℕ). t.bits + n) (length-bits_of 5 x ∙ sym (length-bits_of 5 (narrow x)));
 }

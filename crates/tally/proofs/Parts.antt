@@ -7,9 +7,9 @@ use native.Mathlib.Omega.{arith}
 use borrow.Author.Tests.{lt-ltb}
 use lib.ListN.{length-append}
 use lib.Pow.{pow_pos}
-use Rattle.bits.proofs.Numbers.{length-bitsOf}
+use Rattle.bits.proofs.Numbers.{length-bits_of}
 use Rattle.codec.specs.Codec.{Codec, first}
-use Rattle.codec.specs.Parts.{numberFault, number, element, seq, tested, shaped}
+use Rattle.codec.specs.Parts.{number_fault, number, element, seq, tested, shaped}
 use Rattle.tally.specs.Tally.{Tallies}
 use Rattle.tally.specs.Inner.{Fits}
 use Rattle.tally.specs.declared.Tally.{Tally}
@@ -18,25 +18,25 @@ pub first-zero : (n : ℕ) → first n 0 ≡ n
 first-zero zero = refl
 first-zero (suc n) = refl
 
-first-assoc : (k m n : ℕ) → first (first k m) n ≡ first k (first m n)
-first-assoc zero m n = refl
-first-assoc (suc k) m n = refl
+first_assoc : (k m n : ℕ) → first (first k m) n ≡ first k (first m n)
+first_assoc zero m n = refl
+first_assoc (suc k) m n = refl
 
 -- ---- an element
 
 -- a number of which nothing is left where it is shifted by its width
-pub in-width : (w v : ℕ) → v / 2 ^ w ≡ 0 → numberFault w v ≡ 0
-in-width w v e =
+pub in_width : (w v : ℕ) → v / 2 ^ w ≡ 0 → number_fault w v ≡ 0
+in_width w v e =
     let h : v < 0 * 2 ^ w + 2 ^ w = rw e at (lt-div-mul-add {a = v} {b = 2 ^ w} (pow_pos w)) in
     rw (lt-ltb v (2 ^ w) (omega arith))
 
-pub element-is : (t : Tally) (v w refusal : ℕ) {k own : ℕ} → own ≡ first (numberFault w v) refusal → k ≡ first t.refusal own
+pub element-is : (t : Tally) (v w refusal : ℕ) {k own : ℕ} → own ≡ first (number_fault w v) refusal → k ≡ first t.refusal own
     → Tallies (element w (λ x. refusal)) v t (record { clean = t.clean; refusal = k; bits = t.bits + w })
 unfolding element tested number
 element-is t v w refusal e f = record {
   clean = sym (and-true t.clean);
   refusal = f ∙ ap (first t.refusal) e;
-  bits = ap (λ (n : ℕ). t.bits + n) (sym (length-bitsOf w v));
+  bits = ap (λ (n : ℕ). t.bits + n) (sym (length-bits_of w v));
 }
 
 module _ (w : ℕ) {v : ℕ} {t s : Tally} where
@@ -46,27 +46,27 @@ module _ (w : ℕ) {v : ℕ} {t s : Tally} where
   refusing refuse h e = record {
     clean = h.clean;
     refusal = h.refusal ∙ ap
-        (λ (n : ℕ). first t.refusal (first (numberFault w v) n)) e;
+        (λ (n : ℕ). first t.refusal (first (number_fault w v) n)) e;
     bits = h.bits;
   }
 
   -- an element none of whose values is refused
   pub numbered : Tallies (element w (λ x. 0)) v t s → Tallies (number w) v t s
   unfolding element tested number
-  numbered h = record { clean = h.clean; refusal = h.refusal ∙ ap (first t.refusal) (first-zero (numberFault w v)); bits = h.bits }
+  numbered h = record { clean = h.clean; refusal = h.refusal ∙ ap (first t.refusal) (first-zero (number_fault w v)); bits = h.bits }
 
 -- a number that is not refused
 pub legal : (w : ℕ) {v : ℕ} (t : Tally) → v / 2 ^ w ≡ 0
     → Tallies (number w) v t (record { clean = t.clean; refusal = t.refusal; bits = t.bits + w })
-legal w {v} t e = numbered w (element-is t v w 0 {own = 0} (sym (ap (λ (n : ℕ). first n 0) (in-width w v e))) (sym (first-zero t.refusal)))
+legal w {v} t e = numbered w (element-is t v w 0 {own = 0} (sym (ap (λ (n : ℕ). first n 0) (in_width w v e))) (sym (first-zero t.refusal)))
 
 pub fits-number : (w : ℕ) {v : ℕ} {t : Tally} → Fits (number w) v t → t.bits + w ≤ 4096
 unfolding number
-fits-number w {v} h = omega (arith, h.short, length-bitsOf w v)
+fits-number w {v} h = omega (arith, h.short, length-bits_of w v)
 
 pub fits-element : (w : ℕ) (refuse : ℕ → ℕ) {v : ℕ} {t : Tally} → Fits (element w refuse) v t → t.bits + w ≤ 4096
 unfolding element tested number
-fits-element w refuse {v} h = omega (arith, h.short, length-bitsOf w v)
+fits-element w refuse {v} h = omega (arith, h.short, length-bits_of w v)
 
 -- ---- one part after another
 
@@ -75,7 +75,7 @@ module _ {A B : Type 0} {c : Codec A} (d : A → Codec B) {a : A} {b : B} {t : T
   unfolding seq
   then h k = record {
     clean = k.clean ∙ ap (λ (x : Bool). x && (d a).clean b) h.clean ∙ and_assoc t.clean (c.clean a) ((d a).clean b);
-    refusal = k.refusal ∙ ap (λ (n : ℕ). first n ((d a).fault b)) h.refusal ∙ first-assoc t.refusal (c.fault a) ((d a).fault b);
+    refusal = k.refusal ∙ ap (λ (n : ℕ). first n ((d a).fault b)) h.refusal ∙ first_assoc t.refusal (c.fault a) ((d a).fault b);
     bits = omega (arith, h.bits, k.bits, length-append (c.print a) ((d a).print b));
   }
 
@@ -106,7 +106,7 @@ module _ {A : Type 0} {c : Codec A} (refuse into : A → ℕ) {a : A} {t : Tally
   unfolding tested
   test {k = k} h e f = record {
     clean = h.clean;
-    refusal = f ∙ ap (λ (m : ℕ). first m k) h.refusal ∙ ap (first (first t.refusal (c.fault a))) e ∙ first-assoc t.refusal (c.fault a)
+    refusal = f ∙ ap (λ (m : ℕ). first m k) h.refusal ∙ ap (first (first t.refusal (c.fault a))) e ∙ first_assoc t.refusal (c.fault a)
         (refuse a);
     bits = h.bits;
   }
@@ -118,8 +118,8 @@ module _ {A : Type 0} {c : Codec A} (refuse into : A → ℕ) {a : A} {t : Tally
 -- ---- a part by another name
 
 module _ {A : Type 0} {c d : Codec A} (e : c ≡ d) {a : A} {t : Tally} where
-  pub tallies-as : {r : Tally} → Tallies c a t r → Tallies d a t r
-  tallies-as {r} h = subst (λ (x : Codec A). Tallies x a t r) e h
+  pub tallies_as : {r : Tally} → Tallies c a t r → Tallies d a t r
+  tallies_as {r} h = subst (λ (x : Codec A). Tallies x a t r) e h
 
-  pub fits-as : Fits d a t → Fits c a t
-  fits-as h = subst (λ (x : Codec A). Fits x a t) (sym e) h
+  pub fits_as : Fits d a t → Fits c a t
+  fits_as h = subst (λ (x : Codec A). Fits x a t) (sym e) h

@@ -3,7 +3,7 @@ use Rattle.std.specs.Prelude.{◌≡◌, Bool, ◌&&◌, List, ℕ, ◌+◌, ◌
 use Rattle.bits.specs.Lists.{every}
 use Rattle.codec.specs.Codec.{Codec}
 use Rattle.grammar.specs.declared.record.Identity.{Identity}
-use Rattle.words.specs.RecordWords.{identityFrom}
+use Rattle.words.specs.RecordWords.{identity_from}
 use Rattle.tally.specs.declared.Tally.{Tally}
 
 -- after what is counted, the part's own length fits: no PDU is longer than 4,096 bits
@@ -11,12 +11,12 @@ pub record Fits {A : Type 0} (c : Codec A) (a : A) (t : Tally) : Type 0 where
   pub short : t.bits + length (c.print a) ≤ 4096
 
 -- whether no number of a list is above the greatest that it may be
-unfoldable pub noneAbove : ℕ → List ℕ → Bool
-noneAbove most = every (λ d. leb d most)
+unfoldable pub none_above : ℕ → List ℕ → Bool
+none_above most = every (λ d. leb d most)
 
 -- words that the PDU does not carry are to be zero, and add nothing
 pub record Skips (words : List ℕ) (before after : Tally) : Type 0 where
-  pub clean : after.clean ≡ before.clean && noneAbove 0 words
+  pub clean : after.clean ≡ before.clean && none_above 0 words
   pub refusal : after.refusal ≡ before.refusal
   pub bits : after.bits ≡ before.bits
 
@@ -29,4 +29,4 @@ pub record Plain (present : ℕ) (e : Identity) : Type 0 where
 -- so many from a place on are so
 pub record Alike (n present from : ℕ) (words : List ℕ) : Type 0 where
   pub bit : present ≤ 1
-  pub each : (k : ℕ) → k < n → Plain present (identityFrom (drop (from + 3 * k) words))
+  pub each : (k : ℕ) → k < n → Plain present (identity_from (drop (from + 3 * k) words))

@@ -2,7 +2,7 @@
 use Rattle.std.specs.Prelude.{◌≡◌, true, false, ◌&&◌, List, ℕ, ◌+◌, length}
 use Rattle.codec.specs.Codec.{Codec, first}
 use Rattle.grammar.specs.Grammar.{pdu}
-use Rattle.words.specs.RecordWords.{areRecord, recordFrom}
+use Rattle.words.specs.RecordWords.{are_record, record_from}
 use Rattle.tally.specs.declared.Tally.{Tally}
 
 -- what a record comes to before its first part
@@ -17,5 +17,5 @@ pub record Tallies {A : Type 0} (c : Codec A) (a : A) (before after : Tally) : T
 
 -- what words come to: those of a record to what its PDU does; any others are not clean, and have no refusal and no length
 pub record TalliesWords (words : List ℕ) (t : Tally) : Type 0 where
-  pub of-record : areRecord (length words) ≡ true → Tallies pdu (recordFrom words) nothing t
-  pub of_others : areRecord (length words) ≡ false → t ≡ record { clean = false; refusal = 0; bits = 0 }
+  pub of-record : are_record (length words) ≡ true → Tallies pdu (record_from words) nothing t
+  pub of_others : are_record (length words) ≡ false → t ≡ record { clean = false; refusal = 0; bits = 0 }

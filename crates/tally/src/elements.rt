@@ -2,10 +2,10 @@
 ghost use Rattle.std.specs.Prelude.{◌≡◌, ◌&&◌, ◌+◌, ◌≤◌, length, take, drop};
 ghost use Rattle.bits.specs.Bits.{pick};
 ghost use Rattle.codec.specs.Codec.{first};
-ghost use Rattle.codec.specs.Parts.{numberFault, element};
-ghost use Rattle.grammar.specs.SiteSheet.{entriesOf};
+ghost use Rattle.codec.specs.Parts.{number_fault, element};
+ghost use Rattle.grammar.specs.SiteSheet.{entries_of};
 ghost use Rattle.tally.specs.Tally.{Tallies};
-ghost use Rattle.tally.specs.Inner.{noneAbove, Skips};
+ghost use Rattle.tally.specs.Inner.{none_above, Skips};
 
 use crate::Tally;
 use grammar::site::{RangeType, range_type};
@@ -13,7 +13,7 @@ use grammar::site::{RangeType, range_type};
 // The refusal number of a value by its width: one wider than its element is refused.
 fn width_refusal(width: usize, value: u32) -> u32
     requires { width ≤ 24 }
-    ensures { result ≡ numberFault width value }
+    ensures { result ≡ number_fault width value }
 {
     if value >> width == 0 { 0 } else { 3 }
 }
@@ -53,7 +53,7 @@ pub(crate) fn tally_element(start: Tally, width: usize, value: u32, refusal: u32
 
 // The entries that follow a range type. By its meaning and not from the site sheet's table, which each use would lay out anew on the stack.
 pub(crate) fn entries_of(code: u32) -> usize
-    ensures { result ≡ entriesOf code }
+    ensures { result ≡ entries_of code }
 {
     match range_type(code) {
         RangeType::Empty => 0,
@@ -66,7 +66,7 @@ pub(crate) fn entries_of(code: u32) -> usize
 // Whether none of so many words from a place on is above `most`. A loop that tests all of them is quicker than one that stops.
 pub(crate) fn none_above(words: &[u32], from: usize, count: usize, most: u32) -> bool
     requires { from + count ≤ length words.now }
-    ensures { result ≡ noneAbove most (take count (drop from words.now)) }
+    ensures { result ≡ none_above most (take count (drop from words.now)) }
 {
     let mut none = true;
     let mut i: usize = 0;

@@ -1,8 +1,8 @@
 // What identities among the words come to: one, the entries of a list, and a range type with its entries.
 ghost use Rattle.std.specs.Prelude.{◌≡◌, true, ◌+◌, ◌≤◌, length, drop, get_or};
 ghost use Rattle.codec.specs.Places.{places};
-ghost use Rattle.grammar.specs.Grammar.{identity, noIdentity, rangeEnds, identities};
-ghost use Rattle.words.specs.RecordWords.{entriesFrom, identityFrom, identitiesFrom};
+ghost use Rattle.grammar.specs.Grammar.{identity, no_identity, range_ends, identities};
+ghost use Rattle.words.specs.RecordWords.{entries_from, identity_from, identities_from};
 ghost use Rattle.tally.specs.Tally.{Tallies};
 ghost use Rattle.tally.specs.Inner.{Fits, Alike};
 
@@ -14,7 +14,7 @@ use grammar::site::{ListKind, ends_refusal, range_refusal};
 // The three words of an identity.
 fn identity_from(words: &[u32], at: usize) -> Identity
     requires { at + 3 ≤ length words.now }
-    ensures { result ≡ identityFrom (drop at words.now) }
+    ensures { result ≡ identity_from (drop at words.now) }
 {
     Identity {
         ssi: words[at],
@@ -25,8 +25,8 @@ fn identity_from(words: &[u32], at: usize) -> Identity
 
 // SSI, extension present, and the extension exactly if that is 1.
 fn tally_identity(start: Tally, words: &[u32], at: usize) -> Tally
-    requires { (at + 3 ≤ length words.now) × Fits identity (identityFrom (drop at words.now)) start }
-    ensures { Tallies identity (identityFrom (drop at words.now)) start result }
+    requires { (at + 3 ≤ length words.now) × Fits identity (identity_from (drop at words.now)) start }
+    ensures { Tallies identity (identity_from (drop at words.now)) start result }
 {
     let e = identity_from(words, at);
     let after_ssi = tally_element(start, 24, e.ssi, 0);
@@ -39,8 +39,8 @@ fn tally_identity(start: Tally, words: &[u32], at: usize) -> Tally
 
 // The first n of eight entries are used, whatever they are.
 fn tally_mixed_entries(start: Tally, words: &[u32], from: usize, n: usize) -> Tally
-    requires { (from + 24 ≤ length words.now) × (n ≤ 8) × Fits (places identity noIdentity 8 n) (entriesFrom identityFrom 3 8 (drop from words.now)) start }
-    ensures { Tallies (places identity noIdentity 8 n) (entriesFrom identityFrom 3 8 (drop from words.now)) start result }
+    requires { (from + 24 ≤ length words.now) × (n ≤ 8) × Fits (places identity no_identity 8 n) (entries_from identity_from 3 8 (drop from words.now)) start }
+    ensures { Tallies (places identity no_identity 8 n) (entries_from identity_from 3 8 (drop from words.now)) start result }
 {
     let end = from + 24;
     let mut sum = start;
@@ -81,8 +81,8 @@ fn are_alike(words: &[u32], from: usize, n: usize) -> bool
 
 // The first n of eight entries are used: at once where they are alike.
 fn tally_identity_entries(start: Tally, words: &[u32], from: usize, n: usize) -> Tally
-    requires { (from + 24 ≤ length words.now) × (n ≤ 8) × Fits (places identity noIdentity 8 n) (entriesFrom identityFrom 3 8 (drop from words.now)) start }
-    ensures { Tallies (places identity noIdentity 8 n) (entriesFrom identityFrom 3 8 (drop from words.now)) start result }
+    requires { (from + 24 ≤ length words.now) × (n ≤ 8) × Fits (places identity no_identity 8 n) (entries_from identity_from 3 8 (drop from words.now)) start }
+    ensures { Tallies (places identity no_identity 8 n) (entries_from identity_from 3 8 (drop from words.now)) start result }
 {
     if !are_alike(words, from, n) {
         return tally_mixed_entries(start, words, from, n);
@@ -100,7 +100,7 @@ fn tally_identity_entries(start: Tally, words: &[u32], from: usize, n: usize) ->
 // Only range type 9 has two ends.
 fn range_ends(code: u32, words: &[u32], from: usize) -> u32
     requires { from + 6 ≤ length words.now }
-    ensures { result ≡ rangeEnds code (entriesFrom identityFrom 3 8 (drop from words.now)) }
+    ensures { result ≡ range_ends code (entries_from identity_from 3 8 (drop from words.now)) }
 {
     if code != 9 {
         return 0;
@@ -112,8 +112,8 @@ fn range_ends(code: u32, words: &[u32], from: usize) -> u32
 
 // The range type, as many entries as it says, and the test of a range.
 pub(crate) fn tally_identities(start: Tally, list: ListKind, words: &[u32], at: usize) -> Tally
-    requires { (at + 25 ≤ length words.now) × Fits (identities list) (identitiesFrom (drop at words.now)) start }
-    ensures { Tallies (identities list) (identitiesFrom (drop at words.now)) start result }
+    requires { (at + 25 ≤ length words.now) × Fits (identities list) (identities_from (drop at words.now)) start }
+    ensures { Tallies (identities list) (identities_from (drop at words.now)) start result }
 {
     let code = words[at];
     let count = entries_of(code);

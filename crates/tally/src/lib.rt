@@ -7,9 +7,9 @@ mod numbers;
 mod services;
 
 ghost use Rattle.std.specs.Prelude.{◌≡◌, length, drop};
-ghost use Rattle.grammar.specs.Grammar.{rest_of, fromRecord, pdu};
-ghost use Rattle.grammar.specs.Rows.{usersIf, servicesIf, figuresOf, width_of};
-ghost use Rattle.words.specs.RecordWords.{identitiesFrom, servicesFrom, recordFrom};
+ghost use Rattle.grammar.specs.Grammar.{rest_of, from_record, pdu};
+ghost use Rattle.grammar.specs.Rows.{users_if, services_if, figures_of, width_of};
+ghost use Rattle.words.specs.RecordWords.{identities_from, services_from, record_from};
 ghost use Rattle.tally.specs.Tally.{nothing, Tallies, TalliesWords};
 ghost use Rattle.tally.specs.Inner.{Fits};
 
@@ -33,8 +33,8 @@ pub struct Tally {
 
 // Affected users, where the PDU has them.
 fn tally_users(start: Tally, carried: bool, words: &[u32]) -> Tally
-    requires { (length words.now ≡ 520) × Fits (usersIf carried) (identitiesFrom (drop 1 words.now)) start }
-    ensures { Tallies (usersIf carried) (identitiesFrom (drop 1 words.now)) start result }
+    requires { (length words.now ≡ 520) × Fits (users_if carried) (identities_from (drop 1 words.now)) start }
+    ensures { Tallies (users_if carried) (identities_from (drop 1 words.now)) start result }
 {
     if carried {
         return tally_identities(start, ListKind::Users, words, 1);
@@ -44,8 +44,8 @@ fn tally_users(start: Tally, carried: bool, words: &[u32]) -> Tally
 
 // The figures of a type, so many bits of them.
 fn tally_figures(start: Tally, kind: PduType, width: usize, figures: Figures) -> Tally
-    requires { (width ≡ width_of kind) × Fits (figuresOf kind) figures start }
-    ensures { Tallies (figuresOf kind) figures start result }
+    requires { (width ≡ width_of kind) × Fits (figures_of kind) figures start }
+    ensures { Tallies (figures_of kind) figures start result }
 {
     let bits = start.bits + width;
     Tally {
@@ -57,8 +57,8 @@ fn tally_figures(start: Tally, kind: PduType, width: usize, figures: Figures) ->
 
 // Services, where the PDU has them.
 fn tally_services_if(start: Tally, carried: bool, words: &[u32]) -> Tally
-    requires { (length words.now ≡ 520) × Fits (servicesIf carried) (servicesFrom (drop 29 words.now)) start }
-    ensures { Tallies (servicesIf carried) (servicesFrom (drop 29 words.now)) start result }
+    requires { (length words.now ≡ 520) × Fits (services_if carried) (services_from (drop 29 words.now)) start }
+    ensures { Tallies (services_if carried) (services_from (drop 29 words.now)) start result }
 {
     if carried {
         return tally_services(start, words, 29);
@@ -68,8 +68,8 @@ fn tally_services_if(start: Tally, carried: bool, words: &[u32]) -> Tally
 
 // What follows the PDU type: the row of its table.
 fn tally_rest(start: Tally, kind: PduType, words: &[u32]) -> Tally
-    requires { (length words.now ≡ 520) × Fits (rest_of kind) (fromRecord (recordFrom words.now)).1 start }
-    ensures { Tallies (rest_of kind) (fromRecord (recordFrom words.now)).1 start result }
+    requires { (length words.now ≡ 520) × Fits (rest_of kind) (from_record (record_from words.now)).1 start }
+    ensures { Tallies (rest_of kind) (from_record (record_from words.now)).1 start result }
 {
     let form = form_of(kind);
     let figures = figures_from(words);
@@ -82,7 +82,7 @@ fn tally_rest(start: Tally, kind: PduType, words: &[u32]) -> Tally
 // SS type, PDU type, and what follows them.
 fn tally_record(words: &[u32]) -> Tally
     requires { length words.now ≡ 520 }
-    ensures { Tallies pdu (recordFrom words.now) nothing result }
+    ensures { Tallies pdu (record_from words.now) nothing result }
 {
     let kind = words[0];
     let start = Tally {

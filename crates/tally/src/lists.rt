@@ -1,7 +1,7 @@
 // What the lists among the words come to, by their part.
 ghost use Rattle.std.specs.Prelude.{◌+◌, ◌≤◌, length, drop};
-ghost use Rattle.grammar.specs.Grammar.{identityPart, numberPart, part_of};
-ghost use Rattle.words.specs.RecordWords.{listsFrom};
+ghost use Rattle.grammar.specs.Grammar.{identity_part, number_part, part_of};
+ghost use Rattle.words.specs.RecordWords.{lists_from};
 ghost use Rattle.tally.specs.Tally.{Tallies};
 ghost use Rattle.tally.specs.Inner.{Fits};
 
@@ -13,8 +13,8 @@ use grammar::site::ListKind;
 
 // Part 1: TETRA identities.
 fn tally_identity_part(start: Tally, words: &[u32], at: usize) -> Tally
-    requires { (at + 477 ≤ length words.now) × Fits identityPart (listsFrom (drop at words.now)) start }
-    ensures { Tallies identityPart (listsFrom (drop at words.now)) start result }
+    requires { (at + 477 ≤ length words.now) × Fits identity_part (lists_from (drop at words.now)) start }
+    ensures { Tallies identity_part (lists_from (drop at words.now)) start result }
 {
     let after_groups = tally_identities(start, ListKind::Identities, words, at);
     let after_restricted = tally_identities(after_groups, ListKind::Identities, words, at + 25);
@@ -24,8 +24,8 @@ fn tally_identity_part(start: Tally, words: &[u32], at: usize) -> Tally
 
 // Part 2: external subscriber numbers.
 fn tally_number_part(start: Tally, words: &[u32], at: usize) -> Tally
-    requires { (at + 477 ≤ length words.now) × Fits numberPart (listsFrom (drop at words.now)) start }
-    ensures { Tallies numberPart (listsFrom (drop at words.now)) start result }
+    requires { (at + 477 ≤ length words.now) × Fits number_part (lists_from (drop at words.now)) start }
+    ensures { Tallies number_part (lists_from (drop at words.now)) start result }
 {
     let after_groups = tally_identities(start, ListKind::Identities, words, at);
     let no_restricted = tally_unused(after_groups, words, at + 25, 25);
@@ -36,8 +36,8 @@ fn tally_number_part(start: Tally, words: &[u32], at: usize) -> Tally
 
 // The part of this number; any other has no lists.
 pub(crate) fn tally_part(start: Tally, part: u32, words: &[u32], at: usize) -> Tally
-    requires { (at + 477 ≤ length words.now) × Fits (part_of part) (listsFrom (drop at words.now)) start }
-    ensures { Tallies (part_of part) (listsFrom (drop at words.now)) start result }
+    requires { (at + 477 ≤ length words.now) × Fits (part_of part) (lists_from (drop at words.now)) start }
+    ensures { Tallies (part_of part) (lists_from (drop at words.now)) start result }
 {
     if part == 1 {
         return tally_identity_part(start, words, at);

@@ -2,11 +2,11 @@
 ghost use Rattle.std.specs.Prelude.{◌≡◌, ◌+◌, ◌≤◌, length, take, drop};
 ghost use Rattle.codec.specs.Parts.{absent, element};
 ghost use Rattle.codec.specs.Places.{places};
-ghost use Rattle.grammar.specs.SiteSheet.{digitRefusal};
-ghost use Rattle.grammar.specs.Grammar.{external, noExternal, externals};
-ghost use Rattle.words.specs.RecordWords.{entriesFrom, narrow, narrowed, numberFrom, numbersFrom};
+ghost use Rattle.grammar.specs.SiteSheet.{digit_refusal};
+ghost use Rattle.grammar.specs.Grammar.{external, no_external, externals};
+ghost use Rattle.words.specs.RecordWords.{entries_from, narrow, narrowed, number_from, numbers_from};
 ghost use Rattle.tally.specs.Tally.{Tallies};
-ghost use Rattle.tally.specs.Inner.{Fits, noneAbove};
+ghost use Rattle.tally.specs.Inner.{Fits, none_above};
 
 use crate::Tally;
 use crate::elements::{
@@ -18,7 +18,7 @@ use grammar::site::{ListKind, between_refusal, range_refusal};
 // Whether none of the first `used` of 24 digits is above 12. All are tested first: a fixed number of turns is quicker, and zeros pass too.
 fn are_legal(words: &[u32], from: usize, used: usize) -> bool
     requires { (from + 24 ≤ length words.now) × (used ≤ 24) }
-    ensures { result ≡ noneAbove 12 (take used (drop from words.now)) }
+    ensures { result ≡ none_above 12 (take used (drop from words.now)) }
 {
     if none_above(words, from, 24, 12) {
         return true;
@@ -28,8 +28,8 @@ fn are_legal(words: &[u32], from: usize, used: usize) -> bool
 
 // The first n of 24 digits are used: none is above 12, and zeros stand after them.
 fn tally_digits(start: Tally, words: &[u32], from: usize, n: usize) -> Tally
-    requires { (from + 24 ≤ length words.now) × Fits (places (element 4 digitRefusal) absent 24 (narrow n)) (narrowed (take 24 (drop from words.now))) start }
-    ensures { Tallies (places (element 4 digitRefusal) absent 24 (narrow n)) (narrowed (take 24 (drop from words.now))) start result }
+    requires { (from + 24 ≤ length words.now) × Fits (places (element 4 digit_refusal) absent 24 (narrow n)) (narrowed (take 24 (drop from words.now))) start }
+    ensures { Tallies (places (element 4 digit_refusal) absent 24 (narrow n)) (narrowed (take 24 (drop from words.now))) start result }
 {
     let used = bits::least(n, 24);
     let legal = are_legal(words, from, used);
@@ -43,8 +43,8 @@ fn tally_digits(start: Tally, words: &[u32], from: usize, n: usize) -> Tally
 
 // The length, and as many digits.
 fn tally_number(start: Tally, words: &[u32], at: usize) -> Tally
-    requires { (at + 25 ≤ length words.now) × Fits external (numberFrom (drop at words.now)) start }
-    ensures { Tallies external (numberFrom (drop at words.now)) start result }
+    requires { (at + 25 ≤ length words.now) × Fits external (number_from (drop at words.now)) start }
+    ensures { Tallies external (number_from (drop at words.now)) start result }
 {
     let count = words[at];
     let after_length = tally_element(start, 5, count, between_refusal(1, 24, count));
@@ -53,8 +53,8 @@ fn tally_number(start: Tally, words: &[u32], at: usize) -> Tally
 
 // The first n of eight entries are used.
 fn tally_number_entries(start: Tally, words: &[u32], from: usize, n: usize) -> Tally
-    requires { (from + 200 ≤ length words.now) × (n ≤ 8) × Fits (places external noExternal 8 n) (entriesFrom numberFrom 25 8 (drop from words.now)) start }
-    ensures { Tallies (places external noExternal 8 n) (entriesFrom numberFrom 25 8 (drop from words.now)) start result }
+    requires { (from + 200 ≤ length words.now) × (n ≤ 8) × Fits (places external no_external 8 n) (entries_from number_from 25 8 (drop from words.now)) start }
+    ensures { Tallies (places external no_external 8 n) (entries_from number_from 25 8 (drop from words.now)) start result }
 {
     let end = from + 200;
     let mut sum = start;
@@ -70,8 +70,8 @@ fn tally_number_entries(start: Tally, words: &[u32], from: usize, n: usize) -> T
 
 // The range type, and as many numbers as it says.
 pub(crate) fn tally_numbers(start: Tally, words: &[u32], at: usize) -> Tally
-    requires { (at + 201 ≤ length words.now) × Fits externals (numbersFrom (drop at words.now)) start }
-    ensures { Tallies externals (numbersFrom (drop at words.now)) start result }
+    requires { (at + 201 ≤ length words.now) × Fits externals (numbers_from (drop at words.now)) start }
+    ensures { Tallies externals (numbers_from (drop at words.now)) start result }
 {
     let code = words[at];
     let count = entries_of(code);

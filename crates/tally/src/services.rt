@@ -2,9 +2,9 @@
 ghost use Rattle.std.specs.Prelude.{◌+◌, ◌≤◌, length, take, drop};
 ghost use Rattle.codec.specs.Parts.{absent, element};
 ghost use Rattle.codec.specs.Places.{places};
-ghost use Rattle.grammar.specs.SiteSheet.{serviceRefusal};
+ghost use Rattle.grammar.specs.SiteSheet.{service_refusal};
 ghost use Rattle.grammar.specs.Grammar.{services};
-ghost use Rattle.words.specs.RecordWords.{servicesFrom};
+ghost use Rattle.words.specs.RecordWords.{services_from};
 ghost use Rattle.tally.specs.Tally.{Tallies};
 ghost use Rattle.tally.specs.Inner.{Fits};
 
@@ -14,8 +14,8 @@ use grammar::site::{between_refusal, service_refusal};
 
 // The first n of seven services are used.
 fn tally_service_entries(start: Tally, words: &[u32], from: usize, n: usize) -> Tally
-    requires { (from + 7 ≤ length words.now) × (n ≤ 7) × Fits (places (element 3 serviceRefusal) absent 7 n) (take 7 (drop from words.now)) start }
-    ensures { Tallies (places (element 3 serviceRefusal) absent 7 n) (take 7 (drop from words.now)) start result }
+    requires { (from + 7 ≤ length words.now) × (n ≤ 7) × Fits (places (element 3 service_refusal) absent 7 n) (take 7 (drop from words.now)) start }
+    ensures { Tallies (places (element 3 service_refusal) absent 7 n) (take 7 (drop from words.now)) start result }
 {
     let end = from + 7;
     let mut sum = start;
@@ -32,8 +32,8 @@ fn tally_service_entries(start: Tally, words: &[u32], from: usize, n: usize) -> 
 
 // The number of services, and as many services.
 pub(crate) fn tally_services(start: Tally, words: &[u32], at: usize) -> Tally
-    requires { (at + 8 ≤ length words.now) × Fits services (servicesFrom (drop at words.now)) start }
-    ensures { Tallies services (servicesFrom (drop at words.now)) start result }
+    requires { (at + 8 ≤ length words.now) × Fits services (services_from (drop at words.now)) start }
+    ensures { Tallies services (services_from (drop at words.now)) start result }
 {
     let count = words[at];
     let used = bits::least(count as usize, 7);

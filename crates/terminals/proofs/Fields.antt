@@ -7,8 +7,8 @@ use borrow.Author.Tests.{leb-true, ltb-true}
 use lib.Dec.{leb, ltb}
 use Rattle.bits.specs.Bits.{guard}
 use Rattle.bits.proofs.Tests.{both}
-use Rattle.terminals.specs.Layers.{layerAt}
-use Rattle.terminals.specs.Profiles.{is_value, takes, fieldsRefusal}
+use Rattle.terminals.specs.Layers.{layer_at}
+use Rattle.terminals.specs.Profiles.{is_value, takes, fields_refusal}
 use Rattle.terminals.specs.declared.layers.Layer.{Layer}
 use Rattle.terminals.specs.declared.layers.Third.{Third}
 use Rattle.terminals.specs.declared.layers.Third.TheVariants.{Given, Missing}
@@ -18,17 +18,17 @@ use Rattle.terminals.specs.declared.lines.Fields.{Fields}
 pub record Settled (f : Fields) : Type 0 where
   pub profile : f.profile ≤ 3
   pub layer : f.layer ≤ 4
-  pub value : is_value (layerAt f.layer) f.third ≡ true
-  pub taken : takes (layerAt f.layer) f.third ≡ true
+  pub value : is_value (layer_at f.layer) f.third ≡ true
+  pub taken : takes (layer_at f.layer) f.third ≡ true
   pub no-fourth : f.fourth ≡ false
 
-pub settled : (f : Fields) → fieldsRefusal f ≡ 0 → Settled f
-unfolding fieldsRefusal
-settled f = go (leb f.profile 3) refl (leb f.layer 4) refl (is_value (layerAt f.layer) f.third) refl
-    (takes (layerAt f.layer) f.third) refl f.fourth refl
+pub settled : (f : Fields) → fields_refusal f ≡ 0 → Settled f
+unfolding fields_refusal
+settled f = go (leb f.profile 3) refl (leb f.layer 4) refl (is_value (layer_at f.layer) f.third) refl
+    (takes (layer_at f.layer) f.third) refl f.fourth refl
   where
-    go : (p : Bool) → leb f.profile 3 ≡ p → (l : Bool) → leb f.layer 4 ≡ l → (v : Bool) → is_value (layerAt f.layer) f.third ≡ v
-        → (t : Bool) → takes (layerAt f.layer) f.third ≡ t → (o : Bool) → f.fourth ≡ o
+    go : (p : Bool) → leb f.profile 3 ≡ p → (l : Bool) → leb f.layer 4 ≡ l → (v : Bool) → is_value (layer_at f.layer) f.third ≡ v
+        → (t : Bool) → takes (layer_at f.layer) f.third ≡ t → (o : Bool) → f.fourth ≡ o
         → ◌≡◌ {A = ℕ} (guard p 16 (guard l 16 (guard v 16 (guard t 17 (guard (not o) 17 0))))) 0 → Settled f
     go true ep true el true ev true et false eo e = record {
       profile = leb-true f.profile 3 ep;

@@ -11,13 +11,13 @@ use lib.Dec.{eqb, leb}
 use Rattle.bits.specs.Bits.{pick, guard}
 use Rattle.bits.proofs.Tests.{both}
 use Rattle.text.specs.Decimal.{decimal}
-use Rattle.text.specs.Field.{isDigit, run, number_of, field_of, field_at}
+use Rattle.text.specs.Field.{is_digit, run, number_of, field_of, field_at}
 use Rattle.text.specs.declared.Field.{Field}
 use Rattle.text.specs.declared.Field.TheVariants.{Number, None}
 use Rattle.text.proofs.Decimals.{within}
 use Rattle.text.proofs.ReadBack.{field-decimal}
-use Rattle.terminals.specs.Lines.{setWord, readLine, areDigits, IsField, fields_of, Says, asks, two, three, four}
-use Rattle.terminals.specs.Lines.{sameBytes, startsComma, ends_at, nextField, thirdFrom, setFrom, line_of}
+use Rattle.terminals.specs.Lines.{set_word, read_line, are_digits, IsField, fields_of, Says, asks, two, three, four}
+use Rattle.terminals.specs.Lines.{same_bytes, starts_comma, ends_at, next_field, third_from, set_from, line_of}
 use Rattle.terminals.specs.declared.layers.Third.TheVariants.{Given, Missing}
 use Rattle.terminals.specs.declared.lines.Fields.{Fields}
 use Rattle.terminals.specs.declared.lines.Line.{Line}
@@ -27,37 +27,37 @@ use Rattle.terminals.proofs.Steps.{reads-read, reads_none, reads-set}
 
 -- ---- the same bytes
 
-same-is : (s t : List ℕ) → sameBytes s t ≡ true → s ≡ t
-unfolding sameBytes
+same-is : (s t : List ℕ) → same_bytes s t ≡ true → s ≡ t
+unfolding same_bytes
 same-is [] [] e = refl
 same-is [] (y ∷ t) e = absurd (let z : ◌≡◌ {A = ℕ} 0 1 = cc in omega arith)
 same-is (x ∷ s) [] e = absurd (let z : ◌≡◌ {A = ℕ} 0 1 = cc in omega arith)
 same-is (x ∷ s) (y ∷ t) e =
-    let k = both (eqb x y) (sameBytes s t) e in
+    let k = both (eqb x y) (same_bytes s t) e in
     λ i. eqb-true x y k.0 i ∷ same-is s t k.1 i
 
 -- ---- digits at the front
 
-digits-run : (d rest : List ℕ) → areDigits d ≡ true → run rest ≡ 0 → run (d ++ rest) ≡ length d
-unfolding run areDigits
+digits-run : (d rest : List ℕ) → are_digits d ≡ true → run rest ≡ 0 → run (d ++ rest) ≡ length d
+unfolding run are_digits
 digits-run [] rest e h = h
 digits-run (b ∷ d) rest e h =
-    let k = both (isDigit b) (areDigits d) e in
+    let k = both (is_digit b) (are_digits d) e in
     rw k.0 (ap suc (digits-run d rest k.1 h))
 
-run-digits : (s : List ℕ) → areDigits (take (run s) s) ≡ true
-unfolding run areDigits
+run-digits : (s : List ℕ) → are_digits (take (run s) s) ≡ true
+unfolding run are_digits
 run-digits [] = refl
-run-digits (b ∷ s) = go (isDigit b) refl (run-digits s)
+run-digits (b ∷ s) = go (is_digit b) refl (run-digits s)
   where
-    go : (t : Bool) → isDigit b ≡ t → areDigits (take (run s) s) ≡ true → areDigits (take (pick t (suc (run s)) 0) (b ∷ s)) ≡ true
+    go : (t : Bool) → is_digit b ≡ t → are_digits (take (run s) s) ≡ true → are_digits (take (pick t (suc (run s)) 0) (b ∷ s)) ≡ true
     go true e h = rw e h
     go false e h = refl
 
 run_short : (s : List ℕ) → run s ≤ length s
 unfolding run
 run_short [] = omega arith
-run_short (b ∷ s) = go (isDigit b) (run_short s)
+run_short (b ∷ s) = go (is_digit b) (run_short s)
   where
     go : (t : Bool) → run s ≤ length s → pick t (suc (run s)) 0 ≤ length (b ∷ s)
     go true h = omega arith
@@ -130,12 +130,12 @@ decimal-field n h =
 
 module _ (s : List ℕ) (at : ℕ) where
   next-read : (d rest : List ℕ) → drop at s ≡ 44 ∷ (d ++ rest) → IsField d → run rest ≡ 0
-      → (nextField s at ≡ Number (number_of d) (at + 1 + length d)) × (drop (at + 1 + length d) s ≡ rest)
-  unfolding nextField
+      → (next_field s at ≡ Number (number_of d) (at + 1 + length d)) × (drop (at + 1 + length d) s ≡ rest)
+  unfolding next_field
   next-read d rest e f h =
       let after : drop (at + 1) s ≡ d ++ rest = sym (drop-drop 1 at s) ∙ ap (drop 1) e in
       let r = field-read s (at + 1) d rest after f h in
-      (ap (λ (x : List ℕ). guard (startsComma x) None (field_at s (at + 1) 3)) e ∙ r.0, r.1)
+      (ap (λ (x : List ℕ). guard (starts_comma x) None (field_at s (at + 1) 3)) e ∙ r.0, r.1)
 
   record FoundNext (v end : ℕ) : Type 0 where
     pub digits : List ℕ
@@ -143,8 +143,8 @@ module _ (s : List ℕ) (at : ℕ) where
     pub value : number_of digits ≡ v
     pub here : drop at s ≡ 44 ∷ (digits ++ drop end s)
 
-  next-found : (v end : ℕ) → nextField s at ≡ Number v end → FoundNext v end
-  unfolding nextField
+  next-found : (v end : ℕ) → next_field s at ≡ Number v end → FoundNext v end
+  unfolding next_field
   next-found v end = go (drop at s) refl
     where
       after : (b : ℕ) (x : List ℕ) → drop at s ≡ b ∷ x → b ≡ 44 → Found s (at + 1) v end → FoundNext v end
@@ -160,13 +160,13 @@ module _ (s : List ℕ) (at : ℕ) where
       test b x k true c e = after b x k (eqb-true b 44 c) (field_found s (at + 1) v end e)
       test b x k false c e = absurd (let z : ◌≡◌ {A = ℕ} 0 1 = cc in omega arith)
 
-      go : (x : List ℕ) → drop at s ≡ x → guard (startsComma x) None (field_at s (at + 1) 3) ≡ Number v end → FoundNext v end
+      go : (x : List ℕ) → drop at s ≡ x → guard (starts_comma x) None (field_at s (at + 1) 3) ≡ Number v end → FoundNext v end
       go [] k e = absurd (let z : ◌≡◌ {A = ℕ} 0 1 = cc in omega arith)
       go (b ∷ x) k e = test b x k (eqb b 44) refl e
 
   -- the end, and where it is not
   ends_read : drop at s ≡ 13 ∷ [] → ends_at s at ≡ true
-  unfolding ends_at sameBytes
+  unfolding ends_at same_bytes
   ends_read e = rw e
 
   ends_found : ends_at s at ≡ true → drop at s ≡ 13 ∷ []
@@ -174,30 +174,30 @@ module _ (s : List ℕ) (at : ℕ) where
   ends_found e = same-is (drop at s) (13 ∷ []) e
 
   goes_further : (x : List ℕ) → drop at s ≡ 44 ∷ x → ends_at s at ≡ false
-  unfolding ends_at sameBytes
+  unfolding ends_at same_bytes
   goes_further x e = rw e
 
 -- ---- what the grammar says is read
 
 -- what stands after a field is no digit
 no_digit : (x : List ℕ) → run (44 ∷ x) ≡ 0
-unfolding run isDigit
+unfolding run is_digit
 no_digit x = refl
 
 no-digit-end : run (13 ∷ []) ≡ 0
-unfolding run isDigit
+unfolding run is_digit
 no-digit-end = refl
 
-set-begins : (x : List ℕ) → line_of (setWord ++ x) ≡ setFrom (setWord ++ x)
-unfolding sameBytes
-set-begins x = reads-set (setWord ++ x) refl refl
+set-begins : (x : List ℕ) → line_of (set_word ++ x) ≡ set_from (set_word ++ x)
+unfolding same_bytes
+set-begins x = reads-set (set_word ++ x) refl refl
 
 pub says-reads : {s : List ℕ} {l : Line} → Says s l → line_of s ≡ l
-unfolding sameBytes
-says-reads asks = reads-read readLine refl
+unfolding same_bytes
+says-reads asks = reads-read read_line refl
 says-reads (two a b fa fb) =
     let x = a ++ (44 ∷ (b ++ (13 ∷ []))) in
-    let s = setWord ++ x in
+    let s = set_word ++ x in
     let p = field-read s 8 a (44 ∷ (b ++ (13 ∷ []))) refl fa (no_digit (b ++ (13 ∷ []))) in
     let q = next-read s (8 + length a) b (13 ∷ []) p.1 fb no-digit-end in
     set-begins x ∙ second-ends s p.0 q.0 (ends_read s _ q.1)
@@ -205,7 +205,7 @@ says-reads (three a b c fa fb fc) =
     let z = c ++ (13 ∷ []) in
     let y = b ++ (44 ∷ z) in
     let x = a ++ (44 ∷ y) in
-    let s = setWord ++ x in
+    let s = set_word ++ x in
     let p = field-read s 8 a (44 ∷ y) refl fa (no_digit y) in
     let q = next-read s (8 + length a) b (44 ∷ z) p.1 fb (no_digit z) in
     let r = next-read s (8 + length a + 1 + length b) c (13 ∷ []) q.1 fc no-digit-end in
@@ -217,7 +217,7 @@ says-reads (four a b c d fa fb fc fd) =
     let z = c ++ (44 ∷ w) in
     let y = b ++ (44 ∷ z) in
     let x = a ++ (44 ∷ y) in
-    let s = setWord ++ x in
+    let s = set_word ++ x in
     let p = field-read s 8 a (44 ∷ y) refl fa (no_digit y) in
     let q = next-read s (8 + length a) b (44 ∷ z) p.1 fb (no_digit z) in
     let r = next-read s (8 + length a + 1 + length b) c (44 ∷ w) q.1 fc (no_digit w) in
@@ -234,13 +234,13 @@ Meant s Unreadable = Unit {0}
 Meant s Read = Says s Read
 Meant s (Set f) = Says s (Set f)
 
-module _ (s : List ℕ) (word : take 8 s ≡ setWord) where
+module _ (s : List ℕ) (word : take 8 s ≡ set_word) where
   -- the line as its word and its fields
-  begins : (x : List ℕ) → drop 8 s ≡ x → s ≡ setWord ++ x
+  begins : (x : List ℕ) → drop 8 s ≡ x → s ≡ set_word ++ x
   begins x e = sym (take-append-drop 8 s) ∙ (λ i. word i ++ e i)
 
   -- its fields, as they were found
-  said : (x : List ℕ) {f g : Fields} → drop 8 s ≡ x → Says (setWord ++ x) (Set f) → f ≡ g → Says s (Set g)
+  said : (x : List ℕ) {f g : Fields} → drop 8 s ≡ x → Says (set_word ++ x) (Set f) → f ≡ g → Says s (Set g)
   said x {f} e y k = subst (λ (h : Fields). Says s (Set h)) k (subst (λ (z : List ℕ). Says z (Set f)) (sym (begins x e)) y)
 
   module _ (p l at end : ℕ) (fa : Found s 8 p at) (fb : FoundNext s at l end) where
@@ -274,26 +274,26 @@ module _ (s : List ℕ) (word : take 8 s ≡ setWord) where
         said (a ++ (44 ∷ (b ++ (44 ∷ (c ++ (44 ∷ (d ++ (13 ∷ [])))))))) (first_two (44 ∷ (c ++ (44 ∷ (d ++ (13 ∷ []))))) rest)
         (four a b c d fa.field fb.field fc.field fd.field) (λ i. fields_of (fa.value i) (fb.value i) (Given (fc.value i)) true)
 
-    meant-fourth : (x next : ℕ) → nextField s end ≡ Number x next → ends_at s next ≡ false → (g : Field) → nextField s next ≡ g
-        → Meant s (thirdFrom s p l end)
+    meant-fourth : (x next : ℕ) → next_field s end ≡ Number x next → ends_at s next ≡ false → (g : Field) → next_field s next ≡ g
+        → Meant s (third_from s p l end)
     meant-fourth x next e k None f = subst (Meant s) (sym (fourth-none s p l end e k f)) tt
     meant-fourth x next e k (Number y last) f = go (ends_at s last) refl
       where
-        go : (t : Bool) → ends_at s last ≡ t → Meant s (thirdFrom s p l end)
+        go : (t : Bool) → ends_at s last ≡ t → Meant s (third_from s p l end)
         go false h = subst (Meant s) (sym (fourth-is s p l end e k f h)) tt
         go true h =
             subst (Meant s) (sym (fourth-is s p l end e k f h))
             (four-said x next y last (next-found s end x next e) (next-found s next y last f) h)
 
-    meant-third : (g : Field) → nextField s end ≡ g → Meant s (thirdFrom s p l end)
+    meant-third : (g : Field) → next_field s end ≡ g → Meant s (third_from s p l end)
     meant-third None e = subst (Meant s) (sym (third-none s p l end e)) tt
     meant-third (Number x next) e = go (ends_at s next) refl
       where
-        go : (t : Bool) → ends_at s next ≡ t → Meant s (thirdFrom s p l end)
+        go : (t : Bool) → ends_at s next ≡ t → Meant s (third_from s p l end)
         go true k = subst (Meant s) (sym (third-ends s p l end e k)) (three_said x next (next-found s end x next e) k)
-        go false k = meant-fourth x next e k (nextField s next) refl
+        go false k = meant-fourth x next e k (next_field s next) refl
 
-  meant-second : (p at : ℕ) → field_at s 8 3 ≡ Number p at → (g : Field) → nextField s at ≡ g → Meant s (setFrom s)
+  meant-second : (p at : ℕ) → field_at s 8 3 ≡ Number p at → (g : Field) → next_field s at ≡ g → Meant s (set_from s)
   meant-second p at e None f = subst (Meant s) (sym (second_none s e f)) tt
   meant-second p at e (Number l end) f = go (ends_at s end) refl
     where
@@ -303,21 +303,21 @@ module _ (s : List ℕ) (word : take 8 s ≡ setWord) where
       fb : FoundNext s at l end
       fb = next-found s at l end f
 
-      go : (t : Bool) → ends_at s end ≡ t → Meant s (setFrom s)
+      go : (t : Bool) → ends_at s end ≡ t → Meant s (set_from s)
       go true k = subst (Meant s) (sym (second-ends s e f k)) (two_said p l at end fa fb k)
-      go false k = subst (Meant s) (sym (goes_on s e f k)) (meant-third p l at end fa fb (nextField s end) refl)
+      go false k = subst (Meant s) (sym (goes_on s e f k)) (meant-third p l at end fa fb (next_field s end) refl)
 
-  meant-set : Meant s (setFrom s)
+  meant-set : Meant s (set_from s)
   meant-set = go (field_at s 8 3) refl
     where
-      go : (g : Field) → field_at s 8 3 ≡ g → Meant s (setFrom s)
+      go : (g : Field) → field_at s 8 3 ≡ g → Meant s (set_from s)
       go None e = subst (Meant s) (sym (first-none s e)) tt
-      go (Number p at) e = meant-second p at e (nextField s at) refl
+      go (Number p at) e = meant-second p at e (next_field s at) refl
 
 pub meant : (s : List ℕ) → Meant s (line_of s)
-meant s = first (sameBytes s readLine) refl (sameBytes (take 8 s) setWord) refl
+meant s = first (same_bytes s read_line) refl (same_bytes (take 8 s) set_word) refl
   where
-    first : (a : Bool) → sameBytes s readLine ≡ a → (b : Bool) → sameBytes (take 8 s) setWord ≡ b → Meant s (line_of s)
-    first true e b f = subst (Meant s) (sym (reads-read s e)) (subst (λ (x : List ℕ). Says x Read) (sym (same-is s readLine e)) asks)
+    first : (a : Bool) → same_bytes s read_line ≡ a → (b : Bool) → same_bytes (take 8 s) set_word ≡ b → Meant s (line_of s)
+    first true e b f = subst (Meant s) (sym (reads-read s e)) (subst (λ (x : List ℕ). Says x Read) (sym (same-is s read_line e)) asks)
     first false e false f = subst (Meant s) (sym (reads_none s e f)) tt
-    first false e true f = subst (Meant s) (sym (reads-set s e f)) (meant-set s (same-is (take 8 s) setWord f))
+    first false e true f = subst (Meant s) (sym (reads-set s e f)) (meant-set s (same-is (take 8 s) set_word f))

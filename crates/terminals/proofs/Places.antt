@@ -9,7 +9,7 @@ use lib.ListN.{length, get_or, get_or-append}
 use lib.Seq.{get_or-append-add}
 use lib.Dec.{eqb}
 use Rattle.bits.specs.Bits.{pick}
-use Rattle.terminals.specs.Layers.{layerCc, layerMm, layerSds, layerSdsTl, layerPacketData, layerAt, values, places_of, places, nowhere}
+use Rattle.terminals.specs.Layers.{layer_cc, layer_mm, layer_sds, layer_sds_tl, layer_packet_data, layer_at, values, places_of, places, nowhere}
 use Rattle.terminals.specs.Inner.{Has}
 use Rattle.terminals.specs.declared.layers.Place.{Place}
 use Rattle.terminals.specs.declared.layers.Third.TheVariants.{Given, Missing}
@@ -25,43 +25,43 @@ each P p₀ p₁ p₂ p₃ p₄ (suc (suc (suc (suc zero)))) h = p₄
 each P p₀ p₁ p₂ p₃ p₄ (suc (suc (suc (suc (suc l))))) h = absurd (omega arith)
 
 -- the places of every layer stand in the table
-pub ends : (l : ℕ) → l ≤ 4 → (layerAt l).start + (layerAt l).count ≤ 269
-unfolding layerAt
-ends = each (λ l. (layerAt l).start + (layerAt l).count ≤ 269) (omega arith) (omega arith) (omega arith) (omega arith) (omega arith)
+pub ends : (l : ℕ) → l ≤ 4 → (layer_at l).start + (layer_at l).count ≤ 269
+unfolding layer_at
+ends = each (λ l. (layer_at l).start + (layer_at l).count ≤ 269) (omega arith) (omega arith) (omega arith) (omega arith) (omega arith)
 
 -- a layer's places end where the next one's start, the last one's at the table's end
 abbrev GoesOn : ℕ → Type 0
-GoesOn l = (i : ℕ) → (layerAt l).start + (layerAt l).count ≤ i → i < 269 → (l < 4) × ((layerAt (l + 1)).start ≡ (layerAt l).start + (layerAt l).count)
+GoesOn l = (i : ℕ) → (layer_at l).start + (layer_at l).count ≤ i → i < 269 → (l < 4) × ((layer_at (l + 1)).start ≡ (layer_at l).start + (layer_at l).count)
 
 pub goes_on : (l : ℕ) → l ≤ 4 → GoesOn l
-unfolding layerAt
+unfolding layer_at
 goes_on =
     each GoesOn (λ i h k. (omega arith, refl)) (λ i h k. (omega arith, refl)) (λ i h k. (omega arith, refl)) (λ i h k. (omega arith, refl))
     (λ i h k. absurd (omega arith))
 
 -- no place of that layer
-unfoldable pub noneOf : ℕ → List Place → Bool
-noneOf l [] = true
-noneOf l (p ∷ ps) = not (eqb l p.layer) && noneOf l ps
+unfoldable pub none_of : ℕ → List Place → Bool
+none_of l [] = true
+none_of l (p ∷ ps) = not (eqb l p.layer) && none_of l ps
 
 -- the places before those of a layer, and after them
 pub record Split (l : ℕ) : Type 0 where
   pub before : List Place
   pub after : List Place
-  pub parts : places ≡ before ++ (places_of l (layerAt l) ++ after)
-  pub from : length before ≡ (layerAt l).start
-  pub size : length (places_of l (layerAt l)) ≡ (layerAt l).count
-  pub none_before : noneOf l before ≡ true
-  pub none_after : noneOf l after ≡ true
+  pub parts : places ≡ before ++ (places_of l (layer_at l) ++ after)
+  pub from : length before ≡ (layer_at l).start
+  pub size : length (places_of l (layer_at l)) ≡ (layer_at l).count
+  pub none_before : none_of l before ≡ true
+  pub none_after : none_of l after ≡ true
 
 pub split : (l : ℕ) → l ≤ 4 → Split l
-unfolding places layerAt values noneOf
+unfolding places layer_at values none_of
 split =
-    let a = places_of 0 layerCc in
-    let b = places_of 1 layerMm in
-    let c = places_of 2 layerSds in
-    let d = places_of 3 layerSdsTl in
-    let e = places_of 4 layerPacketData in
+    let a = places_of 0 layer_cc in
+    let b = places_of 1 layer_mm in
+    let c = places_of 2 layer_sds in
+    let d = places_of 3 layer_sds_tl in
+    let e = places_of 4 layer_packet_data in
     each Split
     (record { before = []; after = b ++ (c ++ (d ++ e)); parts = refl; from = refl; size = refl; none_before = refl; none_after = refl })
     (record { before = a; after = c ++ (d ++ e); parts = refl; from = refl; size = refl; none_before = refl; none_after = refl })
@@ -81,7 +81,7 @@ value-at l t (suc n) (suc k) h =
 -- the place of a layer at an index of it
 abbrev pub place_in : ℕ → ℕ → Place
 place_in l i =
-    pick (layerAt l).named (record { layer = l; third = Given ((layerAt l).first + (i - (layerAt l).start)) }) (record { layer = l; third = Missing })
+    pick (layer_at l).named (record { layer = l; third = Given ((layer_at l).first + (i - (layer_at l).start)) }) (record { layer = l; third = Missing })
 
 in-layer : (l k : ℕ) (named : Bool) (first count : ℕ) → k < count → (named ≡ false → count ≡ 1)
     → get_or (pick named (values l first count) (record { layer = l; third = Missing } ∷ [])) k nowhere
@@ -91,17 +91,17 @@ in-layer l k false first count h one =
     ap (λ (j : ℕ). get_or (record { layer = l; third = Missing } ∷ []) j nowhere) {x = k} {y = 0} (let o = one refl in omega arith)
 
 -- a layer without values has one place
-pub only_one : (l : ℕ) → l ≤ 4 → (layerAt l).named ≡ false → (layerAt l).count ≡ 1
-unfolding layerAt
+pub only_one : (l : ℕ) → l ≤ 4 → (layer_at l).named ≡ false → (layer_at l).count ≡ 1
+unfolding layer_at
 only_one =
-    each (λ l. (layerAt l).named ≡ false → (layerAt l).count ≡ 1) (λ e. absurd (let z : ◌≡◌ {A = ℕ} 0 1 = cc in omega arith))
+    each (λ l. (layer_at l).named ≡ false → (layer_at l).count ≡ 1) (λ e. absurd (let z : ◌≡◌ {A = ℕ} 0 1 = cc in omega arith))
     (λ e. absurd (let z : ◌≡◌ {A = ℕ} 0 1 = cc in omega arith)) (λ e. absurd (let z : ◌≡◌ {A = ℕ} 0 1 = cc in omega arith))
     (λ e. absurd (let z : ◌≡◌ {A = ℕ} 0 1 = cc in omega arith)) (λ e. refl)
 
 pub place_at : (l i : ℕ) → Has l i → get_or places i nowhere ≡ place_in l i
 place_at l i h =
     let s = split l h.known in
-    let row = layerAt l in
+    let row = layer_at l in
     let k : ℕ = i - row.start in
     let at : i ≡ length s.before + k = omega (arith, s.from, h.from) in
     let short : k < row.count = omega (arith, h.from, h.before) in

@@ -13,66 +13,66 @@ use Rattle.bits.specs.Bits.{pick, splice}
 use Rattle.bits.proofs.Tests.{both}
 use Rattle.bits.proofs.Lists.{length_part}
 use Rattle.bits.proofs.Laying.{one}
-use Rattle.terminals.specs.Layers.{layerAt, values, alone, places_of, places, nowhere}
-use Rattle.terminals.specs.Profiles.{namesThird, names, setIn}
+use Rattle.terminals.specs.Layers.{layer_at, values, alone, places_of, places, nowhere}
+use Rattle.terminals.specs.Profiles.{names_third, names, set_in}
 use Rattle.terminals.specs.declared.layers.Layer.{Layer}
 use Rattle.terminals.specs.declared.layers.Place.{Place}
 use Rattle.terminals.specs.declared.layers.Third.{Third}
 use Rattle.terminals.specs.declared.layers.Third.TheVariants.{Given, Missing}
 use Rattle.terminals.specs.declared.lines.Fields.{Fields}
-use Rattle.terminals.proofs.Places.{noneOf, split, ends, only_one}
+use Rattle.terminals.proofs.Places.{none_of, split, ends, only_one}
 
 -- ---- part by part
 
-pub length-setIn : (f : Fields) (ps : List Place) (t : List ℕ) → length (setIn f ps t) ≡ length t
-unfolding setIn
-length-setIn f [] t = refl
-length-setIn f (p ∷ ps) [] = refl
-length-setIn f (p ∷ ps) (v ∷ t) = ap suc (length-setIn f ps t)
+pub length-set_in : (f : Fields) (ps : List Place) (t : List ℕ) → length (set_in f ps t) ≡ length t
+unfolding set_in
+length-set_in f [] t = refl
+length-set_in f (p ∷ ps) [] = refl
+length-set_in f (p ∷ ps) (v ∷ t) = ap suc (length-set_in f ps t)
 
-pub setIn-append : (f : Fields) (ps qs : List Place) (t : List ℕ) → length ps ≤ length t
-    → setIn f (ps ++ qs) t ≡ setIn f ps (take (length ps) t) ++ setIn f qs (drop (length ps) t)
-unfolding setIn
-setIn-append f [] qs t h = refl
-setIn-append f (p ∷ ps) qs [] h = absurd (not-suc-le-zero h)
-setIn-append f (p ∷ ps) qs (v ∷ t) h =
-    ap (λ (s : List ℕ). pick (names f p) f.profile v ∷ s) (setIn-append f ps qs t (le_of_suc-le-suc h))
+pub set_in_append : (f : Fields) (ps qs : List Place) (t : List ℕ) → length ps ≤ length t
+    → set_in f (ps ++ qs) t ≡ set_in f ps (take (length ps) t) ++ set_in f qs (drop (length ps) t)
+unfolding set_in
+set_in_append f [] qs t h = refl
+set_in_append f (p ∷ ps) qs [] h = absurd (not-suc-le-zero h)
+set_in_append f (p ∷ ps) qs (v ∷ t) h =
+    ap (λ (s : List ℕ). pick (names f p) f.profile v ∷ s) (set_in_append f ps qs t (le_of_suc-le-suc h))
 
 -- a place by its index
-pub setIn-at : (f : Fields) (ps : List Place) (t : List ℕ) (i : ℕ) → i < length ps → i < length t
-    → get_or (setIn f ps t) i 0 ≡ pick (names f (get_or ps i nowhere)) f.profile (get_or t i 0)
-unfolding setIn
-setIn-at f [] t i h k = absurd (not-suc-le-zero h)
-setIn-at f (p ∷ ps) [] i h k = absurd (not-suc-le-zero k)
-setIn-at f (p ∷ ps) (v ∷ t) zero h k = refl
-setIn-at f (p ∷ ps) (v ∷ t) (suc i) h k = setIn-at f ps t i (le_of_suc-le-suc h) (le_of_suc-le-suc k)
+pub set_in-at : (f : Fields) (ps : List Place) (t : List ℕ) (i : ℕ) → i < length ps → i < length t
+    → get_or (set_in f ps t) i 0 ≡ pick (names f (get_or ps i nowhere)) f.profile (get_or t i 0)
+unfolding set_in
+set_in-at f [] t i h k = absurd (not-suc-le-zero h)
+set_in-at f (p ∷ ps) [] i h k = absurd (not-suc-le-zero k)
+set_in-at f (p ∷ ps) (v ∷ t) zero h k = refl
+set_in-at f (p ∷ ps) (v ∷ t) (suc i) h k = set_in-at f ps t i (le_of_suc-le-suc h) (le_of_suc-le-suc k)
 
 -- another layer's places stay
-pub others-stay : (f : Fields) (ps : List Place) (t : List ℕ) → noneOf f.layer ps ≡ true → setIn f ps t ≡ t
-unfolding setIn names noneOf
-others-stay f [] t e = refl
-others-stay f (p ∷ ps) [] e = refl
-others-stay f (p ∷ ps) (v ∷ t) e =
-    let k = both (not (eqb f.layer p.layer)) (noneOf f.layer ps) e in
-    rw (not-true (eqb f.layer p.layer) k.0) (ap (λ (s : List ℕ). v ∷ s) (others-stay f ps t k.1))
+pub others_stay : (f : Fields) (ps : List Place) (t : List ℕ) → none_of f.layer ps ≡ true → set_in f ps t ≡ t
+unfolding set_in names none_of
+others_stay f [] t e = refl
+others_stay f (p ∷ ps) [] e = refl
+others_stay f (p ∷ ps) (v ∷ t) e =
+    let k = both (not (eqb f.layer p.layer)) (none_of f.layer ps) e in
+    rw (not-true (eqb f.layer p.layer) k.0) (ap (λ (s : List ℕ). v ∷ s) (others_stay f ps t k.1))
 
 -- ---- the layer's own places
 
 -- whether a place of its own layer is named
-own-place : (f : Fields) (q : Third) → names f (record { layer = f.layer; third = q }) ≡ namesThird f.third q
+own-place : (f : Fields) (q : Third) → names f (record { layer = f.layer; third = q }) ≡ names_third f.third q
 unfolding names
 own-place f q = rw (eq-eqb f.layer f.layer refl)
 
 own_value : (f : Fields) (x a : ℕ) → f.third ≡ Given x → names f (record { layer = f.layer; third = Given a }) ≡ eqb x a
-own_value f x a e = own-place f (Given a) ∙ ap (λ (y : Third). namesThird y (Given a)) e
+own_value f x a e = own-place f (Given a) ∙ ap (λ (y : Third). names_third y (Given a)) e
 
 module _ (f : Fields) where
   own-all : (q : Third) → f.third ≡ Missing → names f (record { layer = f.layer; third = q }) ≡ true
-  own-all q e = own-place f q ∙ ap (λ (y : Third). namesThird y q) e
+  own-all q e = own-place f q ∙ ap (λ (y : Third). names_third y q) e
 
   -- all of them
-  all-values : (a n : ℕ) (t : List ℕ) → f.third ≡ Missing → length t ≡ n → setIn f (values f.layer a n) t ≡ replicate n f.profile
-  unfolding setIn values
+  all-values : (a n : ℕ) (t : List ℕ) → f.third ≡ Missing → length t ≡ n → set_in f (values f.layer a n) t ≡ replicate n f.profile
+  unfolding set_in values
   all-values a zero [] e h = refl
   all-values a zero (v ∷ t) e h = absurd (omega arith)
   all-values a (suc n) [] e h = absurd (omega arith)
@@ -80,8 +80,8 @@ module _ (f : Fields) where
       rw (own-all (Given a) e) (ap (λ (s : List ℕ). f.profile ∷ s) (all-values (suc a) n t e (omega arith)))
 
   -- none, if the value is below theirs
-  no_value : (a n x : ℕ) (t : List ℕ) → f.third ≡ Given x → x < a → setIn f (values f.layer a n) t ≡ t
-  unfolding setIn values
+  no_value : (a n x : ℕ) (t : List ℕ) → f.third ≡ Given x → x < a → set_in f (values f.layer a n) t ≡ t
+  unfolding set_in values
   no_value a zero x t e h = refl
   no_value a (suc n) x [] e h = refl
   no_value a (suc n) x (v ∷ t) e h =
@@ -89,8 +89,8 @@ module _ (f : Fields) where
 
   -- the one of the value
   one_value : (a n k : ℕ) (t : List ℕ) → f.third ≡ Given (a + k) → k < n → length t ≡ n
-      → setIn f (values f.layer a n) t ≡ set t k f.profile
-  unfolding setIn values
+      → set_in f (values f.layer a n) t ≡ set t k f.profile
+  unfolding set_in values
   one_value a zero k t e h l = absurd (not-suc-le-zero h)
   one_value a (suc n) k [] e h l = absurd (omega arith)
   one_value a (suc n) zero (v ∷ t) e h l =
@@ -101,17 +101,17 @@ module _ (f : Fields) where
       rw (own_value f (a + suc k) a e ∙ ne_eqb (a + suc k) a (λ q. omega arith))
       (ap (λ (s : List ℕ). v ∷ s) (one_value (suc a) n k t (e ∙ ap (λ (x : ℕ). Given x) m) (le_of_suc-le-suc h) (omega arith)))
 
-single : (f : Fields) (v : ℕ) → f.third ≡ Missing → setIn f (alone f.layer) (v ∷ []) ≡ f.profile ∷ []
-unfolding setIn
+single : (f : Fields) (v : ℕ) → f.third ≡ Missing → set_in f (alone f.layer) (v ∷ []) ≡ f.profile ∷ []
+unfolding set_in
 single f v e = rw (own-all f Missing e)
 
 -- all places of a layer, whether it takes a third field or not
 all_own : (f : Fields) (named : Bool) (first count : ℕ) (t : List ℕ) → f.third ≡ Missing → length t ≡ count → (named ≡ false → count ≡ 1)
-    → setIn f (pick named (values f.layer first count) (alone f.layer)) t ≡ replicate count f.profile
+    → set_in f (pick named (values f.layer first count) (alone f.layer)) t ≡ replicate count f.profile
 all_own f true first count t e h o = all-values f first count t e h
 all_own f false first count t e h o = go t count h (o refl)
   where
-    go : (t : List ℕ) (count : ℕ) → length t ≡ count → count ≡ 1 → setIn f (alone f.layer) t ≡ replicate count f.profile
+    go : (t : List ℕ) (count : ℕ) → length t ≡ count → count ≡ 1 → set_in f (alone f.layer) t ≡ replicate count f.profile
     go t zero h k = absurd (omega arith)
     go t (suc (suc n)) h k = absurd (omega arith)
     go [] (suc zero) h k = absurd (omega arith)
@@ -129,7 +129,7 @@ set_append_right (y ∷ xs) ys i x =
 
 module _ (f : Fields) (t : List ℕ) (known : f.layer ≤ 4) (whole : length t ≡ 269) where
   abbrev row : Layer
-  row = layerAt f.layer
+  row = layer_at f.layer
 
   -- the layer's own part of the table
   abbrev own : List ℕ
@@ -148,31 +148,31 @@ module _ (f : Fields) (t : List ℕ) (known : f.layer ≤ 4) (whole : length t �
       ∙ ap (λ (s : List ℕ). take row.start t ++ s) (take-append-drop row.count (drop row.start t))
       ∙ take-append-drop row.start t)
 
-  own-part : setIn f places t ≡ take row.start t ++ (setIn f (places_of f.layer row) own ++ rest)
+  own-part : set_in f places t ≡ take row.start t ++ (set_in f (places_of f.layer row) own ++ rest)
   own-part =
       let s = split f.layer known in
       let e = ends f.layer known in
       let m = places_of f.layer row in
       let l : length (drop row.start t) ≡ length t - row.start = length-drop row.start t in
-      let first : setIn f (s.before ++ (m ++ s.after)) t
-      ≡ setIn f s.before (take (length s.before) t) ++ setIn f (m ++ s.after) (drop (length s.before) t) =
-      setIn-append f s.before (m ++ s.after) t (omega (arith, s.from))
+      let first : set_in f (s.before ++ (m ++ s.after)) t
+      ≡ set_in f s.before (take (length s.before) t) ++ set_in f (m ++ s.after) (drop (length s.before) t) =
+      set_in_append f s.before (m ++ s.after) t (omega (arith, s.from))
       in
-      let second : setIn f (m ++ s.after) (drop row.start t)
-      ≡ setIn f m (take (length m) (drop row.start t)) ++ setIn f s.after (drop (length m) (drop row.start t)) =
-      setIn-append f m s.after (drop row.start t) (omega (arith, s.size))
+      let second : set_in f (m ++ s.after) (drop row.start t)
+      ≡ set_in f m (take (length m) (drop row.start t)) ++ set_in f s.after (drop (length m) (drop row.start t)) =
+      set_in_append f m s.after (drop row.start t) (omega (arith, s.size))
       in
-      ap (λ (ps : List Place). setIn f ps t) s.parts
+      ap (λ (ps : List Place). set_in f ps t) s.parts
       ∙ first
-      ∙ (λ i. others-stay f s.before (take (s.from i) t) s.none_before i ++ setIn f (m ++ s.after) (drop (s.from i) t))
+      ∙ (λ i. others_stay f s.before (take (s.from i) t) s.none_before i ++ set_in f (m ++ s.after) (drop (s.from i) t))
       ∙ ap (λ (x : List ℕ). take row.start t ++ x)
       (second
-      ∙ (λ i. setIn f m (take (s.size i) (drop row.start t))
-      ++ others-stay f s.after (drop (s.size i) (drop row.start t)) s.none_after i)
-      ∙ ap (λ (x : List ℕ). setIn f m own ++ x) (drop-drop row.count row.start t))
+      ∙ (λ i. set_in f m (take (s.size i) (drop row.start t))
+      ++ others_stay f s.after (drop (s.size i) (drop row.start t)) s.none_after i)
+      ∙ ap (λ (x : List ℕ). set_in f m own ++ x) (drop-drop row.count row.start t))
 
   -- without a third field: all places of the layer
-  pub set_all : f.third ≡ Missing → setIn f places t ≡ splice t row.start (replicate row.count f.profile)
+  pub set_all : f.third ≡ Missing → set_in f places t ≡ splice t row.start (replicate row.count f.profile)
   set_all e =
       let n : length (replicate row.count f.profile) ≡ row.count = length-replicate row.count f.profile in
       own-part
@@ -182,14 +182,14 @@ module _ (f : Fields) (t : List ℕ) (known : f.layer ≤ 4) (whole : length t �
 
   -- with one: the place of that value
   pub set-one : (x : ℕ) → f.third ≡ Given x → row.named ≡ true → row.first ≤ x → x < row.first + row.count
-      → setIn f places t ≡ splice t (row.start + (x - row.first)) (replicate 1 f.profile)
+      → set_in f places t ≡ splice t (row.start + (x - row.first)) (replicate 1 f.profile)
   set-one x e named low high =
       let k : ℕ = x - row.first in
       let x-is : x ≡ row.first + k = omega arith in
       let front : List ℕ = take row.start t in
       let front_length : length front ≡ row.start = length-take-le row.start t (omega (arith, ends f.layer known)) in
-      let middle : setIn f (places_of f.layer row) own ≡ set own k f.profile =
-      ap (λ (b : Bool). setIn f (pick b (values f.layer row.first row.count) (alone f.layer)) own) named
+      let middle : set_in f (places_of f.layer row) own ≡ set own k f.profile =
+      ap (λ (b : Bool). set_in f (pick b (values f.layer row.first row.count) (alone f.layer)) own) named
       ∙ one_value f row.first row.count k own (e ∙ ap (λ (y : ℕ). Given y) x-is) (omega arith) own-length
       in
       let back : set (front ++ (own ++ rest)) (length front + k) f.profile ≡ front ++ (set own k f.profile ++ rest) =

@@ -14,21 +14,21 @@ use Rattle.bits.specs.Bits.{splice}
 use Rattle.bits.proofs.Tests.{both}
 use Rattle.bits.proofs.Laying.{one}
 use Rattle.bits.proofs.Splices.{splice-nil, splice-splice}
-use Rattle.terminals.specs.Profiles.{areProfiles, isTable}
+use Rattle.terminals.specs.Profiles.{are_profiles, is_table}
 
 module _ (t : List ℕ) (i : ℕ) where
-  pub profile-next : i < length t → areProfiles (drop i t) ≡ leb (get_or t i 0) 3 && areProfiles (drop (i + 1) t)
-  unfolding areProfiles
+  pub profile-next : i < length t → are_profiles (drop i t) ≡ leb (get_or t i 0) 3 && are_profiles (drop (i + 1) t)
+  unfolding are_profiles
   profile-next h = rw (add-one, drop-cons t i 0 h)
 
-  pub profile-none : length t ≤ i → areProfiles (drop i t) ≡ true
-  unfolding areProfiles
+  pub profile-none : length t ≤ i → are_profiles (drop i t) ≡ true
+  unfolding are_profiles
   profile-none h = rw (drop_of_length-le t h)
 
 -- a table has 269 places
-pub table-length : (t : List ℕ) → isTable t ≡ true → length t ≡ 269
-unfolding isTable
-table-length t e = eqb-true (length t) 269 (both (eqb (length t) 269) (areProfiles t) e).0
+pub table-length : (t : List ℕ) → is_table t ≡ true → length t ≡ 269
+unfolding is_table
+table-length t e = eqb-true (length t) 269 (both (eqb (length t) 269) (are_profiles t) e).0
 
 -- one place more
 pub fill_one : (t : List ℕ) (at left p : ℕ) → 0 < left → at < length t

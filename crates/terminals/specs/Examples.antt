@@ -1,12 +1,12 @@
 -- Worked cases that antt computes: lines and their answers on either side of each refusal, and the texts of tables.
 use Rattle.std.specs.Prelude.{◌≡◌, refl, true, false, List, [], ◌∷◌, ◌++◌, ℕ, length, replicate, set}
 use Rattle.text.specs.Decimal.{digits, decimal}
-use Rattle.text.specs.Field.{isDigit, run, numberFrom, field_of, field_at}
-use Rattle.terminals.specs.Layers.{layerAt, values, places}
-use Rattle.terminals.specs.Lines.{fields_of, sameBytes, ends_at, nextField, lastFrom, thirdFrom, setFrom, line_of}
-use Rattle.terminals.specs.Profiles.{areProfiles, isTable, resetIs, resetOut, fieldsRefusal, names, setIn, settles, setLine}
-use Rattle.terminals.specs.Reading.{item, placeText, lineText, linesText, text_of}
-use Rattle.terminals.specs.Answers.{readIs, readOut, lineIs, tableAfter, outAfter}
+use Rattle.text.specs.Field.{is_digit, run, number_from, field_of, field_at}
+use Rattle.terminals.specs.Layers.{layer_at, values, places}
+use Rattle.terminals.specs.Lines.{fields_of, same_bytes, ends_at, next_field, last_from, third_from, set_from, line_of}
+use Rattle.terminals.specs.Profiles.{are_profiles, is_table, reset_is, reset_out, fields_refusal, names, set_in, settles, set_line}
+use Rattle.terminals.specs.Reading.{item, place_text, line_text, lines_text, text_of}
+use Rattle.terminals.specs.Answers.{read_is, read_out, line_is, table_after, out_after}
 use Rattle.terminals.specs.declared.layers.Third.TheVariants.{Given, Missing}
 use Rattle.terminals.specs.declared.lines.Line.TheVariants.{Read, Set, Unreadable}
 use Rattle.terminals.specs.declared.Answer.{Answer}
@@ -14,9 +14,9 @@ use Rattle.terminals.specs.declared.Answer.TheVariants.{Length, Refused}
 
 -- `unfolding calls` opens all that a line's answer is made of
 unfoldable pub calls : Unit {0}
-unfolding digits decimal isDigit run numberFrom field_of field_at layerAt values places sameBytes ends_at nextField lastFrom thirdFrom setFrom line_of
-    areProfiles isTable resetIs resetOut fieldsRefusal names setIn settles setLine item placeText lineText linesText text_of readIs readOut lineIs
-    tableAfter outAfter
+unfolding digits decimal is_digit run number_from field_of field_at layer_at values places same_bytes ends_at next_field last_from third_from set_from line_of
+    are_profiles is_table reset_is reset_out fields_refusal names set_in settles set_line item place_text line_text lines_text text_of read_is read_out line_is
+    table_after out_after
 calls = tt
 
 -- every place at "both"
@@ -59,9 +59,9 @@ asked = refl
 -- no line: each is a line but for one thing
 
 -- no CR
-no-cr : line_of (65 ∷ 84 ∷ 43 ∷ 67 ∷ 84 ∷ 83 ∷ 80 ∷ 61 ∷ 51 ∷ 44 ∷ 52 ∷ []) ≡ Unreadable
+no_cr : line_of (65 ∷ 84 ∷ 43 ∷ 67 ∷ 84 ∷ 83 ∷ 80 ∷ 61 ∷ 51 ∷ 44 ∷ 52 ∷ []) ≡ Unreadable
 unfolding calls
-no-cr = refl
+no_cr = refl
 
 -- something after the CR
 lf-after : line_of (65 ∷ 84 ∷ 43 ∷ 67 ∷ 84 ∷ 83 ∷ 80 ∷ 61 ∷ 51 ∷ 44 ∷ 52 ∷ 13 ∷ 10 ∷ []) ≡ Unreadable
@@ -69,9 +69,9 @@ unfolding calls
 lf-after = refl
 
 -- something after the CR of the read form
-asked-lf : line_of (65 ∷ 84 ∷ 43 ∷ 67 ∷ 84 ∷ 83 ∷ 80 ∷ 63 ∷ 13 ∷ 10 ∷ []) ≡ Unreadable
+asked_lf : line_of (65 ∷ 84 ∷ 43 ∷ 67 ∷ 84 ∷ 83 ∷ 80 ∷ 63 ∷ 13 ∷ 10 ∷ []) ≡ Unreadable
 unfolding calls
-asked-lf = refl
+asked_lf = refl
 
 -- one field
 one_field : line_of (65 ∷ 84 ∷ 43 ∷ 67 ∷ 84 ∷ 83 ∷ 80 ∷ 61 ∷ 51 ∷ 13 ∷ []) ≡ Unreadable
@@ -99,14 +99,14 @@ unfolding calls
 space = refl
 
 -- another word
-lower-case : line_of (97 ∷ 116 ∷ 43 ∷ 67 ∷ 84 ∷ 83 ∷ 80 ∷ 61 ∷ 51 ∷ 44 ∷ 52 ∷ 13 ∷ []) ≡ Unreadable
+lower_case : line_of (97 ∷ 116 ∷ 43 ∷ 67 ∷ 84 ∷ 83 ∷ 80 ∷ 61 ∷ 51 ∷ 44 ∷ 52 ∷ 13 ∷ []) ≡ Unreadable
 unfolding calls
-lower-case = refl
+lower_case = refl
 
 -- the test form
-test-form : line_of (65 ∷ 84 ∷ 43 ∷ 67 ∷ 84 ∷ 83 ∷ 80 ∷ 61 ∷ 63 ∷ 13 ∷ []) ≡ Unreadable
+test_form : line_of (65 ∷ 84 ∷ 43 ∷ 67 ∷ 84 ∷ 83 ∷ 80 ∷ 61 ∷ 63 ∷ 13 ∷ []) ≡ Unreadable
 unfolding calls
-test-form = refl
+test_form = refl
 
 -- ---- refusals: 16 for a value, then 17, on either side of each limit
 
@@ -117,7 +117,7 @@ numbered (Refused k) = k
 
 -- on a fresh table, with no room to write
 abbrev answer : List ℕ → ℕ
-answer s = numbered (lineIs s fresh 0)
+answer s = numbered (line_is s fresh 0)
 
 -- profiles 0 to 3: `0,0`, `3,0`, `4,0`, `999,0`
 profiles : answer (65 ∷ 84 ∷ 43 ∷ 67 ∷ 84 ∷ 83 ∷ 80 ∷ 61 ∷ 48 ∷ 44 ∷ 48 ∷ 13 ∷ [])
@@ -190,56 +190,56 @@ unfolding calls
 fourth = refl
 
 -- what is no table gives 9 before all else: 268 and 270 places, a byte of 4; with a table a bad line gives 15
-tables : numbered (lineIs [] (replicate 268 2) 0) ∷ numbered (lineIs [] (replicate 270 2) 0) ∷ numbered (lineIs [] (set fresh 268 4) 0)
-    ∷ numbered (lineIs [] (set fresh 268 3) 0) ∷ [] ≡ 9 ∷ 9 ∷ 9 ∷ 15 ∷ []
+tables : numbered (line_is [] (replicate 268 2) 0) ∷ numbered (line_is [] (replicate 270 2) 0) ∷ numbered (line_is [] (set fresh 268 4) 0)
+    ∷ numbered (line_is [] (set fresh 268 3) 0) ∷ [] ≡ 9 ∷ 9 ∷ 9 ∷ 15 ∷ []
 unfolding calls
 tables = refl
 
-reset-lengths : resetIs 268 ∷ resetIs 269 ∷ resetIs 270 ∷ [] ≡ 9 ∷ 0 ∷ 9 ∷ []
+reset-lengths : reset_is 268 ∷ reset_is 269 ∷ reset_is 270 ∷ [] ≡ 9 ∷ 0 ∷ 9 ∷ []
 unfolding calls
 reset-lengths = refl
 
 -- any bytes are reset
-reset-any : resetOut (replicate 269 255) ≡ fresh
+reset_any : reset_out (replicate 269 255) ≡ fresh
 unfolding calls
-reset-any = refl
+reset_any = refl
 
 -- ---- what a set line changes
 
 -- `AT+CTSP=0,0,0` sets the first place
-voice : tableAfter (65 ∷ 84 ∷ 43 ∷ 67 ∷ 84 ∷ 83 ∷ 80 ∷ 61 ∷ 48 ∷ 44 ∷ 48 ∷ 44 ∷ 48 ∷ 13 ∷ []) fresh ≡ 0 ∷ replicate 268 2
+voice : table_after (65 ∷ 84 ∷ 43 ∷ 67 ∷ 84 ∷ 83 ∷ 80 ∷ 61 ∷ 48 ∷ 44 ∷ 48 ∷ 44 ∷ 48 ∷ 13 ∷ []) fresh ≡ 0 ∷ replicate 268 2
 unfolding calls
 voice = refl
 
 -- `AT+CTSP=1,3,255` sets PID 255, the last but one
-last-pid : tableAfter (65 ∷ 84 ∷ 43 ∷ 67 ∷ 84 ∷ 83 ∷ 80 ∷ 61 ∷ 49 ∷ 44 ∷ 51 ∷ 44 ∷ 50 ∷ 53 ∷ 53 ∷ 13 ∷ []) fresh ≡ replicate 267 2 ++ (1 ∷ 2 ∷ [])
+last_pid : table_after (65 ∷ 84 ∷ 43 ∷ 67 ∷ 84 ∷ 83 ∷ 80 ∷ 61 ∷ 49 ∷ 44 ∷ 51 ∷ 44 ∷ 50 ∷ 53 ∷ 53 ∷ 13 ∷ []) fresh ≡ replicate 267 2 ++ (1 ∷ 2 ∷ [])
 unfolding calls
-last-pid = refl
+last_pid = refl
 
 -- `AT+CTSP=3,1` sets the five places of MM
-all-mm : tableAfter (65 ∷ 84 ∷ 43 ∷ 67 ∷ 84 ∷ 83 ∷ 80 ∷ 61 ∷ 51 ∷ 44 ∷ 49 ∷ 13 ∷ []) fresh ≡ 2 ∷ 2 ∷ 3 ∷ 3 ∷ 3 ∷ 3 ∷ 3 ∷ replicate 262 2
+all_mm : table_after (65 ∷ 84 ∷ 43 ∷ 67 ∷ 84 ∷ 83 ∷ 80 ∷ 61 ∷ 51 ∷ 44 ∷ 49 ∷ 13 ∷ []) fresh ≡ 2 ∷ 2 ∷ 3 ∷ 3 ∷ 3 ∷ 3 ∷ 3 ∷ replicate 262 2
 unfolding calls
-all-mm = refl
+all_mm = refl
 
 -- `AT+CTSP=0,3` sets all PIDs
-all-pids : tableAfter (65 ∷ 84 ∷ 43 ∷ 67 ∷ 84 ∷ 83 ∷ 80 ∷ 61 ∷ 48 ∷ 44 ∷ 51 ∷ 13 ∷ []) fresh ≡ replicate 12 2 ++ (replicate 256 0 ++ (2 ∷ []))
+all-pids : table_after (65 ∷ 84 ∷ 43 ∷ 67 ∷ 84 ∷ 83 ∷ 80 ∷ 61 ∷ 48 ∷ 44 ∷ 51 ∷ 13 ∷ []) fresh ≡ replicate 12 2 ++ (replicate 256 0 ++ (2 ∷ []))
 unfolding calls
 all-pids = refl
 
 -- `AT+CTSP=1,4` sets the last place
-packet : tableAfter (65 ∷ 84 ∷ 43 ∷ 67 ∷ 84 ∷ 83 ∷ 80 ∷ 61 ∷ 49 ∷ 44 ∷ 52 ∷ 13 ∷ []) fresh ≡ replicate 268 2 ++ (1 ∷ [])
+packet : table_after (65 ∷ 84 ∷ 43 ∷ 67 ∷ 84 ∷ 83 ∷ 80 ∷ 61 ∷ 49 ∷ 44 ∷ 52 ∷ 13 ∷ []) fresh ≡ replicate 268 2 ++ (1 ∷ [])
 unfolding calls
 packet = refl
 
 -- `AT+CTSP=0,1,15` is refused and changes nothing
-refused : tableAfter (65 ∷ 84 ∷ 43 ∷ 67 ∷ 84 ∷ 83 ∷ 80 ∷ 61 ∷ 48 ∷ 44 ∷ 49 ∷ 44 ∷ 49 ∷ 53 ∷ 13 ∷ []) fresh ≡ fresh
+refused : table_after (65 ∷ 84 ∷ 43 ∷ 67 ∷ 84 ∷ 83 ∷ 80 ∷ 61 ∷ 48 ∷ 44 ∷ 49 ∷ 44 ∷ 49 ∷ 53 ∷ 13 ∷ []) fresh ≡ fresh
 unfolding calls
 refused = refl
 
 -- ---- the read form
 
 -- nothing off the default: no text, and no room needed
-nothing : lineIs (65 ∷ 84 ∷ 43 ∷ 67 ∷ 84 ∷ 83 ∷ 80 ∷ 63 ∷ 13 ∷ []) fresh 0 ≡ Length 0
+nothing : line_is (65 ∷ 84 ∷ 43 ∷ 67 ∷ 84 ∷ 83 ∷ 80 ∷ 63 ∷ 13 ∷ []) fresh 0 ≡ Length 0
 unfolding calls
 nothing = refl
 
@@ -248,19 +248,19 @@ abbrev pub some : List ℕ
 some = 0 ∷ replicate 266 2 ++ (1 ∷ 3 ∷ [])
 
 -- `+CTSP: 0,0,0`, `1,3,255` and `3,4`, each with CR LF; 28 bytes, the buffer's own after them
-text-some : outAfter (65 ∷ 84 ∷ 43 ∷ 67 ∷ 84 ∷ 83 ∷ 80 ∷ 63 ∷ 13 ∷ []) some (lent 29)
+text-some : out_after (65 ∷ 84 ∷ 43 ∷ 67 ∷ 84 ∷ 83 ∷ 80 ∷ 63 ∷ 13 ∷ []) some (lent 29)
     ≡ 43 ∷ 67 ∷ 84 ∷ 83 ∷ 80 ∷ 58 ∷ 32 ∷ 48 ∷ 44 ∷ 48 ∷ 44 ∷ 48 ∷ 13 ∷ 10 ∷ 49 ∷ 44 ∷ 51 ∷ 44 ∷ 50 ∷ 53 ∷ 53 ∷ 13 ∷ 10 ∷ 51 ∷ 44 ∷ 52 ∷ 13 ∷ 10 ∷ 0
     ∷ []
 unfolding calls
 text-some = refl
 
 -- 28 bytes are enough, 27 are not and stay as they were
-room-some : lineIs (65 ∷ 84 ∷ 43 ∷ 67 ∷ 84 ∷ 83 ∷ 80 ∷ 63 ∷ 13 ∷ []) some 28 ∷ lineIs (65 ∷ 84 ∷ 43 ∷ 67 ∷ 84 ∷ 83 ∷ 80 ∷ 63 ∷ 13 ∷ []) some 27 ∷ []
+room-some : line_is (65 ∷ 84 ∷ 43 ∷ 67 ∷ 84 ∷ 83 ∷ 80 ∷ 63 ∷ 13 ∷ []) some 28 ∷ line_is (65 ∷ 84 ∷ 43 ∷ 67 ∷ 84 ∷ 83 ∷ 80 ∷ 63 ∷ 13 ∷ []) some 27 ∷ []
     ≡ Length 28 ∷ Refused 8 ∷ []
 unfolding calls
 room-some = refl
 
-short-stays : outAfter (65 ∷ 84 ∷ 43 ∷ 67 ∷ 84 ∷ 83 ∷ 80 ∷ 63 ∷ 13 ∷ []) some (lent 27) ≡ lent 27
+short-stays : out_after (65 ∷ 84 ∷ 43 ∷ 67 ∷ 84 ∷ 83 ∷ 80 ∷ 63 ∷ 13 ∷ []) some (lent 27) ≡ lent 27
 unfolding calls
 short-stays = refl
 

@@ -8,33 +8,33 @@ use Rattle.terminals.specs.declared.layers.Place.{Place}
 use Rattle.terminals.specs.declared.layers.Third.TheVariants.{Given, Missing}
 
 -- CC: voice and data, 0 and 1
-abbrev pub layerCc : Layer
-layerCc = record { start = 0; count = 2; named = true; first = 0 }
+abbrev pub layer_cc : Layer
+layer_cc = record { start = 0; count = 2; named = true; first = 0 }
 
 -- MM: registration to energy saving, 10 to 14
-abbrev pub layerMm : Layer
-layerMm = record { start = 2; count = 5; named = true; first = 10 }
+abbrev pub layer_mm : Layer
+layer_mm = record { start = 2; count = 5; named = true; first = 10 }
 
 -- SDS: status, types 1 to 4, 20 to 24
-abbrev pub layerSds : Layer
-layerSds = record { start = 7; count = 5; named = true; first = 20 }
+abbrev pub layer_sds : Layer
+layer_sds = record { start = 7; count = 5; named = true; first = 20 }
 
 -- SDS-TL: the PIDs 0 to 255
-abbrev pub layerSdsTl : Layer
-layerSdsTl = record { start = 12; count = 256; named = true; first = 0 }
+abbrev pub layer_sds_tl : Layer
+layer_sds_tl = record { start = 12; count = 256; named = true; first = 0 }
 
 -- Packet Data: one place, and no third field
-abbrev pub layerPacketData : Layer
-layerPacketData = record { start = 268; count = 1; named = false; first = 0 }
+abbrev pub layer_packet_data : Layer
+layer_packet_data = record { start = 268; count = 1; named = false; first = 0 }
 
 -- no other layer has a place
-abbrev pub noLayer : Layer
-noLayer = record { start = 0; count = 0; named = false; first = 0 }
+abbrev pub no_layer : Layer
+no_layer = record { start = 0; count = 0; named = false; first = 0 }
 
 -- the codes 0 to 4
-unfoldable pub layerAt : ℕ → Layer
-layerAt l = pick (eqb l 0) layerCc
-    (pick (eqb l 1) layerMm (pick (eqb l 2) layerSds (pick (eqb l 3) layerSdsTl (pick (eqb l 4) layerPacketData noLayer))))
+unfoldable pub layer_at : ℕ → Layer
+layer_at l = pick (eqb l 0) layer_cc
+    (pick (eqb l 1) layer_mm (pick (eqb l 2) layer_sds (pick (eqb l 3) layer_sds_tl (pick (eqb l 4) layer_packet_data no_layer))))
 
 -- so many places of a layer, by the values of the third field from one on
 unfoldable pub values : ℕ → ℕ → ℕ → List Place
@@ -51,7 +51,7 @@ places_of l row = pick row.named (values l row.first row.count) (alone l)
 
 -- all places, in the order of the table
 unfoldable pub places : List Place
-places = places_of 0 layerCc ++ (places_of 1 layerMm ++ (places_of 2 layerSds ++ (places_of 3 layerSdsTl ++ places_of 4 layerPacketData)))
+places = places_of 0 layer_cc ++ (places_of 1 layer_mm ++ (places_of 2 layer_sds ++ (places_of 3 layer_sds_tl ++ places_of 4 layer_packet_data)))
 
 -- past the end of the table
 abbrev pub nowhere : Place

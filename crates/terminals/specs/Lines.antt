@@ -1,7 +1,7 @@
 -- The lines: what the bytes of each are, and what it says (document 02, request 2026-10; clause 6.14.4.2).
 use Rattle.std.specs.Prelude.{◌≡◌, Bool, true, false, ◌&&◌, List, [], ◌∷◌, ◌++◌, ℕ, ◌+◌, ◌≤◌, length, take, drop, eqb}
 use Rattle.bits.specs.Bits.{pick, guard}
-use Rattle.text.specs.Field.{isDigit, number_of, field_at}
+use Rattle.text.specs.Field.{is_digit, number_of, field_at}
 use Rattle.text.specs.declared.Field.{Field}
 use Rattle.text.specs.declared.Field.TheVariants.{Number, None}
 use Rattle.terminals.specs.declared.layers.Third.{Third}
@@ -13,21 +13,21 @@ use Rattle.terminals.specs.declared.lines.Line.TheVariants.{Read, Set, Unreadabl
 -- ---- the grammar
 
 -- `AT+CTSP=`
-abbrev pub setWord : List ℕ
-setWord = 65 ∷ 84 ∷ 43 ∷ 67 ∷ 84 ∷ 83 ∷ 80 ∷ 61 ∷ []
+abbrev pub set_word : List ℕ
+set_word = 65 ∷ 84 ∷ 43 ∷ 67 ∷ 84 ∷ 83 ∷ 80 ∷ 61 ∷ []
 
 -- `AT+CTSP?` CR
-abbrev pub readLine : List ℕ
-readLine = 65 ∷ 84 ∷ 43 ∷ 67 ∷ 84 ∷ 83 ∷ 80 ∷ 63 ∷ 13 ∷ []
+abbrev pub read_line : List ℕ
+read_line = 65 ∷ 84 ∷ 43 ∷ 67 ∷ 84 ∷ 83 ∷ 80 ∷ 63 ∷ 13 ∷ []
 
 -- bytes that are decimal digits
-unfoldable pub areDigits : List ℕ → Bool
-areDigits [] = true
-areDigits (b ∷ s) = isDigit b && areDigits s
+unfoldable pub are_digits : List ℕ → Bool
+are_digits [] = true
+are_digits (b ∷ s) = is_digit b && are_digits s
 
 -- a field: 1 to 3 decimal digits
 pub record IsField (d : List ℕ) : Type 0 where
-  pub digits : areDigits d ≡ true
+  pub digits : are_digits d ≡ true
   pub least : 1 ≤ length d
   pub most : length d ≤ 3
 
@@ -36,54 +36,54 @@ fields_of profile layer third fourth = record { profile = profile; layer = layer
 
 -- what a line says: the read form, or `AT+CTSP=`, 2 to 4 fields parted by commas, CR
 pub data Says : List ℕ → Line → Type 0 where
-  asks : Says readLine Read
+  asks : Says read_line Read
   two : (a b : List ℕ) → IsField a → IsField b
-      → Says (setWord ++ (a ++ (44 ∷ b ++ (13 ∷ [])))) (Set (fields_of (number_of a) (number_of b) Missing false))
+      → Says (set_word ++ (a ++ (44 ∷ b ++ (13 ∷ [])))) (Set (fields_of (number_of a) (number_of b) Missing false))
   three : (a b c : List ℕ) → IsField a → IsField b → IsField c
-      → Says (setWord ++ (a ++ (44 ∷ b ++ (44 ∷ c ++ (13 ∷ []))))) (Set (fields_of (number_of a) (number_of b) (Given (number_of c)) false))
+      → Says (set_word ++ (a ++ (44 ∷ b ++ (44 ∷ c ++ (13 ∷ []))))) (Set (fields_of (number_of a) (number_of b) (Given (number_of c)) false))
   four : (a b c d : List ℕ) → IsField a → IsField b → IsField c → IsField d
-      → Says (setWord ++ (a ++ (44 ∷ b ++ (44 ∷ c ++ (44 ∷ d ++ (13 ∷ [])))))) (Set (fields_of (number_of a) (number_of b) (Given (number_of c)) true))
+      → Says (set_word ++ (a ++ (44 ∷ b ++ (44 ∷ c ++ (44 ∷ d ++ (13 ∷ [])))))) (Set (fields_of (number_of a) (number_of b) (Given (number_of c)) true))
 
 -- ---- a line read, field after field; Says l exactly if l is read so (promises)
 
-unfoldable pub sameBytes : List ℕ → List ℕ → Bool
-sameBytes [] [] = true
-sameBytes [] (y ∷ t) = false
-sameBytes (x ∷ s) [] = false
-sameBytes (x ∷ s) (y ∷ t) = eqb x y && sameBytes s t
+unfoldable pub same_bytes : List ℕ → List ℕ → Bool
+same_bytes [] [] = true
+same_bytes [] (y ∷ t) = false
+same_bytes (x ∷ s) [] = false
+same_bytes (x ∷ s) (y ∷ t) = eqb x y && same_bytes s t
 
 -- a comma stands at a place
-abbrev pub startsComma : List ℕ → Bool
-startsComma [] = false
-startsComma (b ∷ s) = eqb b 44
+abbrev pub starts_comma : List ℕ → Bool
+starts_comma [] = false
+starts_comma (b ∷ s) = eqb b 44
 
 -- a CR stands at a place, and nothing after it
 unfoldable pub ends_at : List ℕ → ℕ → Bool
-ends_at s at = sameBytes (drop at s) (13 ∷ [])
+ends_at s at = same_bytes (drop at s) (13 ∷ [])
 
 -- the field after a comma
-unfoldable pub nextField : List ℕ → ℕ → Field
-nextField s at = guard (startsComma (drop at s)) None (field_at s (at + 1) 3)
+unfoldable pub next_field : List ℕ → ℕ → Field
+next_field s at = guard (starts_comma (drop at s)) None (field_at s (at + 1) 3)
 
 -- goes on with a field's number and the place after it
-abbrev pub withField : Field → (ℕ → ℕ → Line) → Line
-withField None go = Unreadable
-withField (Number n at) go = go n at
+abbrev pub with_field : Field → (ℕ → ℕ → Line) → Line
+with_field None go = Unreadable
+with_field (Number n at) go = go n at
 
-unfoldable pub lastFrom : List ℕ → Fields → ℕ → Line
-lastFrom s f at = guard (ends_at s at) Unreadable (Set f)
+unfoldable pub last_from : List ℕ → Fields → ℕ → Line
+last_from s f at = guard (ends_at s at) Unreadable (Set f)
 
-unfoldable pub thirdFrom : List ℕ → ℕ → ℕ → ℕ → Line
-thirdFrom s profile layer at =
-    withField (nextField s at) (λ third at'.
+unfoldable pub third_from : List ℕ → ℕ → ℕ → ℕ → Line
+third_from s profile layer at =
+    with_field (next_field s at) (λ third at'.
     pick (ends_at s at') (Set (fields_of profile layer (Given third) false))
-    (withField (nextField s at') (λ fourth end. lastFrom s (fields_of profile layer (Given third) true) end)))
+    (with_field (next_field s at') (λ fourth end. last_from s (fields_of profile layer (Given third) true) end)))
 
-unfoldable pub setFrom : List ℕ → Line
-setFrom s =
-    withField (field_at s 8 3) (λ profile at.
-    withField (nextField s at) (λ layer at'.
-    pick (ends_at s at') (Set (fields_of profile layer Missing false)) (thirdFrom s profile layer at')))
+unfoldable pub set_from : List ℕ → Line
+set_from s =
+    with_field (field_at s 8 3) (λ profile at.
+    with_field (next_field s at) (λ layer at'.
+    pick (ends_at s at') (Set (fields_of profile layer Missing false)) (third_from s profile layer at')))
 
 unfoldable pub line_of : List ℕ → Line
-line_of s = pick (sameBytes s readLine) Read (guard (sameBytes (take 8 s) setWord) Unreadable (setFrom s))
+line_of s = pick (same_bytes s read_line) Read (guard (same_bytes (take 8 s) set_word) Unreadable (set_from s))

@@ -1,7 +1,7 @@
 -- The table, a byte with a profile for each place; the default; and what a set line changes (document 02, request 2026-10).
 use Rattle.std.specs.Prelude.{Bool, true, false, not, ◌&&◌, ◌||◌, List, [], ◌∷◌, ℕ, ◌+◌, length, replicate, eqb, leb, ltb}
 use Rattle.bits.specs.Bits.{pick, guard}
-use Rattle.terminals.specs.Layers.{layerAt, places}
+use Rattle.terminals.specs.Layers.{layer_at, places}
 use Rattle.terminals.specs.declared.layers.Layer.{Layer}
 use Rattle.terminals.specs.declared.layers.Place.{Place}
 use Rattle.terminals.specs.declared.layers.Third.{Third}
@@ -13,13 +13,13 @@ use Rattle.terminals.specs.declared.Answer.TheVariants.{Length, Refused}
 -- ---- the table
 
 -- profiles are 0 MT only, 1 TE only, 2 both, 3 neither (clause 6.17.39)
-unfoldable pub areProfiles : List ℕ → Bool
-areProfiles [] = true
-areProfiles (v ∷ t) = leb v 3 && areProfiles t
+unfoldable pub are_profiles : List ℕ → Bool
+are_profiles [] = true
+are_profiles (v ∷ t) = leb v 3 && are_profiles t
 
 -- a profile for each of the 269 places
-unfoldable pub isTable : List ℕ → Bool
-isTable t = eqb (length t) 269 && areProfiles t
+unfoldable pub is_table : List ℕ → Bool
+is_table t = eqb (length t) 269 && are_profiles t
 
 -- the default: "both"
 abbrev pub both : ℕ
@@ -27,11 +27,11 @@ both = 2
 
 -- ---- reset: 9 for a table of another length
 
-unfoldable pub resetIs : ℕ → ℕ
-resetIs n = guard (eqb n 269) 9 0
+unfoldable pub reset_is : ℕ → ℕ
+reset_is n = guard (eqb n 269) 9 0
 
-unfoldable pub resetOut : List ℕ → List ℕ
-resetOut t = guard (eqb (length t) 269) t (replicate 269 both)
+unfoldable pub reset_out : List ℕ → List ℕ
+reset_out t = guard (eqb (length t) 269) t (replicate 269 both)
 
 -- ---- a set line
 
@@ -46,32 +46,32 @@ takes row Missing = true
 takes row (Given t) = row.named
 
 -- 16 for a value of one of the first three fields, then 17 for a third field that its layer does not take, or for any fourth
-unfoldable pub fieldsRefusal : Fields → ℕ
-fieldsRefusal f =
+unfoldable pub fields_refusal : Fields → ℕ
+fields_refusal f =
     guard (leb f.profile 3) 16
     (guard (leb f.layer 4) 16
-    (guard (is_value (layerAt f.layer) f.third) 16
-    (guard (takes (layerAt f.layer) f.third) 17
+    (guard (is_value (layer_at f.layer) f.third) 16
+    (guard (takes (layer_at f.layer) f.third) 17
     (guard (not f.fourth) 17 0))))
 
 -- without a third field a line names all places of its layer, otherwise the one of that value
-abbrev pub namesThird : Third → Third → Bool
-namesThird Missing q = true
-namesThird (Given t) (Given u) = eqb t u
-namesThird (Given t) Missing = false
+abbrev pub names_third : Third → Third → Bool
+names_third Missing q = true
+names_third (Given t) (Given u) = eqb t u
+names_third (Given t) Missing = false
 
 unfoldable pub names : Fields → Place → Bool
-names f p = eqb f.layer p.layer && namesThird f.third p.third
+names f p = eqb f.layer p.layer && names_third f.third p.third
 
 -- the profile in each place that the line names, all others as they were
-unfoldable pub setIn : Fields → List Place → List ℕ → List ℕ
-setIn f [] t = t
-setIn f (p ∷ ps) [] = []
-setIn f (p ∷ ps) (v ∷ t) = pick (names f p) f.profile v ∷ setIn f ps t
+unfoldable pub set_in : Fields → List Place → List ℕ → List ℕ
+set_in f [] t = t
+set_in f (p ∷ ps) [] = []
+set_in f (p ∷ ps) (v ∷ t) = pick (names f p) f.profile v ∷ set_in f ps t
 
 unfoldable pub settles : Fields → Answer
-settles f = guard (eqb (fieldsRefusal f) 0) (Refused (fieldsRefusal f)) (Length 0)
+settles f = guard (eqb (fields_refusal f) 0) (Refused (fields_refusal f)) (Length 0)
 
 -- a refused line changes no place
-unfoldable pub setLine : Fields → List ℕ → List ℕ
-setLine f t = guard (eqb (fieldsRefusal f) 0) t (setIn f places t)
+unfoldable pub set_line : Fields → List ℕ → List ℕ
+set_line f t = guard (eqb (fields_refusal f) 0) t (set_in f places t)

@@ -16,26 +16,26 @@ abbrev pub comma : List ℕ
 comma = 44 ∷ []
 
 -- CR LF
-abbrev pub lineEnd : List ℕ
-lineEnd = 13 ∷ 10 ∷ []
+abbrev pub line_end : List ℕ
+line_end = 13 ∷ 10 ∷ []
 
 -- a number and what stands after it
 unfoldable pub item : ℕ → List ℕ → List ℕ
 item n word = decimal n ++ word
 
 -- layer and third field
-unfoldable pub placeText : ℕ → Third → List ℕ
-placeText l Missing = item l lineEnd
-placeText l (Given t) = item l comma ++ item t lineEnd
+unfoldable pub place_text : ℕ → Third → List ℕ
+place_text l Missing = item l line_end
+place_text l (Given t) = item l comma ++ item t line_end
 
 -- the line of a place off the default: `profile,layer1[,third]` CR LF
-unfoldable pub lineText : ℕ → Place → List ℕ
-lineText v p = pick (eqb v both) [] (item v comma ++ placeText p.layer p.third)
+unfoldable pub line_text : ℕ → Place → List ℕ
+line_text v p = pick (eqb v both) [] (item v comma ++ place_text p.layer p.third)
 
-unfoldable pub linesText : List Place → List ℕ → List ℕ
-linesText [] t = []
-linesText (p ∷ ps) [] = []
-linesText (p ∷ ps) (v ∷ t) = lineText v p ++ linesText ps t
+unfoldable pub lines_text : List Place → List ℕ → List ℕ
+lines_text [] t = []
+lines_text (p ∷ ps) [] = []
+lines_text (p ∷ ps) (v ∷ t) = line_text v p ++ lines_text ps t
 
 -- the first line has the command's name before it; nothing if there is none
 abbrev pub led : List ℕ → List ℕ
@@ -43,4 +43,4 @@ led [] = []
 led (b ∷ s) = lead ++ (b ∷ s)
 
 unfoldable pub text_of : List ℕ → List ℕ
-text_of t = led (linesText places t)
+text_of t = led (lines_text places t)

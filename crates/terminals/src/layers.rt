@@ -1,6 +1,6 @@
 // The service layers 1 and their places in the table (EN 300 392-5, clauses 6.17.28, 6.17.40 and 6.17.41).
 ghost use Rattle.std.specs.Prelude.{◌≡◌, ◌<◌, get_or};
-ghost use Rattle.terminals.specs.Layers.{layerAt, places, nowhere};
+ghost use Rattle.terminals.specs.Layers.{layer_at, places, nowhere};
 ghost use Rattle.terminals.specs.Inner.{Has};
 
 // How many places all layers have.
@@ -31,7 +31,7 @@ pub struct Place {
 
 // CC, MM, SDS, SDS-TL and Packet Data; no other layer has a place.
 pub(crate) fn layer_of(layer: usize) -> Layer
-    ensures { result ≡ layerAt layer }
+    ensures { result ≡ layer_at layer }
 {
     match layer {
         0 => Layer {

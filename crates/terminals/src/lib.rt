@@ -6,8 +6,8 @@ mod profiles;
 mod reading;
 
 ghost use Rattle.std.specs.Prelude.{◌≡◌, true, length};
-ghost use Rattle.terminals.specs.Profiles.{isTable, resetIs, resetOut, settles, setLine};
-ghost use Rattle.terminals.specs.Answers.{readIs, readOut, lineIs, tableAfter, outAfter};
+ghost use Rattle.terminals.specs.Profiles.{is_table, reset_is, reset_out, settles, set_line};
+ghost use Rattle.terminals.specs.Answers.{read_is, read_out, line_is, table_after, out_after};
 
 pub use layers::Third;
 use lines::{Fields, Line};
@@ -21,8 +21,8 @@ pub enum Answer {
 
 // Sets every place to the profile "both".
 pub fn reset(table: &mut [u8]) -> u32
-    ensures value { result ≡ resetIs (length table.old) }
-    ensures table_after { table.new ≡ resetOut table.old }
+    ensures value { result ≡ reset_is (length table.old) }
+    ensures table_after { table.new ≡ reset_out table.old }
 {
     if table.len() != layers::PLACES {
         return 9;
@@ -33,9 +33,9 @@ pub fn reset(table: &mut [u8]) -> u32
 
 // A set line: stores the profile in the places that it names, or refuses its fields.
 fn set(fields: Fields, table: &mut [u8]) -> Answer
-    requires { isTable table.old ≡ true }
+    requires { is_table table.old ≡ true }
     ensures value { result ≡ settles fields }
-    ensures table_after { table.new ≡ setLine fields table.old }
+    ensures table_after { table.new ≡ set_line fields table.old }
 {
     let number = profiles::refusal(fields);
     if number != 0 {
@@ -47,9 +47,9 @@ fn set(fields: Fields, table: &mut [u8]) -> Answer
 
 // The read form: writes the text of the table, or refuses a short buffer.
 fn read(table: &[u8], out: &mut [u8]) -> Answer
-    requires { isTable table.now ≡ true }
-    ensures value { result ≡ readIs table.now (length out.old) }
-    ensures out_after { out.new ≡ readOut table.now out.old }
+    requires { is_table table.now ≡ true }
+    ensures value { result ≡ read_is table.now (length out.old) }
+    ensures out_after { out.new ≡ read_out table.now out.old }
 {
     let lines = reading::lines_length(table);
     if lines == 0 {
@@ -63,9 +63,9 @@ fn read(table: &[u8], out: &mut [u8]) -> Answer
 
 // Takes a line: a set line changes the table, the read form writes to the lent buffer.
 pub fn take(line: &[u8], table: &mut [u8], out: &mut [u8]) -> Answer
-    ensures value { result ≡ lineIs line.now table.old (length out.old) }
-    ensures table_after { table.new ≡ tableAfter line.now table.old }
-    ensures out_after { out.new ≡ outAfter line.now table.old out.old }
+    ensures value { result ≡ line_is line.now table.old (length out.old) }
+    ensures table_after { table.new ≡ table_after line.now table.old }
+    ensures out_after { out.new ≡ out_after line.now table.old out.old }
 {
     if !profiles::is_table(table) {
         return Answer::Refused(9);

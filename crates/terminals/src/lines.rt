@@ -1,6 +1,6 @@
 // The lines: `AT+CTSP=` and 2 to 4 decimal fields, or `AT+CTSP?`, and a CR.
 ghost use Rattle.std.specs.Prelude.{◌≡◌};
-ghost use Rattle.terminals.specs.Lines.{sameBytes, ends_at, nextField, thirdFrom, setFrom, line_of};
+ghost use Rattle.terminals.specs.Lines.{same_bytes, ends_at, next_field, third_from, set_from, line_of};
 
 use crate::layers::Third;
 use text::Field;
@@ -28,7 +28,7 @@ const DIGITS: usize = 3;
 const FIRST: usize = 8;
 
 fn same_bytes(s: &[u8], t: &[u8]) -> bool
-    ensures { result ≡ sameBytes s.now t.now }
+    ensures { result ≡ same_bytes s.now t.now }
 {
     if s.len() != t.len() {
         return false;
@@ -55,7 +55,7 @@ fn ends_at(line: &[u8], at: usize) -> bool
 
 // The field after a comma.
 fn next_field(line: &[u8], at: usize) -> Field
-    ensures { result ≡ nextField line.now at }
+    ensures { result ≡ next_field line.now at }
 {
     if line.len() <= at {
         return Field::None;
@@ -68,7 +68,7 @@ fn next_field(line: &[u8], at: usize) -> Field
 
 // What a line says whose first two fields end at a place, and that goes on.
 fn third_from(line: &[u8], profile: usize, layer: usize, at: usize) -> Line
-    ensures { result ≡ thirdFrom line.now profile layer at }
+    ensures { result ≡ third_from line.now profile layer at }
 {
     let Field::Number(third, third_end) = next_field(line, at) else {
         return Line::Unreadable;
@@ -97,7 +97,7 @@ fn third_from(line: &[u8], profile: usize, layer: usize, at: usize) -> Line
 
 // What a line says that begins with `AT+CTSP=`.
 fn set_from(line: &[u8]) -> Line
-    ensures { result ≡ setFrom line.now }
+    ensures { result ≡ set_from line.now }
 {
     let Field::Number(profile, profile_end) = text::field_at(line, FIRST, DIGITS) else {
         return Line::Unreadable;

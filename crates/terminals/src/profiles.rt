@@ -2,7 +2,7 @@
 ghost use Rattle.std.specs.Prelude.{◌≡◌, ◌+◌, ◌≤◌, length, replicate};
 ghost use Rattle.bits.specs.Bits.{splice};
 ghost use Rattle.terminals.specs.Layers.{places};
-ghost use Rattle.terminals.specs.Profiles.{areProfiles, isTable, is_value, takes, fieldsRefusal, setIn};
+ghost use Rattle.terminals.specs.Profiles.{are_profiles, is_table, is_value, takes, fields_refusal, set_in};
 
 use crate::layers;
 use crate::layers::{Layer, PLACES, Third};
@@ -17,7 +17,7 @@ const NEITHER: u8 = 3;
 const PACKET_DATA: usize = 4;
 
 fn are_profiles(table: &[u8]) -> bool
-    ensures { result ≡ areProfiles table.now }
+    ensures { result ≡ are_profiles table.now }
 {
     let mut i = 0;
     while i < table.len() {
@@ -30,7 +30,7 @@ fn are_profiles(table: &[u8]) -> bool
 }
 
 pub(crate) fn is_table(table: &[u8]) -> bool
-    ensures { result ≡ isTable table.now }
+    ensures { result ≡ is_table table.now }
 {
     if table.len() != PLACES {
         return false;
@@ -80,7 +80,7 @@ fn takes_third(row: Layer, third: Third) -> bool
 
 // The refusal number of a set line's fields, 0 for none.
 pub(crate) fn refusal(fields: Fields) -> u32
-    ensures { result ≡ fieldsRefusal fields }
+    ensures { result ≡ fields_refusal fields }
 {
     let third = fields.third;
     let row = layers::layer_of(fields.layer);
@@ -104,8 +104,8 @@ pub(crate) fn refusal(fields: Fields) -> u32
 
 // Stores the profile of a set line in the places that it names.
 pub(crate) fn store(fields: Fields, table: &mut [u8])
-    requires { (fieldsRefusal fields ≡ 0) × (length table.old ≡ 269) }
-    ensures { table.new ≡ setIn fields places table.old }
+    requires { (fields_refusal fields ≡ 0) × (length table.old ≡ 269) }
+    ensures { table.new ≡ set_in fields places table.old }
 {
     let third = fields.third;
     let row = layers::layer_of(fields.layer);

@@ -2,7 +2,7 @@
 ghost use Rattle.std.specs.Prelude.{◌≡◌, ◌+◌, ◌≤◌, ◌<◌, length};
 ghost use Rattle.bits.specs.Inner.{Laid};
 ghost use Rattle.terminals.specs.Layers.{places};
-ghost use Rattle.terminals.specs.Reading.{item, placeText, lineText, linesText, text_of};
+ghost use Rattle.terminals.specs.Reading.{item, place_text, line_text, lines_text, text_of};
 
 use crate::layers;
 use crate::layers::{PLACES, Place, Third};
@@ -22,8 +22,8 @@ fn write_item(out: &mut [u8], at: usize, n: usize, word: &[u8]) -> usize
 
 // Writes a layer and a third field, and ends the line.
 fn write_place(out: &mut [u8], at: usize, layer: usize, third: Third) -> usize
-    requires { at + length (placeText layer third) ≤ length out.old }
-    ensures { Laid out.old at (placeText layer third) out.new result }
+    requires { at + length (place_text layer third) ≤ length out.old }
+    ensures { Laid out.old at (place_text layer third) out.new result }
 {
     let Third::Given(value) = third else {
         return write_item(out, at, layer, b"\r\n");
@@ -34,8 +34,8 @@ fn write_place(out: &mut [u8], at: usize, layer: usize, third: Third) -> usize
 
 // Writes the line of a place, if it is off the default.
 fn write_line(out: &mut [u8], at: usize, profile: u8, place: Place) -> usize
-    requires { at + length (lineText profile place) ≤ length out.old }
-    ensures { Laid out.old at (lineText profile place) out.new result }
+    requires { at + length (line_text profile place) ≤ length out.old }
+    ensures { Laid out.old at (line_text profile place) out.new result }
 {
     if profile == BOTH {
         return at;
@@ -47,8 +47,8 @@ fn write_line(out: &mut [u8], at: usize, profile: u8, place: Place) -> usize
 
 // Writes the lines of all places.
 fn write_lines(table: &[u8], out: &mut [u8], start: usize) -> usize
-    requires { (length table.now ≡ 269) × (start + length (linesText places table.now) ≤ length out.old) }
-    ensures { Laid out.old start (linesText places table.now) out.new result }
+    requires { (length table.now ≡ 269) × (start + length (lines_text places table.now) ≤ length out.old) }
+    ensures { Laid out.old start (lines_text places table.now) out.new result }
 {
     let mut at = start;
     let mut index = 0;
@@ -62,7 +62,7 @@ fn write_lines(table: &[u8], out: &mut [u8], start: usize) -> usize
 
 // The length of a place's line.
 fn line_length(profile: u8, place: Place) -> usize
-    ensures { (result ≡ length (lineText profile place)) × (result ≤ 64) }
+    ensures { (result ≡ length (line_text profile place)) × (result ≤ 64) }
 {
     if profile == BOTH {
         return 0;
@@ -78,7 +78,7 @@ fn line_length(profile: u8, place: Place) -> usize
 // The length of all lines.
 pub(crate) fn lines_length(table: &[u8]) -> usize
     requires { length table.now ≡ 269 }
-    ensures { (result ≡ length (linesText places table.now)) × (result ≤ 17216) }
+    ensures { (result ≡ length (lines_text places table.now)) × (result ≤ 17216) }
 {
     let mut size = 0;
     let mut index = 0;
@@ -92,7 +92,7 @@ pub(crate) fn lines_length(table: &[u8]) -> usize
 
 // Writes the whole text, if there is one; there is room for it.
 pub(crate) fn write_text(table: &[u8], out: &mut [u8]) -> usize
-    requires table_len { (length table.now ≡ 269) × (0 < length (linesText places table.now)) }
+    requires table_len { (length table.now ≡ 269) × (0 < length (lines_text places table.now)) }
     requires table_in_bounds { length (text_of table.now) ≤ length out.old }
     ensures { Laid out.old 0 (text_of table.now) out.new result }
 {

@@ -15,7 +15,7 @@ use Rattle.bits.specs.Bits.{splice}
 use Rattle.bits.specs.Inner.{Laid}
 use Rattle.bits.proofs.Lists.{length_part}
 use Rattle.bits.proofs.Splices.{splice_at}
-use Rattle.text.specs.Laying.{end_at, laidAt}
+use Rattle.text.specs.Laying.{end_at, laid_at}
 
 -- a turn's store takes the copy of i bytes to the copy of one more
 pub copied-one : (src dst : List ℕ) (i : ℕ) → i < length src → i < length dst
@@ -38,9 +38,9 @@ pub lent : (out s : List ℕ) (at : ℕ) {s' : List ℕ} → s' ≡ s
 lent out s at e = record { ends = refl; same = rw (e, add-sub_cancel_left, drop-drop) }
 
 -- a part laid before one that was laid first
-pub before-it : {out out' out'' s t : List ℕ} {at m end : ℕ} → at + length (s ++ t) ≤ length out
+pub before_it : {out out' out'' s t : List ℕ} {at m end : ℕ} → at + length (s ++ t) ≤ length out
     → Laid out (at + length s) t out' end → Laid out' at s out'' m → Laid out at (s ++ t) out'' end
-before-it {out} {s = s} {t = t} {at = at} h x y =
+before_it {out} {s = s} {t = t} {at = at} h x y =
     let n : length (s ++ t) ≡ length s + length t = length-append s t in
     let mid : List ℕ = take (length s) (drop at out) in
     let rest : List ℕ = drop (at + length s + length t) out in
@@ -72,17 +72,17 @@ room-left room at size h = go (leb (at + size) room) refl
 
 module _ {out s : List ℕ} {at : ℕ} where
   -- where there is room, the bytes are laid
-  pub laid_in : {out' : List ℕ} {end : ℕ} → at + length s ≤ length out → (end ≡ end_at (length out) at s) × (out' ≡ laidAt out at s)
+  pub laid_in : {out' : List ℕ} {end : ℕ} → at + length s ≤ length out → (end ≡ end_at (length out) at s) × (out' ≡ laid_at out at s)
       → Laid out at s out' end
-  unfolding end_at laidAt
+  unfolding end_at laid_at
   laid_in h e = let t = le-leb (at + length s) (length out) h in record { ends = e.0 ∙ rw t refl; same = e.1 ∙ rw t refl }
 
   pub by-laid : {out' : List ℕ} {end : ℕ} → at + length s ≤ length out → Laid out at s out' end
-      → (end ≡ end_at (length out) at s) × (out' ≡ laidAt out at s)
-  unfolding end_at laidAt
+      → (end ≡ end_at (length out) at s) × (out' ≡ laid_at out at s)
+  unfolding end_at laid_at
   by-laid h l = let t = le-leb (at + length s) (length out) h in (rw t l.ends, rw t l.same)
 
 -- where there is none, nothing changes
-pub no_room : (out s : List ℕ) (at : ℕ) → leb (at + length s) (length out) ≡ false → (at ≡ end_at (length out) at s) × (out ≡ laidAt out at s)
-unfolding end_at laidAt
+pub no_room : (out s : List ℕ) (at : ℕ) → leb (at + length s) (length out) ≡ false → (at ≡ end_at (length out) at s) × (out ≡ laid_at out at s)
+unfolding end_at laid_at
 no_room out s at t = (rw t refl, rw t refl)

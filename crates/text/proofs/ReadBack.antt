@@ -11,7 +11,7 @@ use lib.Seq.{take-append_seam, drop-append_seam}
 use lib.Dec.{ltb}
 use Rattle.bits.specs.Bits.{pick}
 use Rattle.text.specs.Decimal.{digit, digits, decimal}
-use Rattle.text.specs.Field.{isDigit, run, numberFrom, number_of, field_of, field_at}
+use Rattle.text.specs.Field.{is_digit, run, number_from, number_of, field_of, field_at}
 use Rattle.text.specs.declared.Field.TheVariants.{Number}
 use Rattle.text.proofs.Decimals.{within}
 
@@ -22,22 +22,22 @@ record Says (n : ℕ) (s : List ℕ) : Type 0 where
   pub whole : (rest : List ℕ) → run (s ++ rest) ≡ length s + run rest
 
 one-digit : (d : ℕ) (rest : List ℕ) → d < 10 → run (digit d ∷ rest) ≡ suc (run rest)
-unfolding run isDigit
+unfolding run is_digit
 one-digit d rest h = rw (le-leb 48 (digit d) (omega arith), le-leb (digit d) 57 (omega arith))
 
 says-one : (d : ℕ) → d < 10 → Says d (digit d ∷ [])
-unfolding numberFrom
+unfolding number_from
 says-one d h = record { some = omega arith; number = omega arith; whole = λ rest. one-digit d rest h ∙ omega arith }
 
-numberFrom-more : (n : ℕ) (s : List ℕ) (b : ℕ) → numberFrom n (s ++ (b ∷ [])) ≡ numberFrom n s * 10 + (b - 48)
-unfolding numberFrom
-numberFrom-more n [] b = refl
-numberFrom-more n (x ∷ s) b = numberFrom-more (n * 10 + (x - 48)) s b
+number_from-more : (n : ℕ) (s : List ℕ) (b : ℕ) → number_from n (s ++ (b ∷ [])) ≡ number_from n s * 10 + (b - 48)
+unfolding number_from
+number_from-more n [] b = refl
+number_from-more n (x ∷ s) b = number_from-more (n * 10 + (x - 48)) s b
 
 says-more : (n : ℕ) (s : List ℕ) → Says (n / 10) s → Says n (s ++ (digit (n % 10) ∷ []))
 says-more n s p = record {
   some = omega (arith, p.some, length-append s (digit (n % 10) ∷ []));
-  number = omega (arith, numberFrom-more 0 s (digit (n % 10)), p.number);
+  number = omega (arith, number_from-more 0 s (digit (n % 10)), p.number);
   whole = λ rest.
       ap run (append_assoc s (digit (n % 10) ∷ []) rest) ∙ p.whole (digit (n % 10) ∷ rest)
       ∙ omega (arith, one-digit (n % 10) rest (omega arith), length-append s (digit (n % 10) ∷ []));

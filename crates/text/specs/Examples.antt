@@ -1,8 +1,8 @@
 -- Examples that antt computes.
 use Rattle.std.specs.Prelude.{◌≡◌, refl, [], ◌∷◌}
-use Rattle.text.specs.Laying.{end_at, laidAt}
+use Rattle.text.specs.Laying.{end_at, laid_at}
 use Rattle.text.specs.Decimal.{digits, decimal}
-use Rattle.text.specs.Field.{isDigit, run, numberFrom, field_of, field_at}
+use Rattle.text.specs.Field.{is_digit, run, number_from, field_of, field_at}
 use Rattle.text.specs.declared.Field.TheVariants.{Number, None}
 
 decimal-0 : decimal 0 ≡ 48 ∷ []
@@ -22,47 +22,47 @@ unfolding decimal digits
 decimal-most = refl
 
 -- two bytes in the middle of four; three have no room from the third place on
-laid : laidAt (1 ∷ 2 ∷ 3 ∷ 4 ∷ []) 1 (8 ∷ 9 ∷ []) ≡ 1 ∷ 8 ∷ 9 ∷ 4 ∷ []
-unfolding laidAt
+laid : laid_at (1 ∷ 2 ∷ 3 ∷ 4 ∷ []) 1 (8 ∷ 9 ∷ []) ≡ 1 ∷ 8 ∷ 9 ∷ 4 ∷ []
+unfolding laid_at
 laid = refl
 
 laid_end : end_at 4 1 (8 ∷ 9 ∷ []) ≡ 3
 unfolding end_at
 laid_end = refl
 
-no_room : laidAt (1 ∷ 2 ∷ 3 ∷ 4 ∷ []) 2 (7 ∷ 8 ∷ 9 ∷ []) ≡ 1 ∷ 2 ∷ 3 ∷ 4 ∷ []
-unfolding laidAt
+no_room : laid_at (1 ∷ 2 ∷ 3 ∷ 4 ∷ []) 2 (7 ∷ 8 ∷ 9 ∷ []) ≡ 1 ∷ 2 ∷ 3 ∷ 4 ∷ []
+unfolding laid_at
 no_room = refl
 
-no-room-end : end_at 4 2 (7 ∷ 8 ∷ 9 ∷ []) ≡ 2
+no_room-end : end_at 4 2 (7 ∷ 8 ∷ 9 ∷ []) ≡ 2
 unfolding end_at
-no-room-end = refl
+no_room-end = refl
 
 -- `002,` is 2, with its comma at place 3
 leading_zeros : field_at (48 ∷ 48 ∷ 50 ∷ 44 ∷ []) 0 3 ≡ Number 2 3
-unfolding field_at field_of run isDigit numberFrom
+unfolding field_at field_of run is_digit number_from
 leading_zeros = refl
 
 -- `,16` from its second byte on, to the end
 to_the_end : field_at (44 ∷ 49 ∷ 54 ∷ []) 1 8 ≡ Number 16 3
-unfolding field_at field_of run isDigit numberFrom
+unfolding field_at field_of run is_digit number_from
 to_the_end = refl
 
 -- no digit stands first: `,1`, and what is over
 none_first : field_at (44 ∷ 49 ∷ []) 0 3 ≡ None
-unfolding field_at field_of run isDigit
+unfolding field_at field_of run is_digit
 none_first = refl
 
 none_left : field_at (49 ∷ []) 1 3 ≡ None
-unfolding field_at field_of run isDigit
+unfolding field_at field_of run is_digit
 none_left = refl
 
 -- four digits where three are the most
 too_wide : field_at (48 ∷ 48 ∷ 48 ∷ 49 ∷ []) 0 3 ≡ None
-unfolding field_at field_of run isDigit
+unfolding field_at field_of run is_digit
 too_wide = refl
 
 -- 47 and 58 stand beside the digits
 beside : run (47 ∷ []) ≡ run (58 ∷ [])
-unfolding run isDigit
+unfolding run is_digit
 beside = refl

@@ -5,22 +5,22 @@ use Rattle.text.specs.declared.Field.{Field}
 use Rattle.text.specs.declared.Field.TheVariants.{Number, None}
 
 -- `0` to `9` are 48 to 57
-unfoldable pub isDigit : ℕ → Bool
-isDigit b = leb 48 b && leb b 57
+unfoldable pub is_digit : ℕ → Bool
+is_digit b = leb 48 b && leb b 57
 
 -- how many digits stand first
 unfoldable pub run : List ℕ → ℕ
 run [] = 0
-run (b ∷ s) = pick (isDigit b) (suc (run s)) 0
+run (b ∷ s) = pick (is_digit b) (suc (run s)) 0
 
 -- the number that digits say behind one that was read
-unfoldable pub numberFrom : ℕ → List ℕ → ℕ
-numberFrom n [] = n
-numberFrom n (b ∷ s) = numberFrom (n * 10 + (b - 48)) s
+unfoldable pub number_from : ℕ → List ℕ → ℕ
+number_from n [] = n
+number_from n (b ∷ s) = number_from (n * 10 + (b - 48)) s
 
 -- the number that digits say
 abbrev pub number_of : List ℕ → ℕ
-number_of s = numberFrom 0 s
+number_of s = number_from 0 s
 
 -- the field of these digits from a place on: 1 to `widest` of them, and no more than nine
 unfoldable pub field_of : List ℕ → ℕ → ℕ → ℕ → Field

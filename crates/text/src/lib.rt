@@ -1,9 +1,9 @@
 // Text in a lent buffer: bytes and decimal numbers laid from a place on, and the decimal field that begins at a place.
 ghost use Rattle.std.specs.Prelude.{◌≡◌, ◌∷◌, [], ◌+◌, ◌≤◌, ◌<◌, length, take, drop, leb};
 ghost use Rattle.bits.specs.Inner.{Laid};
-ghost use Rattle.text.specs.Laying.{end_at, laidAt};
+ghost use Rattle.text.specs.Laying.{end_at, laid_at};
 ghost use Rattle.text.specs.Decimal.{decimal};
-ghost use Rattle.text.specs.Field.{isDigit, run, number_of, field_at};
+ghost use Rattle.text.specs.Field.{is_digit, run, number_of, field_at};
 
 // Whether so many bytes have room from a place on.
 fn has_room(room: usize, at: usize, size: usize) -> bool
@@ -31,7 +31,7 @@ fn write_body(body: &[u8], place: &mut [u8])
 // there is no room for all of them, this and `write_number` write nothing and return the place that was given.
 pub fn append(out: &mut [u8], at: usize, bytes: &[u8]) -> usize
     ensures value { result ≡ end_at (length out.old) at bytes.now }
-    ensures out_after { out.new ≡ laidAt out.old at bytes.now }
+    ensures out_after { out.new ≡ laid_at out.old at bytes.now }
 {
     if !has_room(out.len(), at, bytes.len()) {
         return at;
@@ -82,7 +82,7 @@ fn write_digits(out: &mut [u8], at: usize, end: usize, n: usize) -> usize
 // Writes a number in decimal at a place; returns the place after it.
 pub fn write_number(out: &mut [u8], at: usize, n: usize) -> usize
     ensures value { result ≡ end_at (length out.old) at (decimal n) }
-    ensures out_after { out.new ≡ laidAt out.old at (decimal n) }
+    ensures out_after { out.new ≡ laid_at out.old at (decimal n) }
 {
     let size = digits_of(n);
     if !has_room(out.len(), at, size) {
@@ -100,7 +100,7 @@ pub enum Field {
 
 // Whether a byte is a decimal digit.
 fn is_digit(byte: u8) -> bool
-    ensures { result ≡ isDigit byte }
+    ensures { result ≡ is_digit byte }
 {
     if byte < 48 {
         return false;

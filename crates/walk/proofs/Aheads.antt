@@ -9,17 +9,17 @@ use lib.ListN.{length, take, length-take}
 use lib.Pow.{shr_mod}
 use lib.Seq.{take-take}
 use Rattle.bits.specs.Bits.{bits}
-use Rattle.bits.specs.Frame.{bitsIn}
-use Rattle.bits.specs.Element.{windowAt}
+use Rattle.bits.specs.Frame.{bits_in}
+use Rattle.bits.specs.Element.{window_at}
 use Rattle.bits.proofs.Lists.{take_min}
-use Rattle.bits.proofs.Windows.{window-lt}
+use Rattle.bits.proofs.Windows.{window_lt}
 use Rattle.codec.specs.Codec.{Codec}
 use Rattle.codec.specs.Parts.{number, element}
-use Rattle.codec.specs.Reading.{Found, got, andNext, readAt, resume}
+use Rattle.codec.specs.Reading.{Found, got, and_next, read_at, resume}
 use Rattle.codec.specs.declared.Reached.{Reached}
 use Rattle.codec.specs.declared.Reached.TheVariants.{At}
 use Rattle.codec.proofs.Onward.{element-got}
-use Rattle.codec.proofs.Windows.{number-in-window}
+use Rattle.codec.proofs.Windows.{number_in_window}
 use Rattle.walk.specs.Inner.{pass, steps, passing, Ends, Finds}
 use Rattle.walk.proofs.Passes.{pass-then, steps-last}
 use Rattle.walk.proofs.Rows.{row-passes}
@@ -38,7 +38,7 @@ finds-within {f} s t {result = result} {end} e r = record {
   after = r.after;
   there = λ n few i.
       let k : ℕ = length (bits s) in
-      let same : bitsIn (min n k) t ≡ bitsIn n s = sym (take-take (min n k) k (bits t) (omega arith)) ∙ ap (take (min n k)) e ∙ take_min n (bits s) in
+      let same : bits_in (min n k) t ≡ bits_in n s = sym (take-take (min n k) k (bits t) (omega arith)) ∙ ap (take (min n k)) e ∙ take_min n (bits s) in
       subst (λ (l : List Bool). end ≤ length l → f l ≡ got result end) same (r.there (min n k) (omega arith)) i;
 }
 
@@ -53,7 +53,7 @@ pub ends-then : {f g : List Bool → Reached → Reached} {s : List ℕ} {at m p
 ends-then {g = g} x y = record {
   after = omega (arith, x.after, y.after);
   near = omega (arith, x.near, y.near);
-  there = λ n few i. ap (g (bitsIn n _)) (x.there n few (omega (arith, y.after))) ∙ y.there n few i;
+  there = λ n few i. ap (g (bits_in n _)) (x.there n few (omega (arith, y.after))) ∙ y.there n few i;
 }
 
 -- no part, and one more
@@ -76,31 +76,31 @@ ends_more {f = f} done k {m = m} e x y =
 
 -- the number v of w bits stands at a place, if that is inside the PDU
 abbrev pub Holds : List ℕ → ℕ → ℕ → ℕ → Type 0
-Holds s at w v = (n : ℕ) → at + w ≤ length (bitsIn n s) → readAt (number w) (bitsIn n s) at ≡ got v (at + w)
+Holds s at w v = (n : ℕ) → at + w ≤ length (bits_in n s) → read_at (number w) (bits_in n s) at ≡ got v (at + w)
 
-pub in_window : (s : List ℕ) (at k w p : ℕ) → p ≡ at + k → 1 ≤ w → k + w ≤ 57 → {v : ℕ} → v ≡ windowAt s at / 2 ^ (57 - k - w) % 2 ^ w → Holds s p w v
+pub in_window : (s : List ℕ) (at k w p : ℕ) → p ≡ at + k → 1 ≤ w → k + w ≤ 57 → {v : ℕ} → v ≡ window_at s at / 2 ^ (57 - k - w) % 2 ^ w → Holds s p w v
 in_window s at k w p here some inside e n i =
-    number-in-window s n at k w p (p + w) here refl some inside i ∙ ap {B = Found ℕ} (λ (x : ℕ). got x (p + w)) (sym e)
+    number_in_window s n at k w p (p + w) here refl some inside i ∙ ap {B = Found ℕ} (λ (x : ℕ). got x (p + w)) (sym e)
 
-pub in-front : (s : List ℕ) (at w k : ℕ) → w + k ≡ 57 → 1 ≤ w → {v : ℕ} → v ≡ windowAt s at / 2 ^ k → Holds s at w v
+pub in-front : (s : List ℕ) (at w k : ℕ) → w + k ≡ 57 → 1 ≤ w → {v : ℕ} → v ≡ window_at s at / 2 ^ k → Holds s at w v
 in-front s at w k size some e =
     let rest : k ≡ 57 - 0 - w = omega arith in
     in_window s at 0 w at (omega arith) some (omega arith)
-    (e ∙ sym (shr_mod w k (subst (λ (n : ℕ). windowAt s at < 2 ^ n) (sym size) (window-lt s at)))
-    ∙ ap (λ (j : ℕ). windowAt s at / 2 ^ j % 2 ^ w) rest)
+    (e ∙ sym (shr_mod w k (subst (λ (n : ℕ). window_at s at < 2 ^ n) (sym size) (window_lt s at)))
+    ∙ ap (λ (j : ℕ). window_at s at / 2 ^ j % 2 ^ w) rest)
 
 -- an element, and what it says
 pub coded-ends : {B C : Type 0} (codec : Codec C) (w : ℕ) (refuse : ℕ → ℕ) (d : ℕ → Codec B) (g : ℕ → B → C) {s : List ℕ} {at v m end : ℕ}
-    → ((l : List Bool) (at : ℕ) → readAt codec l at ≡ andNext (readAt (element w refuse) l at)
-    (λ a p. andNext (readAt (d a) l p) (λ b q. got (g a b) q)))
+    → ((l : List Bool) (at : ℕ) → read_at codec l at ≡ and_next (read_at (element w refuse) l at)
+    (λ a p. and_next (read_at (d a) l p) (λ b q. got (g a b) q)))
     → Holds s at w v → refuse v ≡ 0 → Ends (pass (d v)) s (at + w) m end → Ends (pass codec) s at (w + m) end
 unfolding resume
 coded-ends codec w refuse d g {s} {at} {v} shape holds legal r = record {
   after = omega (arith, r.after);
   near = omega (arith, r.near);
   there = λ n few i.
-      let l : List Bool = bitsIn n s in
-      pass-then codec l (At (record { at = at })) (readAt (element w refuse) l) d g (shape l) (At (record { at = at + w })) v
+      let l : List Bool = bits_in n s in
+      pass-then codec l (At (record { at = at })) (read_at (element w refuse) l) d g (shape l) (At (record { at = at + w })) v
       (element-got w refuse l at v (at + w) (holds n (omega (arith, r.after))) legal)
       ∙ r.there n few i;
 }
@@ -111,6 +111,6 @@ pub row_ends : (refuse : ℕ → ℕ) (w k m : ℕ) → 1 ≤ w → 1 ≤ k → 
 row_ends refuse w k m some one few {s} {at} {v} {size} e holds legal = record {
   after = omega arith;
   near = omega arith;
-  there = λ n short i. row-passes refuse w some (bitsIn n s) at k m one few
-      (subst (λ (j : ℕ). readAt (number j) (bitsIn n s) at ≡ got v (at + size)) e (holds n i)) legal;
+  there = λ n short i. row-passes refuse w some (bits_in n s) at k m one few
+      (subst (λ (j : ℕ). read_at (number j) (bits_in n s) at ≡ got v (at + size)) e (holds n i)) legal;
 }

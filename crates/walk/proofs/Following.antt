@@ -8,24 +8,24 @@ use borrow.Author.Tests.{eqb-true}
 use lib.ListN.{length}
 use lib.Dec.{eqb}
 use lib.Pow.{field, shr-shr, mod-mod-pow}
-use Rattle.bits.specs.Frame.{bitsIn}
-use Rattle.bits.specs.Element.{windowAt}
+use Rattle.bits.specs.Frame.{bits_in}
+use Rattle.bits.specs.Element.{window_at}
 use Rattle.bits.proofs.Tests.{both, picked}
 use Rattle.codec.specs.Parts.{absent, element, only}
 use Rattle.codec.specs.Places.{places}
-use Rattle.codec.specs.Reading.{got, readAt, resume}
+use Rattle.codec.specs.Reading.{got, read_at, resume}
 use Rattle.codec.specs.declared.Reached.TheVariants.{At}
-use Rattle.codec.proofs.Reading.{readAt-absent}
+use Rattle.codec.proofs.Reading.{read_at-absent}
 use Rattle.codec.proofs.Onward.{element-got}
 use Rattle.codec.proofs.Seen.{seen-legal}
-use Rattle.grammar.specs.SiteSheet.{ssType, pduType, kindRefusal, serviceRefusal, countRefusal}
+use Rattle.grammar.specs.SiteSheet.{ss_type, pdu_type, kind_refusal, service_refusal, count_refusal}
 use Rattle.grammar.specs.Grammar.{services, part_of}
-use Rattle.grammar.specs.Rows.{formOf, partIn, figuresOf, usersOf, width_of, figuresIn}
+use Rattle.grammar.specs.Rows.{form_of, part_in, figures_of, users_of, width_of, figures_in}
 use Rattle.grammar.specs.declared.site.PduType.{PduType}
 use Rattle.grammar.specs.declared.record.Figures.{Figures}
-use Rattle.grammar.proofs.Rows.{no-lists, narrow, figures-seen}
-use Rattle.grammar.proofs.Steps.{services-at, noServices-at, noPart-at}
-use Rattle.walk.specs.Inner.{pass, passing, servicesIn, resultFrom, resultBehind, resultIn, Ends, Finds}
+use Rattle.grammar.proofs.Rows.{no-lists, narrow, figures_seen}
+use Rattle.grammar.proofs.Steps.{services-at, no_services-at, no_part-at}
+use Rattle.walk.specs.Inner.{pass, passing, services_in, result_from, result_behind, result_in, Ends, Finds}
 use Rattle.walk.proofs.Passes.{past, pass-places}
 use Rattle.walk.proofs.Results.{pdu-result}
 use Rattle.walk.proofs.Aheads.{ends_as, Holds, in_window, in-front, coded-ends, row_ends}
@@ -33,27 +33,27 @@ use Rattle.walk.proofs.Sights.{within}
 
 -- ---- services
 
-services-end : {s : List ℕ} {at count list : ℕ} → Holds s at 3 count → countRefusal count ≡ 0 → Holds s (at + 3) (3 * count) list
-    → passing serviceRefusal 3 7 list ≡ true → Ends (pass services) s at (3 + 3 * count) (at + 3 + 3 * count)
+services-end : {s : List ℕ} {at count list : ℕ} → Holds s at 3 count → count_refusal count ≡ 0 → Holds s (at + 3) (3 * count) list
+    → passing service_refusal 3 7 list ≡ true → Ends (pass services) s at (3 + 3 * count) (at + 3 + 3 * count)
 services-end {count = count} holds legal listed passes =
     let c = within 7 count legal in
-    coded-ends services 3 countRefusal (places (element 3 serviceRefusal) absent 7) _ services-at holds legal
-    (ends_as (λ l r. pass-places (element 3 serviceRefusal) absent 0 l (readAt-absent l) 7 count r c.1) (omega arith)
-    (row_ends serviceRefusal 3 count 7 (omega arith) c.0 c.1 refl listed passes))
+    coded-ends services 3 count_refusal (places (element 3 service_refusal) absent 7) _ services-at holds legal
+    (ends_as (λ l r. pass-places (element 3 service_refusal) absent 0 l (read_at-absent l) 7 count r c.1) (omega arith)
+    (row_ends service_refusal 3 count 7 (omega arith) c.0 c.1 refl listed passes))
 
 -- behind k bits of a window
-services-found : {s : List ℕ} {p width : ℕ} (at k : ℕ) → p ≡ at + k → k ≤ 33 → width ≡ servicesIn (windowAt s at / 2 ^ (33 - k) % 2 ^ 24)
+services-found : {s : List ℕ} {p width : ℕ} (at k : ℕ) → p ≡ at + k → k ≤ 33 → width ≡ services_in (window_at s at / 2 ^ (33 - k) % 2 ^ 24)
     → (width ≡ 0 → ⊥) → Ends (pass services) s p 24 (p + width)
-unfolding servicesIn
+unfolding services_in
 services-found {s} {p} {width} at k here few is some =
-    let w : ℕ = windowAt s at in
+    let w : ℕ = window_at s at in
     let x : ℕ = w / 2 ^ (33 - k) in
     let count : ℕ = x % 2 ^ 24 / 2 ^ 21 in
     let left : ℕ = 21 - 3 * count in
     let list : ℕ = x % 2 ^ 24 % 2 ^ 21 / 2 ^ left in
-    let found = picked (eqb (countRefusal count) 0 && passing serviceRefusal 3 7 list) (sym is) (λ h. some (sym h)) in
-    let test = both (eqb (countRefusal count) 0) (passing serviceRefusal 3 7 list) found.0 in
-    let legal : countRefusal count ≡ 0 = eqb-true (countRefusal count) 0 test.0 in
+    let found = picked (eqb (count_refusal count) 0 && passing service_refusal 3 7 list) (sym is) (λ h. some (sym h)) in
+    let test = both (eqb (count_refusal count) 0) (passing service_refusal 3 7 list) found.0 in
+    let legal : count_refusal count ≡ 0 = eqb-true (count_refusal count) 0 test.0 in
     let c = within 7 count legal in
     let first : 33 - k + 21 ≡ 57 - k - 3 = omega arith in
     let counted : count ≡ w / 2 ^ (57 - k - 3) % 2 ^ 3 =
@@ -70,30 +70,30 @@ services-found {s} {p} {width} at k here few is some =
 
 -- ---- what follows the affected users
 
-module _ (t : PduType) (s : List ℕ) (at : ℕ) {f : Figures} (is : f ≡ figuresIn t (windowAt s at)) (legal : (figuresOf t).fault f ≡ 0) where
+module _ (t : PduType) (s : List ℕ) (at : ℕ) {f : Figures} (is : f ≡ figures_in t (window_at s at)) (legal : (figures_of t).fault f ≡ 0) where
   -- figures stand in the window at their place
-  figures-there : (n : ℕ) → at + width_of t ≤ length (bitsIn n s) → readAt (figuresOf t) (bitsIn n s) at ≡ got f (at + width_of t)
-  figures-there n i = rw is (seen-legal (figures-seen s n at t i) (rw is at legal))
+  figures-there : (n : ℕ) → at + width_of t ≤ length (bits_in n s) → read_at (figures_of t) (bits_in n s) at ≡ got f (at + width_of t)
+  figures-there n i = rw is (seen-legal (figures_seen s n at t i) (rw is at legal))
 
-  pub figures-find : (formOf t).services ≡ false → Finds (λ l. resultFrom t l (At (record { at = at }))) s at f.result (at + width_of t)
-  unfolding resultFrom resume
-  figures-find e = record {
+  pub figures_find : (form_of t).services ≡ false → Finds (λ l. result_from t l (At (record { at = at }))) s at f.result (at + width_of t)
+  unfolding result_from resume
+  figures_find e = record {
     after = omega arith;
-    there = λ n few i. rw (figures-there n i, e, noServices-at, no-lists t f e, noPart-at);
+    there = λ n few i. rw (figures-there n i, e, no_services-at, no-lists t f e, no_part-at);
   }
 
   -- services follow them in the same window, and then lists
-  pub listed-find : {width part m end : ℕ} → (formOf t).services ≡ true → width ≡ servicesIn (windowAt s at / 2 ^ (33 - width_of t) % 2 ^ 24)
-      → (width ≡ 0 → ⊥) → part ≡ partIn t f → Ends (pass (part_of part)) s (at + width_of t + width) m end
-      → Finds (λ l. resultFrom t l (At (record { at = at }))) s at f.result end
-  unfolding resultFrom resume
-  listed-find {width} {part} {m} {end} e wide some lists r =
+  pub listed_find : {width part m end : ℕ} → (form_of t).services ≡ true → width ≡ services_in (window_at s at / 2 ^ (33 - width_of t) % 2 ^ 24)
+      → (width ≡ 0 → ⊥) → part ≡ part_in t f → Ends (pass (part_of part)) s (at + width_of t + width) m end
+      → Finds (λ l. result_from t l (At (record { at = at }))) s at f.result end
+  unfolding result_from resume
+  listed_find {width} {part} {m} {end} e wide some lists r =
       let listed = services-found at (width_of t) refl (omega (arith, narrow t)) wide some in
       let after = r.after in
       record {
         after = omega arith;
         there = λ n few i.
-            let l : List Bool = bitsIn n s in
+            let l : List Bool = bits_in n s in
             let here : ℕ = at + width_of t in
             rw (figures-there n (omega arith), e, ← lists)
             (past services l (At (record { at = here })) (At (record { at = here + width })) _ (sym (listed.there n few (omega arith)))
@@ -101,30 +101,30 @@ module _ (t : PduType) (s : List ℕ) (at : ℕ) {f : Figures} (is : f ≡ figur
       }
 
 -- the affected users before it
-pub behind-finds : (t : PduType) {s : List ℕ} {m p result end : ℕ} → Ends (pass (usersOf t)) s 11 m p
-    → Finds (λ l. resultFrom t l (At (record { at = p }))) s p result end → Finds (resultBehind t) s 11 result end
-unfolding resultBehind resume
-behind-finds t {s} {p = p} r f =
+pub behind_finds : (t : PduType) {s : List ℕ} {m p result end : ℕ} → Ends (pass (users_of t)) s 11 m p
+    → Finds (λ l. result_from t l (At (record { at = p }))) s p result end → Finds (result_behind t) s 11 result end
+unfolding result_behind resume
+behind_finds t {s} {p = p} r f =
     let after = r.after in
     let later = f.after in
     record {
       after = omega arith;
       there = λ n few i.
-          past (usersOf t) (bitsIn n s) (At (record { at = 11 })) (At (record { at = p })) _ (sym (r.there n few (omega arith)))
+          past (users_of t) (bits_in n s) (At (record { at = 11 })) (At (record { at = p })) _ (sym (r.there n few (omega arith)))
           ∙ f.there n few i;
     }
 
 -- SS type and PDU type before that
-pub pdu-finds : {s : List ℕ} {code result end : ℕ} → windowAt s 0 / 2 ^ 51 ≡ ssType → code ≡ windowAt s 0 / 2 ^ 46 % 2 ^ 5 → kindRefusal code ≡ 0
-    → Finds (resultBehind (pduType code)) s 11 result end → Finds resultIn s 0 result end
-unfolding resultBehind resume
-pdu-finds {s} {code} marked is legal f =
+pub pdu_finds : {s : List ℕ} {code result end : ℕ} → window_at s 0 / 2 ^ 51 ≡ ss_type → code ≡ window_at s 0 / 2 ^ 46 % 2 ^ 5 → kind_refusal code ≡ 0
+    → Finds (result_behind (pdu_type code)) s 11 result end → Finds result_in s 0 result end
+unfolding result_behind resume
+pdu_finds {s} {code} marked is legal f =
     let after = f.after in
     record {
       after = omega arith;
       there = λ n few i.
-          let l : List Bool = bitsIn n s in
-          let a = element-got 6 (only ssType) l 0 ssType 6 (in-front s 0 6 51 refl (omega arith) (sym marked) n (omega arith)) refl in
-          let b = element-got 5 kindRefusal l 6 code 11 (in_window s 0 6 5 6 refl (omega arith) (omega arith) is n (omega arith)) legal in
+          let l : List Bool = bits_in n s in
+          let a = element-got 6 (only ss_type) l 0 ss_type 6 (in-front s 0 6 51 refl (omega arith) (sym marked) n (omega arith)) refl in
+          let b = element-got 5 kind_refusal l 6 code 11 (in_window s 0 6 5 6 refl (omega arith) (omega arith) is n (omega arith)) legal in
           pdu-result l ∙ rw (a, b) (f.there n few i);
     }

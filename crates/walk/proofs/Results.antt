@@ -6,95 +6,95 @@ use Prim.Native.Nat.{ℕ}
 use Rattle.codec.specs.Codec.{Codec}
 use Rattle.codec.specs.Parts.{number, element, only}
 use Rattle.bits.proofs.Tests.{never}
-use Rattle.codec.specs.Reading.{Found, got, refused, andNext, readAt, resume}
+use Rattle.codec.specs.Reading.{Found, got, refused, and_next, read_at, resume}
 use Rattle.codec.specs.declared.Reached.{Reached}
 use Rattle.codec.specs.declared.Reached.TheVariants.{At, Refused}
-use Rattle.codec.proofs.Reading.{andNext-assoc, readAt-seq, readAt-shaped, readAt-absent, mark-at}
+use Rattle.codec.proofs.Reading.{and_next_assoc, read_at-seq, read_at-shaped, read_at-absent, mark-at}
 use Rattle.codec.proofs.Onward.{placed, resume-same}
-use Rattle.grammar.specs.SiteSheet.{ssType, pduType, kindRefusal, resultRefusal, acknowledgementRefusal, definitionRefusal, definedPart, between, reserved}
-use Rattle.grammar.specs.Grammar.{part_of, Three, none, toFigures, figures, definition, userDefinition, interrogationResult, noFigures, rest_of, toRecord, pdu}
-use Rattle.grammar.specs.Zero.{zeroFigures}
-use Rattle.grammar.specs.Rows.{usersOf, figuresOf, servicesOf, partIn}
+use Rattle.grammar.specs.SiteSheet.{ss_type, pdu_type, kind_refusal, result_refusal, acknowledgement_refusal, definition_refusal, defined_part, between, reserved}
+use Rattle.grammar.specs.Grammar.{part_of, Three, none, to_figures, figures, definition, user_definition, interrogation_result, no_figures, rest_of, to_record, pdu}
+use Rattle.grammar.specs.Zero.{zero_figures}
+use Rattle.grammar.specs.Rows.{users_of, figures_of, services_of, part_in}
 use Rattle.grammar.specs.declared.record.Figures.{Figures}
 use Rattle.grammar.specs.declared.site.PduType.{PduType}
 use Rattle.grammar.specs.declared.site.PduType.TheVariants as type
 use Rattle.grammar.proofs.Rows.{in_rows}
-use Rattle.walk.specs.Inner.{pass, steeredFrom, resultFrom, resultIn}
+use Rattle.walk.specs.Inner.{pass, steered_from, result_from, result_in}
 use Rattle.walk.proofs.Passes.{past, resume-got}
 
 -- ---- figures
 
 module _ (l : List Bool) (at : ℕ) where
-  pub definition-at : (part : ℕ) → andNext {B = ℕ × ℕ} (readAt definition l at) (λ f p. got (f.result, definedPart part f.definition) p)
-      ≡ andNext (readAt (number 1) l at) (λ delivery at₁. andNext (readAt (element 1 (acknowledgementRefusal delivery)) l at₁) (λ asked at₂.
-      andNext (readAt (element 2 definitionRefusal) l at₂) (λ d at₃. got (0, definedPart part d) at₃)))
+  pub definition-at : (part : ℕ) → and_next {B = ℕ × ℕ} (read_at definition l at) (λ f p. got (f.result, defined_part part f.definition) p)
+      ≡ and_next (read_at (number 1) l at) (λ delivery at₁. and_next (read_at (element 1 (acknowledgement_refusal delivery)) l at₁) (λ asked at₂.
+      and_next (read_at (element 2 definition_refusal) l at₂) (λ d at₃. got (0, defined_part part d) at₃)))
   unfolding figures none
-  definition-at part = simp (readAt-shaped, readAt-seq, andNext-assoc, readAt-absent)
+  definition-at part = simp (read_at-shaped, read_at-seq, and_next_assoc, read_at-absent)
 
-  pub user-definition-at : (part : ℕ) → andNext {B = ℕ × ℕ} (readAt userDefinition l at) (λ f p. got (f.result, definedPart part f.definition) p)
-      ≡ andNext (readAt (number 1) l at) (λ asked at₁. andNext (readAt (element 2 definitionRefusal) l at₁) (λ d at₂. got (0, definedPart part d) at₂))
+  pub user_definition-at : (part : ℕ) → and_next {B = ℕ × ℕ} (read_at user_definition l at) (λ f p. got (f.result, defined_part part f.definition) p)
+      ≡ and_next (read_at (number 1) l at) (λ asked at₁. and_next (read_at (element 2 definition_refusal) l at₁) (λ d at₂. got (0, defined_part part d) at₂))
   unfolding figures none
-  user-definition-at part = simp (readAt-shaped, readAt-seq, andNext-assoc, readAt-absent)
+  user_definition-at part = simp (read_at-shaped, read_at-seq, and_next_assoc, read_at-absent)
 
-  pub answer_at : andNext {B = ℕ × ℕ} (readAt interrogationResult l at) (λ f p. got (f.result, f.result) p)
-      ≡ andNext (readAt (element 3 resultRefusal) l at) (λ result at₁. andNext (readAt (number 2) l at₁) (λ status at₂. got (result, result) at₂))
+  pub answer_at : and_next {B = ℕ × ℕ} (read_at interrogation_result l at) (λ f p. got (f.result, f.result) p)
+      ≡ and_next (read_at (element 3 result_refusal) l at) (λ result at₁. and_next (read_at (number 2) l at₁) (λ status at₂. got (result, result) at₂))
   unfolding figures none
-  answer_at = simp (readAt-shaped, readAt-seq, andNext-assoc, readAt-absent)
+  answer_at = simp (read_at-shaped, read_at-seq, and_next_assoc, read_at-absent)
 
-  none-at : readAt none l at ≡ got (0, (0, 0)) at
+  none-at : read_at none l at ≡ got (0, (0, 0)) at
   unfolding none
-  none-at = rw (readAt-seq, readAt-absent, readAt-seq, readAt-absent, readAt-absent)
+  none-at = rw (read_at-seq, read_at-absent, read_at-seq, read_at-absent, read_at-absent)
 
-  outcome-at : (o : Codec Three) → readAt (figures none none o) l at
-      ≡ andNext (readAt o l at) (λ x p. got (toFigures ((0, (0, 0)), ((0, (0, 0)), x))) p)
+  outcome-at : (o : Codec Three) → read_at (figures none none o) l at
+      ≡ and_next (read_at o l at) (λ x p. got (to_figures ((0, (0, 0)), ((0, (0, 0)), x))) p)
   unfolding figures
-  outcome-at o = rw (readAt-shaped, readAt-seq, none-at, readAt-seq, none-at) (simp andNext-assoc)
+  outcome-at o = rw (read_at-shaped, read_at-seq, none-at, read_at-seq, none-at) (simp and_next_assoc)
 
-  noFigures-at : readAt noFigures l at ≡ got zeroFigures at
-  noFigures-at = rw (outcome-at none, none-at)
+  no_figures-at : read_at no_figures l at ≡ got zero_figures at
+  no_figures-at = rw (outcome-at none, none-at)
 
 -- figures of one element steer nothing
 module _ (l : List Bool) (start : Reached) where
   lone : (t : PduType) (w : ℕ) (refuse : ℕ → ℕ)
-      → ((at : ℕ) → andNext {B = ℕ × ℕ} (readAt (figuresOf t) l at) (λ f p. got (f.result, partIn t f) p)
-      ≡ andNext (readAt (element w refuse) l at) (λ v p. got (0, 0) p))
-      → steeredFrom t l start ≡ placed (pass (element w refuse) l start) (0, 0)
-  unfolding steeredFrom
+      → ((at : ℕ) → and_next {B = ℕ × ℕ} (read_at (figures_of t) l at) (λ f p. got (f.result, part_in t f) p)
+      ≡ and_next (read_at (element w refuse) l at) (λ v p. got (0, 0) p))
+      → steered_from t l start ≡ placed (pass (element w refuse) l start) (0, 0)
+  unfolding steered_from
   lone t w refuse is = resume-same start _ _ is ∙ past (element w refuse) l start _ _ refl ∙ resume-got _ (0, 0)
 
-  pub asked-steers : steeredFrom type.Interrogate l start ≡ placed (pass (element 2 (between 1 3)) l start) (0, 0)
-  unfolding figures none partIn
-  asked-steers = lone type.Interrogate 2 (between 1 3) (λ at. simp (readAt-shaped, readAt-seq, andNext-assoc, readAt-absent))
+  pub asked_steers : steered_from type.Interrogate l start ≡ placed (pass (element 2 (between 1 3)) l start) (0, 0)
+  unfolding figures none part_in
+  asked_steers = lone type.Interrogate 2 (between 1 3) (λ at. simp (read_at-shaped, read_at-seq, and_next_assoc, read_at-absent))
 
-  pub defined-steers : steeredFrom type.DefineAck l start ≡ placed (pass (element 3 (reserved 5 5)) l start) (0, 0)
-  unfolding partIn
-  defined-steers = lone type.DefineAck 3 (reserved 5 5) (λ at. rw (outcome-at l at) (simp (readAt-seq, andNext-assoc, readAt-absent)))
+  pub defined_steers : steered_from type.DefineAck l start ≡ placed (pass (element 3 (reserved 5 5)) l start) (0, 0)
+  unfolding part_in
+  defined_steers = lone type.DefineAck 3 (reserved 5 5) (λ at. rw (outcome-at l at) (simp (read_at-seq, and_next_assoc, read_at-absent)))
 
-  pub distributed-steers : steeredFrom type.DefineUserAck l start ≡ placed (pass (element 3 (reserved 2 5)) l start) (0, 0)
-  unfolding partIn
-  distributed-steers = lone type.DefineUserAck 3 (reserved 2 5) (λ at. rw (outcome-at l at) (simp (readAt-seq, andNext-assoc, readAt-absent)))
+  pub distributed_steers : steered_from type.DefineUserAck l start ≡ placed (pass (element 3 (reserved 2 5)) l start) (0, 0)
+  unfolding part_in
+  distributed_steers = lone type.DefineUserAck 3 (reserved 2 5) (λ at. rw (outcome-at l at) (simp (read_at-seq, and_next_assoc, read_at-absent)))
 
-  pub cause-steers : steeredFrom type.CallBarred l start ≡ placed (pass (element 2 (between 0 2)) l start) (0, 0)
-  unfolding partIn
-  cause-steers = lone type.CallBarred 2 (between 0 2) (λ at. rw (outcome-at l at) (simp (readAt-seq, andNext-assoc, readAt-absent)))
+  pub cause_steers : steered_from type.CallBarred l start ≡ placed (pass (element 2 (between 0 2)) l start) (0, 0)
+  unfolding part_in
+  cause_steers = lone type.CallBarred 2 (between 0 2) (λ at. rw (outcome-at l at) (simp (read_at-seq, and_next_assoc, read_at-absent)))
 
-  pub nothing-steers : steeredFrom type.NoPduType l start ≡ placed start (0, 0)
-  unfolding steeredFrom partIn
-  nothing-steers = resume-same start _ (λ at. got (0, 0) at) (λ at. rw (noFigures-at l at)) ∙ resume-got start (0, 0)
+  pub nothing_steers : steered_from type.NoPduType l start ≡ placed start (0, 0)
+  unfolding steered_from part_in
+  nothing_steers = resume-same start _ (λ at. got (0, 0) at) (λ at. rw (no_figures-at l at)) ∙ resume-got start (0, 0)
 
 -- what follows the figures goes on with what they steer
-pub steered-on : (t : PduType) (l : List Bool) (r q : Reached) (result part : ℕ) → steeredFrom t l r ≡ placed q (result, part)
-    → resultFrom t l r ≡ resume q (λ p. andNext (readAt (servicesOf t) l p) (λ v e. andNext (readAt (part_of part) l e) (λ lists end. got result end)))
-unfolding steeredFrom resultFrom resume
-steered-on t l (At d) q result part h = go (readAt (figuresOf t) l d.at) q h
+pub steered-on : (t : PduType) (l : List Bool) (r q : Reached) (result part : ℕ) → steered_from t l r ≡ placed q (result, part)
+    → result_from t l r ≡ resume q (λ p. and_next (read_at (services_of t) l p) (λ v e. and_next (read_at (part_of part) l e) (λ lists end. got result end)))
+unfolding steered_from result_from resume
+steered-on t l (At d) q result part h = go (read_at (figures_of t) l d.at) q h
   where
     after : ℕ → ℕ → ℕ → Found ℕ
-    after result part p = andNext (readAt (servicesOf t) l p) (λ v e. andNext (readAt (part_of part) l e) (λ lists end. got result end))
+    after result part p = and_next (read_at (services_of t) l p) (λ v e. and_next (read_at (part_of part) l e) (λ lists end. got result end))
 
-    go : (o : Found Figures) (q : Reached) → andNext {B = ℕ × ℕ} o (λ f p. got (f.result, partIn t f) p) ≡ placed q (result, part)
-        → andNext o (λ f p. after f.result (partIn t f) p) ≡ resume q (after result part)
+    go : (o : Found Figures) (q : Reached) → and_next {B = ℕ × ℕ} o (λ f p. got (f.result, part_in t f) p) ≡ placed q (result, part)
+        → and_next o (λ f p. after f.result (part_in t f) p) ≡ resume q (after result part)
     go (got f p) (At c) e =
-        let both : ◌≡◌ {A = ℕ × ℕ} (f.result, partIn t f) (result, part) = cc in
+        let both : ◌≡◌ {A = ℕ × ℕ} (f.result, part_in t f) (result, part) = cc in
         let z : p ≡ c.at = cc in
         ap (λ (b : ℕ × ℕ). after b.0 b.1 p) both ∙ ap (after result part) z
     go (got f p) (Refused k n) e = never cc
@@ -103,29 +103,29 @@ steered-on t l (At d) q result part h = go (readAt (figuresOf t) l d.at) q h
 steered-on t l (Refused k n) (At c) result part e = never cc
 steered-on t l (Refused k n) (Refused j m) result part e = let x : k ≡ j = cc in let y : n ≡ m = cc in rw (x, y)
 
-pub from-where : (t : PduType) (l : List Bool) (q : Reached) → resume q (λ p. resultFrom t l (At (record { at = p }))) ≡ resultFrom t l q
-unfolding resume resultFrom
-from-where t l (At c) = refl
-from-where t l (Refused k n) = refl
+pub from_where : (t : PduType) (l : List Bool) (q : Reached) → resume q (λ p. result_from t l (At (record { at = p }))) ≡ result_from t l q
+unfolding resume result_from
+from_where t l (At c) = refl
+from_where t l (Refused k n) = refl
 
 -- ---- the PDU
 
 module _ (l : List Bool) (at : ℕ) where
-  pub rest_at : (t : PduType) → readAt (rest_of t) l at ≡ andNext (readAt (usersOf t) l at) (λ affected at₁.
-      andNext (readAt (figuresOf t) l at₁) (λ figures at₂. andNext (readAt (servicesOf t) l at₂) (λ services at₃.
-      andNext (readAt (part_of (partIn t figures)) l at₃) (λ lists at₄. got (affected, (figures, (services, lists))) at₄))))
-  rest_at t = rw (in_rows t) (simp (readAt-seq, andNext-assoc))
+  pub rest_at : (t : PduType) → read_at (rest_of t) l at ≡ and_next (read_at (users_of t) l at) (λ affected at₁.
+      and_next (read_at (figures_of t) l at₁) (λ figures at₂. and_next (read_at (services_of t) l at₂) (λ services at₃.
+      and_next (read_at (part_of (part_in t figures)) l at₃) (λ lists at₄. got (affected, (figures, (services, lists))) at₄))))
+  rest_at t = rw (in_rows t) (simp (read_at-seq, and_next_assoc))
 
-  pub pdu-at : readAt pdu l at ≡ andNext (readAt (element 6 (only ssType)) l at)
-      (λ ss at₁. andNext (readAt (element 5 kindRefusal) l at₁) (λ kind at₂.
-      andNext (readAt (rest_of (pduType kind)) l at₂) (λ rest at₃. got (toRecord (kind, rest)) at₃)))
+  pub pdu_at : read_at pdu l at ≡ and_next (read_at (element 6 (only ss_type)) l at)
+      (λ ss at₁. and_next (read_at (element 5 kind_refusal) l at₁) (λ kind at₂.
+      and_next (read_at (rest_of (pdu_type kind)) l at₂) (λ rest at₃. got (to_record (kind, rest)) at₃)))
   unfolding pdu
-  pdu-at = simp (mark-at, readAt-shaped, readAt-seq, andNext-assoc)
+  pdu_at = simp (mark-at, read_at-shaped, read_at-seq, and_next_assoc)
 
 -- reading a PDU begins at its first bit
-pub pdu-result : (l : List Bool) → resultIn l
-    ≡ resume (At (record { at = 0 })) (λ at. andNext (readAt (element 6 (only ssType)) l at)
-    (λ ss at₁. andNext (readAt (element 5 kindRefusal) l at₁) (λ kind at₂.
-    andNext (readAt (usersOf (pduType kind)) l at₂) (λ affected at₃. resultFrom (pduType kind) l (At (record { at = at₃ }))))))
-unfolding resume resultIn resultFrom
-pdu-result l = simp (pdu-at, rest_at, andNext-assoc)
+pub pdu-result : (l : List Bool) → result_in l
+    ≡ resume (At (record { at = 0 })) (λ at. and_next (read_at (element 6 (only ss_type)) l at)
+    (λ ss at₁. and_next (read_at (element 5 kind_refusal) l at₁) (λ kind at₂.
+    and_next (read_at (users_of (pdu_type kind)) l at₂) (λ affected at₃. result_from (pdu_type kind) l (At (record { at = at₃ }))))))
+unfolding resume result_in result_from
+pdu-result l = simp (pdu_at, rest_at, and_next_assoc)

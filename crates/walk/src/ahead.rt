@@ -2,13 +2,13 @@
 // the PDU's own, all was inside and no element is refused; otherwise the exact walk says why.
 ghost use Rattle.std.specs.Prelude.{◌≡◌, ◌+◌, ◌*◌, ◌^◌, ◌≤◌, ◌<◌, length, take};
 ghost use Rattle.bits.specs.Bits.{bits};
-ghost use Rattle.bits.specs.Element.{windowAt};
-ghost use Rattle.grammar.specs.SiteSheet.{serviceRefusal};
+ghost use Rattle.bits.specs.Element.{window_at};
+ghost use Rattle.grammar.specs.SiteSheet.{service_refusal};
 ghost use Rattle.grammar.specs.Grammar.{identity, identities, external, externals, part_of};
-ghost use Rattle.grammar.specs.Rows.{formOf, usersIf};
+ghost use Rattle.grammar.specs.Rows.{form_of, users_if};
 ghost use Rattle.grammar.specs.declared.site.ListKind.TheVariants as of;
 ghost use Rattle.codec.specs.declared.Reached.TheVariants as reached;
-ghost use Rattle.walk.specs.Inner.{pass, steps, range, coded, passing, servicesIn, resultFrom, resultBehind, resultIn, Ends, Finds};
+ghost use Rattle.walk.specs.Inner.{pass, steps, range, coded, passing, services_in, result_from, result_behind, result_in, Ends, Finds};
 
 use bits::DigitCount;
 use grammar::figures::Form;
@@ -204,7 +204,7 @@ pub struct Ahead {
 
 // Whether seven services at once are legal: each is below 4.
 fn are_services(list: u64) -> bool
-    ensures { result ≡ passing serviceRefusal 3 7 list }
+    ensures { result ≡ passing service_refusal 3 7 list }
 {
     list & 0x124924 == 0
 }
@@ -212,7 +212,7 @@ fn are_services(list: u64) -> bool
 // The width of the number of services and the services, in 24 bits that begin with them; 0 if one of them is refused.
 fn services_in(run: u64) -> usize
     requires { run < 2 ^ 24 }
-    ensures { (result ≡ servicesIn run) × (result ≤ 24) }
+    ensures { (result ≡ services_in run) × (result ≤ 24) }
 {
     let count = (run >> 21u32) as usize;
     if site::between_refusal(1, 7, count as u32) != 0 {
@@ -236,8 +236,8 @@ fn beyond(start: usize) -> Ahead
 
 // The affected users, where the PDU has them: their range type stands in its first window. One user, as in an archive, is seen first.
 fn users_ahead(s: &[u8], first: u64, users: bool) -> usize
-    requires { first ≡ windowAt s.now 0 }
-    ensures { Ends (pass (usersIf users)) s.now 11 4101 result }
+    requires { first ≡ window_at s.now 0 }
+    ensures { Ends (pass (users_if users)) s.now 11 4101 result }
 {
     if !users {
         return 11;
@@ -254,8 +254,8 @@ fn users_ahead(s: &[u8], first: u64, users: bool) -> usize
 
 // What follows the affected users: figures and services stand in one window.
 fn rest_ahead(s: &[u8], start: usize, kind: PduType, form: Form) -> Ahead
-    requires { (start ≤ 10000) × (form ≡ formOf kind) }
-    ensures { Finds (λ l. resultFrom kind l (reached.At (record { at = start }))) s.now start result.result result.end }
+    requires { (start ≤ 10000) × (form ≡ form_of kind) }
+    ensures { Finds (λ l. result_from kind l (reached.At (record { at = start }))) s.now start result.result result.end }
 {
     let window = bits::window(s, start);
     let f = figures::figures_in(kind, window);
@@ -282,8 +282,8 @@ fn rest_ahead(s: &[u8], start: usize, kind: PduType, form: Form) -> Ahead
 
 // What follows SS type and PDU type.
 fn behind_type(s: &[u8], first: u64, kind: PduType) -> Ahead
-    requires { first ≡ windowAt s.now 0 }
-    ensures { Finds (resultBehind kind) s.now 11 result.result result.end }
+    requires { first ≡ window_at s.now 0 }
+    ensures { Finds (result_behind kind) s.now 11 result.result result.end }
 {
     let form = figures::form_of(kind);
     let users = users_ahead(s, first, form.users);
@@ -292,7 +292,7 @@ fn behind_type(s: &[u8], first: u64, kind: PduType) -> Ahead
 
 // The whole of a PDU; that it is an INTERROGATE ACK, as all in an archive are, is seen first.
 pub(crate) fn pdu_ahead(s: &[u8]) -> Ahead
-    ensures { Finds resultIn s.now 0 result.result result.end }
+    ensures { Finds result_in s.now 0 result.result result.end }
 {
     let first = bits::window(s, 0);
     if (first >> 51u32) as u32 != SS_TYPE {
@@ -311,7 +311,7 @@ pub(crate) fn pdu_ahead(s: &[u8]) -> Ahead
 // The same for fewer than eight bytes, with zeros after them. Apart, so that in the walk of more bytes no window has to look for so few.
 pub(crate) fn short_ahead(s: &[u8]) -> Ahead
     requires { length s.now < 8 }
-    ensures { Finds resultIn s.now 0 result.result result.end }
+    ensures { Finds result_in s.now 0 result.result result.end }
 {
     let held = in_eight(s);
     pdu_ahead(&held)

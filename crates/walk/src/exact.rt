@@ -1,15 +1,15 @@
 // The exact walk, part by part: each function goes on from where reading stands, and gives the place after its part,
 // or the refusal number and place of the element at fault.
 ghost use Rattle.std.specs.Prelude.{◌≡◌};
-ghost use Rattle.bits.specs.Frame.{bitsIn};
+ghost use Rattle.bits.specs.Frame.{bits_in};
 ghost use Rattle.codec.specs.Parts.{element};
-ghost use Rattle.codec.specs.Reading.{resume, readAt};
+ghost use Rattle.codec.specs.Reading.{resume, read_at};
 ghost use Rattle.codec.proofs.Onward.{placed};
-ghost use Rattle.grammar.specs.SiteSheet.{digitRefusal, serviceRefusal, between, reserved};
-ghost use Rattle.grammar.specs.Grammar.{identity, identities, external, externals, services, part_of, definition, userDefinition};
-ghost use Rattle.grammar.specs.Rows.{usersIf, servicesIf};
+ghost use Rattle.grammar.specs.SiteSheet.{digit_refusal, service_refusal, between, reserved};
+ghost use Rattle.grammar.specs.Grammar.{identity, identities, external, externals, services, part_of, definition, user_definition};
+ghost use Rattle.grammar.specs.Rows.{users_if, services_if};
 ghost use Rattle.grammar.specs.declared.site.PduType.TheVariants as type;
-ghost use Rattle.walk.specs.Inner.{pass, steps, range, definedFrom, steeredFrom, resultIn};
+ghost use Rattle.walk.specs.Inner.{pass, steps, range, defined_from, steered_from, result_in};
 
 use bits::{BitCount, Cursor};
 use codec::{NumberRead, Reached};
@@ -25,7 +25,7 @@ pub struct IdentityRead {
 }
 
 fn identity_of(s: &[u8], n: BitCount, start: Reached) -> IdentityRead
-    ensures { resume start (readAt identity (bitsIn n.0 s.now)) ≡ placed result.reached result.value }
+    ensures { resume start (read_at identity (bits_in n.0 s.now)) ≡ placed result.reached result.value }
 {
     let ssi = codec::number(s, n, start, 24);
     let after_ssi = ssi.reached;
@@ -55,7 +55,7 @@ fn identity_of(s: &[u8], n: BitCount, start: Reached) -> IdentityRead
 
 // So many single entries.
 fn pass_entries(s: &[u8], n: BitCount, start: Reached, count: u32) -> Reached
-    ensures { result ≡ steps (pass identity (bitsIn n.0 s.now)) count start }
+    ensures { result ≡ steps (pass identity (bits_in n.0 s.now)) count start }
 {
     let mut at = start;
     let mut left = count;
@@ -69,7 +69,7 @@ fn pass_entries(s: &[u8], n: BitCount, start: Reached, count: u32) -> Reached
 
 // The two ends of a range; 4, at the second, if they disagree or are reversed.
 fn pass_range(s: &[u8], n: BitCount, start: Reached) -> Reached
-    ensures { result ≡ pass range (bitsIn n.0 s.now) start }
+    ensures { result ≡ pass range (bits_in n.0 s.now) start }
 {
     let first = identity_of(s, n, start);
     let second = first.reached;
@@ -87,7 +87,7 @@ fn pass_range(s: &[u8], n: BitCount, start: Reached) -> Reached
 
 // A range type and its identities, by the kind of list.
 fn pass_identities(s: &[u8], n: BitCount, start: Reached, list: ListKind) -> Reached
-    ensures { result ≡ pass (identities list) (bitsIn n.0 s.now) start }
+    ensures { result ≡ pass (identities list) (bits_in n.0 s.now) start }
 {
     let read = codec::number(s, n, start, 4);
     let code = codec::tested(start, read, site::range_refusal(list, read.value));
@@ -100,7 +100,7 @@ fn pass_identities(s: &[u8], n: BitCount, start: Reached, list: ListKind) -> Rea
 }
 
 fn service_list(s: &[u8], n: BitCount, start: Reached, count: u32) -> Reached
-    ensures { result ≡ steps (pass (element 3 serviceRefusal) (bitsIn n.0 s.now)) count start }
+    ensures { result ≡ steps (pass (element 3 service_refusal) (bits_in n.0 s.now)) count start }
 {
     let mut at = start;
     let mut left = count;
@@ -115,7 +115,7 @@ fn service_list(s: &[u8], n: BitCount, start: Reached, count: u32) -> Reached
 
 // The number of services and the services.
 fn pass_services(s: &[u8], n: BitCount, start: Reached) -> Reached
-    ensures { result ≡ pass services (bitsIn n.0 s.now) start }
+    ensures { result ≡ pass services (bits_in n.0 s.now) start }
 {
     let read = codec::number(s, n, start, 3);
     let count = codec::tested(start, read, site::between_refusal(1, 7, read.value));
@@ -124,7 +124,7 @@ fn pass_services(s: &[u8], n: BitCount, start: Reached) -> Reached
 }
 
 fn digit_list(s: &[u8], n: BitCount, start: Reached, count: u32) -> Reached
-    ensures { result ≡ steps (pass (element 4 digitRefusal) (bitsIn n.0 s.now)) count start }
+    ensures { result ≡ steps (pass (element 4 digit_refusal) (bits_in n.0 s.now)) count start }
 {
     let mut at = start;
     let mut left = count;
@@ -139,7 +139,7 @@ fn digit_list(s: &[u8], n: BitCount, start: Reached, count: u32) -> Reached
 
 // An external number: its length and its digits.
 fn pass_external(s: &[u8], n: BitCount, start: Reached) -> Reached
-    ensures { result ≡ pass external (bitsIn n.0 s.now) start }
+    ensures { result ≡ pass external (bits_in n.0 s.now) start }
 {
     let read = codec::number(s, n, start, 5);
     let length = codec::tested(start, read, site::between_refusal(1, 24, read.value));
@@ -148,7 +148,7 @@ fn pass_external(s: &[u8], n: BitCount, start: Reached) -> Reached
 }
 
 fn number_list(s: &[u8], n: BitCount, start: Reached, count: u32) -> Reached
-    ensures { result ≡ steps (pass external (bitsIn n.0 s.now)) count start }
+    ensures { result ≡ steps (pass external (bits_in n.0 s.now)) count start }
 {
     let mut at = start;
     let mut left = count;
@@ -161,7 +161,7 @@ fn number_list(s: &[u8], n: BitCount, start: Reached, count: u32) -> Reached
 
 // A range type and its external numbers.
 fn pass_externals(s: &[u8], n: BitCount, start: Reached) -> Reached
-    ensures { result ≡ pass externals (bitsIn n.0 s.now) start }
+    ensures { result ≡ pass externals (bits_in n.0 s.now) start }
 {
     let read = codec::number(s, n, start, 4);
     let code = codec::tested(
@@ -176,7 +176,7 @@ fn pass_externals(s: &[u8], n: BitCount, start: Reached) -> Reached
 
 // The lists of a part.
 fn pass_part(s: &[u8], n: BitCount, start: Reached, part: u32) -> Reached
-    ensures { result ≡ pass (part_of part) (bitsIn n.0 s.now) start }
+    ensures { result ≡ pass (part_of part) (bits_in n.0 s.now) start }
 {
     if part == 1 {
         let groups = pass_identities(s, n, start, ListKind::Identities);
@@ -193,7 +193,7 @@ fn pass_part(s: &[u8], n: BitCount, start: Reached, part: u32) -> Reached
 
 // The affected users, where the PDU has them.
 fn pass_users(s: &[u8], n: BitCount, start: Reached, users: bool) -> Reached
-    ensures { result ≡ pass (usersIf users) (bitsIn n.0 s.now) start }
+    ensures { result ≡ pass (users_if users) (bits_in n.0 s.now) start }
 {
     if users {
         return pass_identities(s, n, start, ListKind::Users);
@@ -203,7 +203,7 @@ fn pass_users(s: &[u8], n: BitCount, start: Reached, users: bool) -> Reached
 
 // Services, where the PDU has them.
 fn pass_served(s: &[u8], n: BitCount, start: Reached, served: bool) -> Reached
-    ensures { result ≡ pass (servicesIf served) (bitsIn n.0 s.now) start }
+    ensures { result ≡ pass (services_if served) (bits_in n.0 s.now) start }
 {
     if served {
         return pass_services(s, n, start);
@@ -232,7 +232,7 @@ fn unsteered(reached: Reached) -> Steered
 
 // Delivery, acknowledgement and definition type, by which the lists of a part follow or not.
 fn pass_definition(s: &[u8], n: BitCount, start: Reached, part: u32) -> Steered
-    ensures { definedFrom definition part (bitsIn n.0 s.now) start ≡ placed result.reached (result.result, result.part) }
+    ensures { defined_from definition part (bits_in n.0 s.now) start ≡ placed result.reached (result.result, result.part) }
 {
     let delivery = codec::number(s, n, start, 1);
     let after_delivery = delivery.reached;
@@ -259,7 +259,7 @@ fn pass_definition(s: &[u8], n: BitCount, start: Reached, part: u32) -> Steered
 
 // The same without delivery.
 fn pass_user_definition(s: &[u8], n: BitCount, start: Reached, part: u32) -> Steered
-    ensures { definedFrom userDefinition part (bitsIn n.0 s.now) start ≡ placed result.reached (result.result, result.part) }
+    ensures { defined_from user_definition part (bits_in n.0 s.now) start ≡ placed result.reached (result.result, result.part) }
 {
     let acknowledgement = codec::number(s, n, start, 1);
     let after_acknowledgement = acknowledgement.reached;
@@ -279,7 +279,7 @@ fn pass_user_definition(s: &[u8], n: BitCount, start: Reached, part: u32) -> Ste
 
 // Interrogation result and delivery status.
 fn pass_answer(s: &[u8], n: BitCount, start: Reached) -> Steered
-    ensures { steeredFrom type.InterrogateAck (bitsIn n.0 s.now) start ≡ placed result.reached (result.result, result.part) }
+    ensures { steered_from type.InterrogateAck (bits_in n.0 s.now) start ≡ placed result.reached (result.result, result.part) }
 {
     let read = codec::number(s, n, start, 3);
     let result = codec::tested(start, read, site::reserved_refusal(5, 5, read.value));
@@ -295,7 +295,7 @@ fn pass_answer(s: &[u8], n: BitCount, start: Reached) -> Steered
 
 // A definition or distribution result: three bits, from low to 5 reserved.
 fn pass_outcome(s: &[u8], n: BitCount, start: Reached, low: u32) -> Reached
-    ensures { result ≡ pass (element 3 (reserved low 5)) (bitsIn n.0 s.now) start }
+    ensures { result ≡ pass (element 3 (reserved low 5)) (bits_in n.0 s.now) start }
 {
     let read = codec::number(s, n, start, 3);
     let outcome = codec::tested(start, read, site::reserved_refusal(low, 5, read.value));
@@ -304,7 +304,7 @@ fn pass_outcome(s: &[u8], n: BitCount, start: Reached, low: u32) -> Reached
 
 // An interrogation type or a rejection cause: two bits, from low to high.
 fn pass_choice(s: &[u8], n: BitCount, start: Reached, low: u32, high: u32) -> Reached
-    ensures { result ≡ pass (element 2 (between low high)) (bitsIn n.0 s.now) start }
+    ensures { result ≡ pass (element 2 (between low high)) (bits_in n.0 s.now) start }
 {
     let read = codec::number(s, n, start, 2);
     let choice = codec::tested(start, read, site::between_refusal(low, high, read.value));
@@ -313,7 +313,7 @@ fn pass_choice(s: &[u8], n: BitCount, start: Reached, low: u32, high: u32) -> Re
 
 // The figures of a PDU of a type.
 fn pass_figures(s: &[u8], n: BitCount, start: Reached, kind: PduType) -> Steered
-    ensures { steeredFrom kind (bitsIn n.0 s.now) start ≡ placed result.reached (result.result, result.part) }
+    ensures { steered_from kind (bits_in n.0 s.now) start ≡ placed result.reached (result.result, result.part) }
 {
     match kind {
         PduType::Define => pass_definition(s, n, start, 1),
@@ -331,7 +331,7 @@ fn pass_figures(s: &[u8], n: BitCount, start: Reached, kind: PduType) -> Steered
 
 // The whole of a PDU, and its interrogation result, 0 where it has none.
 pub(crate) fn pass_pdu(s: &[u8], n: BitCount) -> NumberRead
-    ensures { resultIn (bitsIn n.0 s.now) ≡ placed result.reached result.value }
+    ensures { result_in (bits_in n.0 s.now) ≡ placed result.reached result.value }
 {
     let start = Reached::At(Cursor { at: 0 });
     let ss_read = codec::number(s, n, start, 6);

@@ -2,8 +2,8 @@
 // and the bit place of the element at fault.
 ghost use Rattle.std.specs.Prelude.{◌≡◌, ◌<◌, ◌^◌, true};
 ghost use Rattle.bits.specs.Frame.{framed};
-ghost use Rattle.walk.specs.Walk.{walkIs};
-ghost use Rattle.walk.specs.Inner.{identityIn, headIn, endedIs, resultIn, Finds};
+ghost use Rattle.walk.specs.Walk.{walk_is};
+ghost use Rattle.walk.specs.Inner.{identity_in, head_in, ended_is, result_in, Finds};
 
 use ahead::Ahead;
 use bits::BitCount;
@@ -44,7 +44,7 @@ pub enum Walked {
 
 // Walks the PDU of n bits in s: refusal 1 first, then element by element, 5 last.
 pub fn walk(s: &[u8], n: BitCount) -> Walked
-    ensures { result ≡ walkIs s.now n.0 }
+    ensures { result ≡ walk_is s.now n.0 }
 {
     if !bits::is_framed(s, n) {
         return Walked::Refused(Refusal {
@@ -60,8 +60,8 @@ pub fn walk(s: &[u8], n: BitCount) -> Walked
 
 // The head, where the walk ahead ends with the PDU; or the exact walk's answer.
 fn sighted(s: &[u8], n: BitCount, seen: Ahead) -> Walked
-    requires { (framed s.now n.0 ≡ true) × Finds resultIn s.now 0 seen.result seen.end }
-    ensures { result ≡ walkIs s.now n.0 }
+    requires { (framed s.now n.0 ≡ true) × Finds result_in s.now 0 seen.result seen.end }
+    ensures { result ≡ walk_is s.now n.0 }
 {
     if seen.end == n.0 {
         return Walked::Accepted(head_in(s, seen.result));
@@ -72,7 +72,7 @@ fn sighted(s: &[u8], n: BitCount, seen: Ahead) -> Walked
 // The exact walk's answer.
 fn exactly(s: &[u8], n: BitCount) -> Walked
     requires { framed s.now n.0 ≡ true }
-    ensures { result ≡ walkIs s.now n.0 }
+    ensures { result ≡ walk_is s.now n.0 }
 {
     let read = exact::pass_pdu(s, n);
     let end = read.reached;
@@ -81,7 +81,7 @@ fn exactly(s: &[u8], n: BitCount) -> Walked
 
 // The answer where reading stands after the last element: 5 if bits are left.
 fn ended(s: &[u8], n: BitCount, end: Reached, res: u32) -> Walked
-    ensures { result ≡ endedIs s.now n.0 end res }
+    ensures { result ≡ ended_is s.now n.0 end res }
 {
     match end {
         Reached::Refused(number, at) => Walked::Refused(Refusal {
@@ -102,7 +102,7 @@ fn ended(s: &[u8], n: BitCount, end: Reached, res: u32) -> Walked
 
 // The head of an accepted PDU: all but the result stands in its first 64 bits.
 fn head_in(s: &[u8], res: u32) -> Head
-    ensures { result ≡ headIn s.now res }
+    ensures { result ≡ head_in s.now res }
 {
     let first = bits::window(s, 0);
     let kind = ((first >> 46u32) % 32) as u32;
@@ -131,7 +131,7 @@ fn head_in(s: &[u8], res: u32) -> Head
 // The identity in the window at its place.
 pub(crate) fn identity_in(window: u64) -> Identity
     requires { window < 2 ^ 57 }
-    ensures { result ≡ identityIn window }
+    ensures { result ≡ identity_in window }
 {
     let ssi = (window >> 33u32) as u32;
     if (window >> 32u32) % 2 == 1 {

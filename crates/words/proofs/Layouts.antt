@@ -7,7 +7,7 @@ use lib.ListN.{length, take, drop, length-append, length-drop}
 use lib.Seq.{take-add, drop-drop, drop_at, drop-cons, drop-append-add, get_or-append-add}
 use Rattle.bits.specs.Bits.{Bytes}
 use Rattle.bits.specs.Lists.{Each}
-use Rattle.words.specs.RecordWords.{word, in_turn, entriesFrom, narrow, narrowed}
+use Rattle.words.specs.RecordWords.{word, in_turn, entries_from, narrow, narrowed}
 
 -- ---- parts of words
 
@@ -58,20 +58,20 @@ module _ {A : Type 0} {n : ℕ} {to : A → List ℕ} {from : List ℕ → A} {F
       go (x ∷ xs) (f, fs) = omega (arith, length-append (to x) (in_turn to xs), l.long x f, go xs fs)
 
   pub entries-back : (count : ℕ) (xs : List A) (rest : List ℕ) → length xs ≡ count → Each Fits xs
-      → entriesFrom from n count (in_turn to xs ++ rest) ≡ xs
-  unfolding in_turn entriesFrom
-  entries-back count xs rest e f = ap (λ (k : ℕ). entriesFrom from n k (in_turn to xs ++ rest)) (sym e) ∙ go xs f
+      → entries_from from n count (in_turn to xs ++ rest) ≡ xs
+  unfolding in_turn entries_from
+  entries-back count xs rest e f = ap (λ (k : ℕ). entries_from from n k (in_turn to xs ++ rest)) (sym e) ∙ go xs f
     where
-      go : (xs : List A) → Each Fits xs → entriesFrom from n (length xs) (in_turn to xs ++ rest) ≡ xs
+      go : (xs : List A) → Each Fits xs → entries_from from n (length xs) (in_turn to xs ++ rest) ≡ xs
       go [] f = refl
       go (x ∷ xs) (f, fs) =
           let e = append_assoc (to x) (in_turn to xs) rest in
           let d = ap (drop n) e ∙ drop_at (to x) (in_turn to xs ++ rest) n (l.long x f) in
-          λ i. (ap from e ∙ l.back x (in_turn to xs ++ rest) f) i ∷ (ap (entriesFrom from n (length xs)) d ∙ go xs fs) i
+          λ i. (ap from e ∙ l.back x (in_turn to xs ++ rest) f) i ∷ (ap (entries_from from n (length xs)) d ∙ go xs fs) i
 
   pub entries-forth : ((s t : List ℕ) → Narrow (s ++ t) → Narrow s × Narrow t)
-      → (count : ℕ) (w : List ℕ) → n * count ≤ length w → Narrow (take (n * count) w) → in_turn to (entriesFrom from n count w) ≡ take (n * count) w
-  unfolding in_turn entriesFrom
+      → (count : ℕ) (w : List ℕ) → n * count ≤ length w → Narrow (take (n * count) w) → in_turn to (entries_from from n count w) ≡ take (n * count) w
+  unfolding in_turn entries_from
   entries-forth parts zero w h b = let z : n * 0 ≡ 0 = omega arith in sym (ap (λ (k : ℕ). take k w) z)
   entries-forth parts (suc c) w h b =
       let z : n * suc c ≡ n + n * c = omega arith in

@@ -11,10 +11,10 @@ use Rattle.bits.specs.Lists.{Each}
 use Rattle.codec.specs.Codec.{Codec, Legal}
 use Rattle.codec.specs.Parts.{absent, seq}
 use Rattle.codec.proofs.Legality.{legal-seq, legal-shaped, legal-tested, legal-mark, legal-element, legal-absent, legal-places, legal-length}
-use Rattle.grammar.specs.SiteSheet.{entriesOf, pduType}
-use Rattle.grammar.specs.Grammar.{identities, noIdentities, external, noExternal, externals, noExternals, services, noServices, identityPart}
-use Rattle.grammar.specs.Grammar.{numberPart, no_part, Rest, rest_of, fromLists, fromRecord, pdu}
-use Rattle.grammar.specs.Rows.{formOf, partIn, rowed}
+use Rattle.grammar.specs.SiteSheet.{entries_of, pdu_type}
+use Rattle.grammar.specs.Grammar.{identities, no_identities, external, no_external, externals, no_externals, services, no_services, identity_part}
+use Rattle.grammar.specs.Grammar.{number_part, no_part, Rest, rest_of, from_lists, from_record, pdu}
+use Rattle.grammar.specs.Rows.{form_of, part_in, rowed}
 use Rattle.grammar.specs.declared.site.ListKind.{ListKind}
 use Rattle.grammar.specs.declared.site.ListKind.TheVariants.{Users}
 use Rattle.grammar.specs.declared.site.PduType.{PduType}
@@ -54,9 +54,9 @@ external-small e h =
     let d = legal-places Small (λ d k. let s : d < 16 = legal-element _ _ _ k in omega arith) small-absent 24 e.length.0 e.digits p.1 in
     record { digits = d.0; small = (omega arith, d.1) }
 
-no-external-small : (e : Number) → Legal noExternal e → SmallNumber e
-unfolding noExternal
-no-external-small e h =
+no_external-small : (e : Number) → Legal no_external e → SmallNumber e
+unfolding no_external
+no_external-small e h =
     let p = legal-seq _ _ _ (legal-shaped _ _ _ _ _ _ h) in
     let d = legal-places Small small-absent small-absent 24 0 e.digits p.1 in
     record { digits = d.0; small = (small-absent _ p.0, d.1) }
@@ -66,12 +66,12 @@ SmallNumbers l = (length l.entries ≡ 8) × Each SmallNumber l.entries
 
 externals-small : (l : Numbers) → Legal externals l → SmallNumbers l
 unfolding externals
-externals-small l h = legal-places SmallNumber external-small no-external-small 8 (entriesOf l.code) l.entries
+externals-small l h = legal-places SmallNumber external-small no_external-small 8 (entries_of l.code) l.entries
     (legal-seq _ _ _ (legal-shaped _ _ _ _ _ _ h)).1
 
-no-externals-small : (l : Numbers) → Legal noExternals l → SmallNumbers l
-unfolding noExternals
-no-externals-small l h = legal-places SmallNumber no-external-small no-external-small 8 0 l.entries (legal-seq _ _ _ (legal-shaped _ _ _ _ _ _ h)).1
+no_externals-small : (l : Numbers) → Legal no_externals l → SmallNumbers l
+unfolding no_externals
+no_externals-small l h = legal-places SmallNumber no_external-small no_external-small 8 0 l.entries (legal-seq _ _ _ (legal-shaped _ _ _ _ _ _ h)).1
 
 numbers-sized : (l : Numbers) → SmallNumbers l → SizedNumbers l
 numbers-sized l h = (h.0, go l.entries h.1)
@@ -83,19 +83,19 @@ numbers-sized l h = (h.0, go l.entries h.1)
 identities-sized : (k : ListKind) (l : Identities) → Legal (identities k) l → SizedIdentities l
 unfolding identities
 identities-sized k l h =
-    legal-length _ _ 8 (entriesOf l.code) l.entries (legal-tested _ _ _ _ (legal-seq _ _ _ (legal-shaped _ _ _ _ _ _ h)).1)
+    legal-length _ _ 8 (entries_of l.code) l.entries (legal-tested _ _ _ _ (legal-seq _ _ _ (legal-shaped _ _ _ _ _ _ h)).1)
 
-no-identities-sized : (l : Identities) → Legal noIdentities l → SizedIdentities l
-unfolding noIdentities
-no-identities-sized l h = legal-length _ _ 8 0 l.entries (legal-seq _ _ _ (legal-shaped _ _ _ _ _ _ h)).1
+no_identities-sized : (l : Identities) → Legal no_identities l → SizedIdentities l
+unfolding no_identities
+no_identities-sized l h = legal-length _ _ 8 0 l.entries (legal-seq _ _ _ (legal-shaped _ _ _ _ _ _ h)).1
 
 services-sized : (s : Services) → Legal services s → length s.list ≡ 7
 unfolding services
 services-sized s h = legal-length _ _ 7 s.count s.list (legal-seq _ _ _ (legal-shaped _ _ _ _ _ _ h)).1
 
-no-services-sized : (s : Services) → Legal noServices s → length s.list ≡ 7
-unfolding noServices
-no-services-sized s h = legal-length _ _ 7 0 s.list (legal-seq _ _ _ (legal-shaped _ _ _ _ _ _ h)).1
+no_services-sized : (s : Services) → Legal no_services s → length s.list ≡ 7
+unfolding no_services
+no_services-sized s h = legal-length _ _ 7 0 s.list (legal-seq _ _ _ (legal-shaped _ _ _ _ _ _ h)).1
 
 -- ---- the five lists, by the part
 
@@ -108,7 +108,7 @@ record SmallLists (l : Lists) : Type 0 where
 lists-small : {g r x : Codec Identities} {n y : Codec Numbers} → ((l : Identities) → Legal g l → SizedIdentities l)
     → ((l : Identities) → Legal r l → SizedIdentities l) → ((l : Identities) → Legal x l → SizedIdentities l)
     → ((l : Numbers) → Legal n l → SmallNumbers l) → ((l : Numbers) → Legal y l → SmallNumbers l)
-    → (l : Lists) → Legal (seq g (λ a. seq r (λ b. seq x (λ c. seq n (λ d. y))))) (fromLists l) → SmallLists l
+    → (l : Lists) → Legal (seq g (λ a. seq r (λ b. seq x (λ c. seq n (λ d. y))))) (from_lists l) → SmallLists l
 lists-small groups restricted exceptions numbers excepted l h =
     let g = legal-seq _ _ _ h in
     let r = legal-seq _ _ _ g.1 in
@@ -128,17 +128,17 @@ lists-small groups restricted exceptions numbers excepted l h =
       excepted = t;
     }
 
-no-part-small : (l : Lists) → Legal no_part l → SmallLists l
+no_part-small : (l : Lists) → Legal no_part l → SmallLists l
 unfolding no_part
-no-part-small l h = lists-small no-identities-sized no-identities-sized no-identities-sized no-externals-small no-externals-small l (legal-shaped _ _ _ _ _ _ h)
+no_part-small l h = lists-small no_identities-sized no_identities-sized no_identities-sized no_externals-small no_externals-small l (legal-shaped _ _ _ _ _ _ h)
 
-part_small : (one two : Bool) (l : Lists) → Legal (pick one identityPart (pick two numberPart no_part)) l → SmallLists l
-unfolding identityPart numberPart
+part_small : (one two : Bool) (l : Lists) → Legal (pick one identity_part (pick two number_part no_part)) l → SmallLists l
+unfolding identity_part number_part
 part_small true two l h =
-    lists-small (identities-sized _) (identities-sized _) (identities-sized _) no-externals-small no-externals-small l (legal-shaped _ _ _ _ _ _ h)
+    lists-small (identities-sized _) (identities-sized _) (identities-sized _) no_externals-small no_externals-small l (legal-shaped _ _ _ _ _ _ h)
 part_small false true l h =
-    lists-small (identities-sized _) no-identities-sized no-identities-sized externals-small externals-small l (legal-shaped _ _ _ _ _ _ h)
-part_small false false l h = no-part-small l h
+    lists-small (identities-sized _) no_identities-sized no_identities-sized externals-small externals-small l (legal-shaped _ _ _ _ _ _ h)
+part_small false false l h = no_part-small l h
 
 -- ---- the record
 
@@ -147,33 +147,33 @@ record SmallRest (q : Rest) : Type 0 where
   pub services : length q.1.1.0.list ≡ 7
   pub lists : SmallLists q.1.1.1
 
-users-sized : (carried : Bool) (l : Identities) → Legal (pick carried (identities Users) noIdentities) l → SizedIdentities l
+users-sized : (carried : Bool) (l : Identities) → Legal (pick carried (identities Users) no_identities) l → SizedIdentities l
 users-sized true l h = identities-sized Users l h
-users-sized false l h = no-identities-sized l h
+users-sized false l h = no_identities-sized l h
 
-all-services-sized : (carried : Bool) (s : Services) → Legal (pick carried services noServices) s → length s.list ≡ 7
+all-services-sized : (carried : Bool) (s : Services) → Legal (pick carried services no_services) s → length s.list ≡ 7
 all-services-sized true s h = services-sized s h
-all-services-sized false s h = no-services-sized s h
+all-services-sized false s h = no_services-sized s h
 
 -- by its row
 row_small : (t : PduType) (q : Rest) → Legal (rowed t) q → SmallRest q
 row_small t q h =
     let u = legal-seq _ _ _ h in
     let s = legal-seq _ _ _ (legal-seq _ _ _ u.1).1 in
-    let part = partIn t q.1.0 in
+    let part = part_in t q.1.0 in
     record {
-      affected = users-sized (formOf t).users q.0 u.0;
-      services = all-services-sized (formOf t).services q.1.1.0 s.0;
+      affected = users-sized (form_of t).users q.0 u.0;
+      services = all-services-sized (form_of t).services q.1.1.0 s.0;
       lists = part_small (eqb part 1) (eqb part 2) q.1.1.1 s.1;
     }
 
 module _ (r : Record) (h : Legal pdu r) where
-  rest : SmallRest (fromRecord r).1
+  rest : SmallRest (from_record r).1
   unfolding pdu
   rest =
-      let t = pduType r.kind in
-      let l : Legal (rest_of t) (fromRecord r).1 = (legal-seq _ _ _ (legal-shaped _ _ _ _ _ _ (legal-mark _ _ _ _ h))).1 in
-      row_small t (fromRecord r).1 (subst (λ (c : Codec Rest). Legal c (fromRecord r).1) (in_rows t) l)
+      let t = pdu_type r.kind in
+      let l : Legal (rest_of t) (from_record r).1 = (legal-seq _ _ _ (legal-shaped _ _ _ _ _ _ (legal-mark _ _ _ _ h))).1 in
+      row_small t (from_record r).1 (subst (λ (c : Codec Rest). Legal c (from_record r).1) (in_rows t) l)
 
   pub record-sized : SizedRecord r
   record-sized = record { affected = rest.affected; services = rest.services; lists = rest.lists.sized }

@@ -28,16 +28,16 @@ put_whole {out} {s} l p =
 
 -- ---- in turn
 
-inTurn-join : {A : Type 0} (f : A → List ℕ) (xs : List A) (x : A) → in_turn f (xs ++ (x ∷ [])) ≡ in_turn f xs ++ f x
+in_turn-join : {A : Type 0} (f : A → List ℕ) (xs : List A) (x : A) → in_turn f (xs ++ (x ∷ [])) ≡ in_turn f xs ++ f x
 unfolding in_turn
-inTurn-join f [] x = append-nil (f x)
-inTurn-join f (y ∷ ys) x = ap (λ (s : List ℕ). f y ++ s) (inTurn-join f ys x) ∙ sym (append_assoc (f y) (in_turn f ys) (f x))
+in_turn-join f [] x = append-nil (f x)
+in_turn-join f (y ∷ ys) x = ap (λ (s : List ℕ). f y ++ s) (in_turn-join f ys x) ∙ sym (append_assoc (f y) (in_turn f ys) (f x))
 
 -- words put as they are
-pub inTurn-words : (s : List ℕ) → in_turn (λ (x : ℕ). x ∷ []) s ≡ s
+pub in_turn_words : (s : List ℕ) → in_turn (λ (x : ℕ). x ∷ []) s ≡ s
 unfolding in_turn
-inTurn-words [] = refl
-inTurn-words (x ∷ s) = ap (λ (t : List ℕ). x ∷ t) (inTurn-words s)
+in_turn_words [] = refl
+in_turn_words (x ∷ s) = ap (λ (t : List ℕ). x ∷ t) (in_turn_words s)
 
 -- i of so many entries, of n words each
 pub record Turned {A : Type 0} (f : A → List ℕ) (xs : List A) (n count : ℕ) (out : List ℕ) (at i : ℕ) (out' : List ℕ) (next : ℕ) : Type 0 where
@@ -56,7 +56,7 @@ module _ {A : Type 0} {f : A → List ℕ} {xs : List A} {n count : ℕ} {out : 
   turned_more {i} d all h k t p l =
       let one_more : take i xs ++ (get_or xs i d ∷ []) ≡ take (i + 1) xs = rw add-one (sym (take-suc xs i d (omega arith))) in
       let e : in_turn f (take i xs) ++ f (get_or xs i d) ≡ in_turn f (take (i + 1) xs) =
-      sym (inTurn-join f (take i xs) (get_or xs i d)) ∙ ap (in_turn f) one_more
+      sym (in_turn-join f (take i xs) (get_or xs i d)) ∙ ap (in_turn f) one_more
       in
       let z : n * i + n ≡ n * (i + 1) = omega arith in
       let q = then h t.put p in

@@ -11,74 +11,74 @@ use lib.Dec.{eqb}
 use Rattle.bits.specs.Bits.{Bytes}
 use Rattle.bits.proofs.Tests.{both}
 use Rattle.rules.specs.declared.request.Request.{Request}
-use Rattle.words.specs.Places.{digitPlaces, serviceAt, kind_at, identityAt, length_at, digitsAt, givenAt, groupAt, requestWidth}
+use Rattle.words.specs.Places.{digit_places, service_at, kind_at, identity_at, length_at, digits_at, given_at, group_at, request_width}
 use Rattle.words.specs.RecordWords.{word, narrowed}
-use Rattle.words.specs.RequestWords.{areDestination, areGroup, areRequest, destinationFrom, groupFrom, requestFrom, destinationWords}
-use Rattle.words.specs.RequestWords.{groupWords, requestWords}
+use Rattle.words.specs.RequestWords.{are_destination, are_group, are_request, destination_from, group_from, request_from, destination_words}
+use Rattle.words.specs.RequestWords.{group_words, request_words}
 use Rattle.words.specs.Sized.{SizedRequest}
 use Rattle.words.proofs.Layouts.{drop-after, word_after, spelt-word, spelt-then, narrowed_bytes}
 use Rattle.words.proofs.RequestParts.{destination-long, destination-back, are-destination, destination-forth, group-long, group-back}
 use Rattle.words.proofs.RequestParts.{are-group, group-forth}
 
 module _ (q : Request) (f : SizedRequest q) where
-  pub request-long : length (requestWords q) ≡ requestWidth
-  unfolding requestWords
+  pub request-long : length (request_words q) ≡ request_width
+  unfolding request_words
   request-long = simp length-append (omega (arith, destination-long q.destination, f.digits, group-long q.group))
 
-  last-words : (k : ℕ) → word (requestWords q) (givenAt + k) ≡ word (groupWords q.group) k
-  unfolding requestWords
-  last-words k =
-      let front = q.user.network ∷ q.user.ssi ∷ q.service ∷ destinationWords q.destination in
-      let g = groupWords q.group in
-      let z : givenAt + k ≡ digitsAt + (digitPlaces + k) = omega arith in
-      ap (word (requestWords q)) z
-      ∙ word_after front (q.digits ++ g) digitsAt (digitPlaces + k) (ap (λ (n : ℕ). suc (suc (suc n))) (destination-long q.destination))
-      ∙ word_after q.digits g digitPlaces k f.digits
+  last_words : (k : ℕ) → word (request_words q) (given_at + k) ≡ word (group_words q.group) k
+  unfolding request_words
+  last_words k =
+      let front = q.user.network ∷ q.user.ssi ∷ q.service ∷ destination_words q.destination in
+      let g = group_words q.group in
+      let z : given_at + k ≡ digits_at + (digit_places + k) = omega arith in
+      ap (word (request_words q)) z
+      ∙ word_after front (q.digits ++ g) digits_at (digit_places + k) (ap (λ (n : ℕ). suc (suc (suc n))) (destination-long q.destination))
+      ∙ word_after q.digits g digit_places k f.digits
 
-  pub request-back : requestFrom (requestWords q) ≡ q
-  unfolding requestWords requestFrom
+  pub request-back : request_from (request_words q) ≡ q
+  unfolding request_words request_from
   request-back =
-      let d = destinationWords q.destination in
-      let g = groupWords q.group in
+      let d = destination_words q.destination in
+      let g = group_words q.group in
       let digits =
-      ap (λ (s : List ℕ). narrowed (take digitPlaces s)) (drop-after d (q.digits ++ g) (digitsAt - kind_at) 0 (destination-long q.destination))
-      ∙ ap narrowed (take_at q.digits g digitPlaces f.digits) ∙ narrowed_bytes q.digits f.bytes
+      ap (λ (s : List ℕ). narrowed (take digit_places s)) (drop-after d (q.digits ++ g) (digits_at - kind_at) 0 (destination-long q.destination))
+      ∙ ap narrowed (take_at q.digits g digit_places f.digits) ∙ narrowed_bytes q.digits f.bytes
       in
       λ i. record {
         user = q.user;
         service = q.service;
         destination = destination-back q.user.network q.user.ssi q.service (q.digits ++ g) q.destination f.used i;
         digits = digits i;
-        group = group-back (requestWords q) q.group last-words i;
+        group = group-back (request_words q) q.group last_words i;
       }
 
-  pub request-are : areRequest (requestWords q) ≡ true
-  unfolding requestWords areRequest
-  request-are =
-      let d = are-destination q.user.network q.user.ssi q.service (q.digits ++ groupWords q.group) q.destination in
-      λ i. d i && are-group (requestWords q) q.group last-words i
+  pub request_are : are_request (request_words q) ≡ true
+  unfolding request_words are_request
+  request_are =
+      let d = are-destination q.user.network q.user.ssi q.service (q.digits ++ group_words q.group) q.destination in
+      λ i. d i && are-group (request_words q) q.group last_words i
 
 -- a number's length and its digits have to be bytes
-pub request-forth : (w : List ℕ) → length w ≡ requestWidth → areRequest w ≡ true → word w length_at < 256 → Bytes (take digitPlaces (drop digitsAt w))
-    → requestWords (requestFrom w) ≡ w
-unfolding requestWords requestFrom areRequest areDestination areGroup destinationFrom groupFrom
+pub request-forth : (w : List ℕ) → length w ≡ request_width → are_request w ≡ true → word w length_at < 256 → Bytes (take digit_places (drop digits_at w))
+    → request_words (request_from w) ≡ w
+unfolding request_words request_from are_request are_destination are_group destination_from group_from
 request-forth w h are u b =
-    let a = both (areDestination w) (areGroup w) are in
-    let one : (at : ℕ) → at < requestWidth → word w at ∷ [] ≡ take 1 (drop at w) = λ at k. spelt-word w at (omega arith) in
+    let a = both (are_destination w) (are_group w) are in
+    let one : (at : ℕ) → at < request_width → word w at ∷ [] ≡ take 1 (drop at w) = λ at k. spelt-word w at (omega arith) in
     let destination =
-    destination-forth (word w kind_at) (word w identityAt) (word w (identityAt + 1)) (word w length_at) u (eqb (word w kind_at) 1) refl a.0
+    destination-forth (word w kind_at) (word w identity_at) (word w (identity_at + 1)) (word w length_at) u (eqb (word w kind_at) 1) refl a.0
     ∙ spelt-then w kind_at 1 3 (one kind_at (omega arith))
-    (spelt-then w identityAt 1 2 (one identityAt (omega arith))
-    (spelt-then w (identityAt + 1) 1 1 (one (identityAt + 1) (omega arith)) (one length_at (omega arith))))
+    (spelt-then w identity_at 1 2 (one identity_at (omega arith))
+    (spelt-then w (identity_at + 1) 1 1 (one (identity_at + 1) (omega arith)) (one length_at (omega arith))))
     in
     let group =
-    group-forth (word w givenAt) (word w groupAt) (word w (groupAt + 1)) a.1
-    ∙ spelt-then w givenAt 1 2 (one givenAt (omega arith))
-    (spelt-then w groupAt 1 1 (one groupAt (omega arith)) (one (groupAt + 1) (omega arith)))
+    group-forth (word w given_at) (word w group_at) (word w (group_at + 1)) a.1
+    ∙ spelt-then w given_at 1 2 (one given_at (omega arith))
+    (spelt-then w group_at 1 1 (one group_at (omega arith)) (one (group_at + 1) (omega arith)))
     in
-    spelt-then w 0 1 (requestWidth - 1) (one 0 (omega arith))
-    (spelt-then w 1 1 (requestWidth - serviceAt) (one 1 (omega arith))
-    (spelt-then w serviceAt 1 (requestWidth - kind_at) (one serviceAt (omega arith))
-    (spelt-then w kind_at (digitsAt - kind_at) (requestWidth - digitsAt) destination
-    (spelt-then w digitsAt digitPlaces (requestWidth - givenAt) (narrowed_bytes (take digitPlaces (drop digitsAt w)) b) group))))
-    ∙ take_all requestWidth w (omega arith)
+    spelt-then w 0 1 (request_width - 1) (one 0 (omega arith))
+    (spelt-then w 1 1 (request_width - service_at) (one 1 (omega arith))
+    (spelt-then w service_at 1 (request_width - kind_at) (one service_at (omega arith))
+    (spelt-then w kind_at (digits_at - kind_at) (request_width - digits_at) destination
+    (spelt-then w digits_at digit_places (request_width - given_at) (narrowed_bytes (take digit_places (drop digits_at w)) b) group))))
+    ∙ take_all request_width w (omega arith)

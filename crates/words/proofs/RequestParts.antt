@@ -9,35 +9,35 @@ use lib.ListN.{length}
 use lib.Dec.{eqb}
 use Rattle.bits.specs.Bits.{pick}
 use Rattle.bits.proofs.Tests.{both}
-use Rattle.rules.specs.Request.{digitsUsed}
+use Rattle.rules.specs.Request.{digits_used}
 use Rattle.rules.specs.declared.request.Destination.{Destination}
 use Rattle.rules.specs.declared.request.Destination.TheVariants.{Identity, Number}
 use Rattle.rules.specs.declared.request.Group.{Group}
 use Rattle.rules.specs.declared.request.Group.TheVariants.{Of, NoGroup}
-use Rattle.words.specs.Places.{givenAt}
+use Rattle.words.specs.Places.{given_at}
 use Rattle.words.specs.RecordWords.{word, narrow}
-use Rattle.words.specs.RequestWords.{areDestination, areGroup, destinationFrom, groupFrom, destinationWords, groupWords}
+use Rattle.words.specs.RequestWords.{are_destination, are_group, destination_from, group_from, destination_words, group_words}
 
 -- ---- to words and back
 
-pub destination-long : (d : Destination) → length (destinationWords d) ≡ 4
-unfolding destinationWords
+pub destination-long : (d : Destination) → length (destination_words d) ≡ 4
+unfolding destination_words
 destination-long (Identity u) = refl
 destination-long (Number n) = refl
 
-pub group-long : (g : Group) → length (groupWords g) ≡ 3
-unfolding groupWords
+pub group-long : (g : Group) → length (group_words g) ≡ 3
+unfolding group_words
 group-long (Of u) = refl
 group-long NoGroup = refl
 
 module _ (network ssi service : ℕ) (rest : List ℕ) where
-  pub destination-back : (d : Destination) → digitsUsed d < 256 → destinationFrom (network ∷ ssi ∷ service ∷ destinationWords d ++ rest) ≡ d
-  unfolding destinationWords destinationFrom digitsUsed
+  pub destination-back : (d : Destination) → digits_used d < 256 → destination_from (network ∷ ssi ∷ service ∷ destination_words d ++ rest) ≡ d
+  unfolding destination_words destination_from digits_used
   destination-back (Identity u) h = refl
   destination-back (Number n) h = let e : narrow n.0 ≡ n.0 = omega arith in λ i. Number (record { 0 = e i })
 
-  pub are-destination : (d : Destination) → areDestination (network ∷ ssi ∷ service ∷ destinationWords d ++ rest) ≡ true
-  unfolding destinationWords areDestination
+  pub are-destination : (d : Destination) → are_destination (network ∷ ssi ∷ service ∷ destination_words d ++ rest) ≡ true
+  unfolding destination_words are_destination
   are-destination (Identity u) = refl
   are-destination (Number n) = refl
 
@@ -49,20 +49,20 @@ abbrev pub is_group : ℕ → ℕ → ℕ → Bool
 is_group given network ssi = eqb given 1 || eqb given 0 && (eqb network 0 && eqb ssi 0)
 
 -- words whose last three are the group's
-module _ (w : List ℕ) (g : Group) (e : (k : ℕ) → word w (givenAt + k) ≡ word (groupWords g) k) where
-  pub group-back : groupFrom w ≡ g
-  unfolding groupWords groupFrom
+module _ (w : List ℕ) (g : Group) (e : (k : ℕ) → word w (given_at + k) ≡ word (group_words g) k) where
+  pub group-back : group_from w ≡ g
+  unfolding group_words group_from
   group-back = (λ i. group_of (e 0 i) (e 1 i) (e 2 i)) ∙ go g
     where
-      go : (g : Group) → group_of (word (groupWords g) 0) (word (groupWords g) 1) (word (groupWords g) 2) ≡ g
+      go : (g : Group) → group_of (word (group_words g) 0) (word (group_words g) 1) (word (group_words g) 2) ≡ g
       go (Of u) = refl
       go NoGroup = refl
 
-  pub are-group : areGroup w ≡ true
-  unfolding groupWords areGroup
+  pub are-group : are_group w ≡ true
+  unfolding group_words are_group
   are-group = (λ i. is_group (e 0 i) (e 1 i) (e 2 i)) ∙ go g
     where
-      go : (g : Group) → is_group (word (groupWords g) 0) (word (groupWords g) 1) (word (groupWords g) 2) ≡ true
+      go : (g : Group) → is_group (word (group_words g) 0) (word (group_words g) 1) (word (group_words g) 2) ≡ true
       go (Of u) = refl
       go NoGroup = refl
 
@@ -80,8 +80,8 @@ module _ (kind network ssi used : ℕ) (h : used < 256) where
   choose p = pick p (Identity (record { network = network; ssi = ssi })) (Number (record { 0 = narrow used }))
 
   pub destination-forth : (p : Bool) → eqb kind 1 ≡ p → (p && eqb used 0 || eqb kind 2 && (eqb network 0 && eqb ssi 0)) ≡ true
-      → destinationWords (choose p) ≡ kind ∷ network ∷ ssi ∷ used ∷ []
-  unfolding destinationWords
+      → destination_words (choose p) ≡ kind ∷ network ∷ ssi ∷ used ∷ []
+  unfolding destination_words
   destination-forth true k e =
       let one : kind ≡ 1 = eqb-true kind 1 k in
       let none = no_length kind used (eqb network 0 && eqb ssi 0) one e in
@@ -92,12 +92,12 @@ module _ (kind network ssi used : ℕ) (h : used < 256) where
       let byte : narrow used ≡ used = omega arith in
       λ i. sym (eqb-true kind 2 two.0) i ∷ sym z.0 i ∷ sym z.1 i ∷ byte i ∷ []
 
-pub group-forth : (given network ssi : ℕ) → is_group given network ssi ≡ true → groupWords (group_of given network ssi) ≡ given ∷ network ∷ ssi ∷ []
-unfolding groupWords
+pub group-forth : (given network ssi : ℕ) → is_group given network ssi ≡ true → group_words (group_of given network ssi) ≡ given ∷ network ∷ ssi ∷ []
+unfolding group_words
 group-forth given network ssi = go (eqb given 1) refl
   where
     go : (p : Bool) → eqb given 1 ≡ p → (p || eqb given 0 && (eqb network 0 && eqb ssi 0)) ≡ true
-        → groupWords (pick p (Of (record { network = network; ssi = ssi })) NoGroup) ≡ given ∷ network ∷ ssi ∷ []
+        → group_words (pick p (Of (record { network = network; ssi = ssi })) NoGroup) ≡ given ∷ network ∷ ssi ∷ []
     go true k e = let one : given ≡ 1 = eqb-true given 1 k in λ i. sym one i ∷ network ∷ ssi ∷ []
     go false k e =
         let none = both (eqb given 0) (eqb network 0 && eqb ssi 0) e in

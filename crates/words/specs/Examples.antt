@@ -5,7 +5,7 @@ use Rattle.grammar.specs.declared.record.Identities.{Identities}
 use Rattle.grammar.specs.declared.record.Number.{Number}
 use Rattle.grammar.specs.declared.record.Numbers.{Numbers}
 use Rattle.grammar.specs.declared.record.Record.{Record}
-use Rattle.grammar.specs.Zero.{zeroFigures}
+use Rattle.grammar.specs.Zero.{zero_figures}
 use Rattle.grammar.specs.ProfileRecords.{A}
 use Rattle.rules.specs.ProfileCalls.{speech, group500}
 use Rattle.rules.specs.declared.request.Destination.{Destination}
@@ -13,11 +13,11 @@ use Rattle.rules.specs.declared.request.Destination.TheVariants as to
 use Rattle.rules.specs.declared.request.Group.{Group}
 use Rattle.rules.specs.declared.request.Group.TheVariants.{Of, NoGroup}
 use Rattle.rules.specs.declared.request.Request.{Request}
-use Rattle.words.specs.Places.{affectedAt, askedAt, result_at, statusAt, servicesAt, listsAt, deliveryAt, acknowledgementAt, definitionAt}
-use Rattle.words.specs.Places.{definedAt, distributedAt, causeAt, recordWidth, serviceAt, kind_at, identityAt}
-use Rattle.words.specs.Places.{length_at, digitsAt, givenAt, groupAt, requestWidth}
-use Rattle.words.specs.RecordWords.{word, recordWords, recordFrom, givenFigures, narrowed, records}
-use Rattle.words.specs.RequestWords.{areRequest, requestFrom, requestWords, requests}
+use Rattle.words.specs.Places.{affected_at, asked_at, result_at, status_at, services_at, lists_at, delivery_at, acknowledgement_at, definition_at}
+use Rattle.words.specs.Places.{defined_at, distributed_at, cause_at, record_width, service_at, kind_at, identity_at}
+use Rattle.words.specs.Places.{length_at, digits_at, given_at, group_at, request_width}
+use Rattle.words.specs.RecordWords.{word, record_words, record_from, given_figures, narrowed, records}
+use Rattle.words.specs.RequestWords.{are_request, request_from, request_words, requests}
 
 -- n, n + 1, .., so many of them
 unfoldable counted : ℕ → ℕ → List ℕ
@@ -25,12 +25,12 @@ counted n zero = []
 counted n (suc k) = n ∷ counted (n + 1) k
 
 -- where the parts begin that have a name, and how many words there are, as the tables of include/boc.h say
-record-places : affectedAt ∷ askedAt ∷ result_at ∷ statusAt ∷ servicesAt ∷ listsAt ∷ deliveryAt ∷ acknowledgementAt ∷ definitionAt
-    ∷ definedAt ∷ distributedAt ∷ causeAt ∷ recordWidth ∷ []
+record-places : affected_at ∷ asked_at ∷ result_at ∷ status_at ∷ services_at ∷ lists_at ∷ delivery_at ∷ acknowledgement_at ∷ definition_at
+    ∷ defined_at ∷ distributed_at ∷ cause_at ∷ record_width ∷ []
     ≡ 1 ∷ 26 ∷ 27 ∷ 28 ∷ 29 ∷ 37 ∷ 514 ∷ 515 ∷ 516 ∷ 517 ∷ 518 ∷ 519 ∷ 520 ∷ []
 record-places = refl
 
-request-places : serviceAt ∷ kind_at ∷ identityAt ∷ length_at ∷ digitsAt ∷ givenAt ∷ groupAt ∷ requestWidth ∷ [] ≡ 2 ∷ 3 ∷ 4 ∷ 6 ∷ 7 ∷ 31 ∷ 32 ∷ 34 ∷ []
+request-places : service_at ∷ kind_at ∷ identity_at ∷ length_at ∷ digits_at ∷ given_at ∷ group_at ∷ request_width ∷ [] ≡ 2 ∷ 3 ∷ 4 ∷ 6 ∷ 7 ∷ 31 ∷ 32 ∷ 34 ∷ []
 request-places = refl
 
 -- ---- requests
@@ -39,16 +39,16 @@ request-places = refl
 abbrev p1 : List ℕ
 p1 = 1 ∷ 5 ∷ 1 ∷ 1 ∷ 1 ∷ 100 ∷ 0 ∷ replicate 24 0 ++ (0 ∷ 0 ∷ 0 ∷ [])
 
-p1-words : requestWords (speech 1 100 NoGroup) ≡ p1
+p1_words : request_words (speech 1 100 NoGroup) ≡ p1
 unfolding requests
-p1-words = refl
+p1_words = refl
 
-p1-request : requestFrom p1 ≡ speech 1 100 NoGroup
+p1_request : request_from p1 ≡ speech 1 100 NoGroup
 unfolding requests
-p1-request = refl
+p1_request = refl
 
 -- the number 112, group 1/500
-to112 : requestFrom (1 ∷ 5 ∷ 1 ∷ 2 ∷ 0 ∷ 0 ∷ 3 ∷ 1 ∷ 1 ∷ 2 ∷ replicate 21 0 ++ (1 ∷ 1 ∷ 500 ∷ [])) ≡ record {
+to112 : request_from (1 ∷ 5 ∷ 1 ∷ 2 ∷ 0 ∷ 0 ∷ 3 ∷ 1 ∷ 1 ∷ 2 ∷ replicate 21 0 ++ (1 ∷ 1 ∷ 500 ∷ [])) ≡ record {
   user = record { network = 1; ssi = 5 };
   service = 1;
   destination = to.Number (record { 0 = 3 });
@@ -62,44 +62,44 @@ to112 = refl
 abbrev asked : Destination → Group → Request
 asked d g = record { user = record { network = 100; ssi = 101 }; service = 102; destination = d; digits = counted 107 24; group = g }
 
-abbrev toIdentity : Request
-toIdentity = asked (to.Identity (record { network = 104; ssi = 105 })) (Of (record { network = 132; ssi = 133 }))
+abbrev to_identity : Request
+to_identity = asked (to.Identity (record { network = 104; ssi = 105 })) (Of (record { network = 132; ssi = 133 }))
 
-abbrev identityPlaces : List ℕ
-identityPlaces = 100 ∷ 101 ∷ 102 ∷ 1 ∷ 104 ∷ 105 ∷ 0 ∷ counted 107 24 ++ (1 ∷ 132 ∷ 133 ∷ [])
+abbrev identity_places : List ℕ
+identity_places = 100 ∷ 101 ∷ 102 ∷ 1 ∷ 104 ∷ 105 ∷ 0 ∷ counted 107 24 ++ (1 ∷ 132 ∷ 133 ∷ [])
 
-abbrev toNumber : Request
-toNumber = asked (to.Number (record { 0 = 106 })) NoGroup
+abbrev to_number : Request
+to_number = asked (to.Number (record { 0 = 106 })) NoGroup
 
-abbrev numberPlaces : List ℕ
-numberPlaces = 100 ∷ 101 ∷ 102 ∷ 2 ∷ 0 ∷ 0 ∷ 106 ∷ counted 107 24 ++ (0 ∷ 0 ∷ 0 ∷ [])
+abbrev number_places : List ℕ
+number_places = 100 ∷ 101 ∷ 102 ∷ 2 ∷ 0 ∷ 0 ∷ 106 ∷ counted 107 24 ++ (0 ∷ 0 ∷ 0 ∷ [])
 
-asked-words : (requestWords toIdentity ≡ identityPlaces) × (requestWords toNumber ≡ numberPlaces)
+asked_words : (request_words to_identity ≡ identity_places) × (request_words to_number ≡ number_places)
 unfolding requests counted
-asked-words = (refl, refl)
+asked_words = (refl, refl)
 
-asked-request : (requestFrom identityPlaces ≡ toIdentity) × (requestFrom numberPlaces ≡ toNumber)
+asked_request : (request_from identity_places ≡ to_identity) × (request_from number_places ≡ to_number)
 unfolding requests counted
-asked-request = (refl, refl)
+asked_request = (refl, refl)
 
 -- a third kind of destination, an identity with a length, a network beside no group
-no_kind : areRequest (1 ∷ 5 ∷ 1 ∷ 3 ∷ 1 ∷ 100 ∷ 0 ∷ replicate 24 0 ++ (0 ∷ 0 ∷ 0 ∷ [])) ≡ false
+no_kind : are_request (1 ∷ 5 ∷ 1 ∷ 3 ∷ 1 ∷ 100 ∷ 0 ∷ replicate 24 0 ++ (0 ∷ 0 ∷ 0 ∷ [])) ≡ false
 unfolding requests
 no_kind = refl
 
-no_length : areRequest (1 ∷ 5 ∷ 1 ∷ 1 ∷ 1 ∷ 100 ∷ 3 ∷ replicate 24 0 ++ (0 ∷ 0 ∷ 0 ∷ [])) ≡ false
+no_length : are_request (1 ∷ 5 ∷ 1 ∷ 1 ∷ 1 ∷ 100 ∷ 3 ∷ replicate 24 0 ++ (0 ∷ 0 ∷ 0 ∷ [])) ≡ false
 unfolding requests
 no_length = refl
 
 -- a number with a network, or with an SSI
-no-identity : (areRequest (1 ∷ 5 ∷ 1 ∷ 2 ∷ 1 ∷ 0 ∷ 1 ∷ replicate 24 0 ++ (0 ∷ 0 ∷ 0 ∷ [])) ≡ false)
-    × (areRequest (1 ∷ 5 ∷ 1 ∷ 2 ∷ 0 ∷ 100 ∷ 1 ∷ replicate 24 0 ++ (0 ∷ 0 ∷ 0 ∷ [])) ≡ false)
+no-identity : (are_request (1 ∷ 5 ∷ 1 ∷ 2 ∷ 1 ∷ 0 ∷ 1 ∷ replicate 24 0 ++ (0 ∷ 0 ∷ 0 ∷ [])) ≡ false)
+    × (are_request (1 ∷ 5 ∷ 1 ∷ 2 ∷ 0 ∷ 100 ∷ 1 ∷ replicate 24 0 ++ (0 ∷ 0 ∷ 0 ∷ [])) ≡ false)
 unfolding requests
 no-identity = (refl, refl)
 
 -- no group, with a network or with an SSI
-no-group : (areRequest (1 ∷ 5 ∷ 1 ∷ 1 ∷ 1 ∷ 100 ∷ 0 ∷ replicate 24 0 ++ (0 ∷ 1 ∷ 0 ∷ [])) ≡ false)
-    × (areRequest (1 ∷ 5 ∷ 1 ∷ 1 ∷ 1 ∷ 100 ∷ 0 ∷ replicate 24 0 ++ (0 ∷ 0 ∷ 1 ∷ [])) ≡ false)
+no-group : (are_request (1 ∷ 5 ∷ 1 ∷ 1 ∷ 1 ∷ 100 ∷ 0 ∷ replicate 24 0 ++ (0 ∷ 1 ∷ 0 ∷ [])) ≡ false)
+    × (are_request (1 ∷ 5 ∷ 1 ∷ 1 ∷ 1 ∷ 100 ∷ 0 ∷ replicate 24 0 ++ (0 ∷ 0 ∷ 1 ∷ [])) ≡ false)
 unfolding requests
 no-group = (refl, refl)
 
@@ -145,33 +145,33 @@ module _ (word byte : ℕ → ℕ) where
   }
 
 -- its words are the values in their places, 520 of them
-placed-words : recordWords (placed (λ n. n) (λ n. n)) ≡ counted 0 520
+placed_words : record_words (placed (λ n. n) (λ n. n)) ≡ counted 0 520
 unfolding records counted
-placed-words = refl
+placed_words = refl
 
 -- and read back; lengths and digits are bytes there, so words from 255 on show their places by counting down
-placed-record : recordFrom (counted 0 520) ≡ placed (λ n. n) (λ n. min n 255)
+placed-record : record_from (counted 0 520) ≡ placed (λ n. n) (λ n. min n 255)
 unfolding records counted
 placed-record = refl
 
-placed-down : recordFrom (map (λ n. 519 - n) (counted 0 520)) ≡ placed (λ n. 519 - n) (λ n. min (519 - n) 255)
+placed_down : record_from (map (λ n. 519 - n) (counted 0 520)) ≡ placed (λ n. 519 - n) (λ n. min (519 - n) 255)
 unfolding records counted
-placed-down = refl
+placed_down = refl
 
 -- the figures alone; of a word less or more there are none
-placed-figures : givenFigures (counted 0 520) ≡ (placed (λ n. n) (λ n. n)).figures
-unfolding records counted givenFigures
+placed-figures : given_figures (counted 0 520) ≡ (placed (λ n. n) (λ n. n)).figures
+unfolding records counted given_figures
 placed-figures = refl
 
-no-figures : (givenFigures (counted 0 519) ≡ zeroFigures) × (givenFigures (counted 0 521) ≡ zeroFigures)
-unfolding counted givenFigures
+no-figures : (given_figures (counted 0 519) ≡ zero_figures) × (given_figures (counted 0 521) ≡ zero_figures)
+unfolding counted given_figures
 no-figures = (refl, refl)
 
 -- profile A: the PDU type; the user's list and SSI; result; services; the range 100 to 199; the exception 150
-places-of-A : map (word (recordWords A)) (0 ∷ 1 ∷ 2 ∷ 27 ∷ 29 ∷ 30 ∷ 62 ∷ 63 ∷ 66 ∷ 87 ∷ 88 ∷ [])
+places_of-A : map (word (record_words A)) (0 ∷ 1 ∷ 2 ∷ 27 ∷ 29 ∷ 30 ∷ 62 ∷ 63 ∷ 66 ∷ 87 ∷ 88 ∷ [])
     ≡ 12 ∷ 1 ∷ 5 ∷ 1 ∷ 1 ∷ 1 ∷ 9 ∷ 100 ∷ 199 ∷ 1 ∷ 150 ∷ []
 unfolding records
-places-of-A = refl
+places_of-A = refl
 
 -- a byte is a byte, and what is wider becomes 255
 too_wide : narrowed (0 ∷ 255 ∷ 256 ∷ 4294967295 ∷ []) ≡ 0 ∷ 255 ∷ 255 ∷ 255 ∷ []

@@ -4,137 +4,137 @@ use Rattle.std.specs.Prelude.{ℕ, ◌+◌, ◌*◌}
 -- ---- widths
 
 -- entries of a list, digits of a number, services
-abbrev pub listPlaces : ℕ
-listPlaces = 8
+abbrev pub list_places : ℕ
+list_places = 8
 
-abbrev pub digitPlaces : ℕ
-digitPlaces = 24
+abbrev pub digit_places : ℕ
+digit_places = 24
 
-abbrev pub servicePlaces : ℕ
-servicePlaces = 7
+abbrev pub service_places : ℕ
+service_places = 7
 
 -- SSI, extension present, extension
-abbrev pub identityWidth : ℕ
-identityWidth = 3
+abbrev pub identity_width : ℕ
+identity_width = 3
 
 -- range type and entries
-abbrev pub identitiesWidth : ℕ
-identitiesWidth = 1 + listPlaces * identityWidth
+abbrev pub identities_width : ℕ
+identities_width = 1 + list_places * identity_width
 
 -- length and digits
-abbrev pub numberWidth : ℕ
-numberWidth = 1 + digitPlaces
+abbrev pub number_width : ℕ
+number_width = 1 + digit_places
 
 -- the words of all numbers of a list
-abbrev pub entriesWidth : ℕ
-entriesWidth = listPlaces * numberWidth
+abbrev pub entries_width : ℕ
+entries_width = list_places * number_width
 
 -- range type and entries
-abbrev pub numbersWidth : ℕ
-numbersWidth = 1 + entriesWidth
+abbrev pub numbers_width : ℕ
+numbers_width = 1 + entries_width
 
 -- number of services and services
-abbrev pub servicesWidth : ℕ
-servicesWidth = 1 + servicePlaces
+abbrev pub services_width : ℕ
+services_width = 1 + service_places
 
 -- network, SSI
-abbrev pub userWidth : ℕ
-userWidth = 2
+abbrev pub user_width : ℕ
+user_width = 2
 
 -- ---- the five lists: groups first
 
-abbrev pub restrictedAt : ℕ
-restrictedAt = identitiesWidth
+abbrev pub restricted_at : ℕ
+restricted_at = identities_width
 
-abbrev pub exceptionsAt : ℕ
-exceptionsAt = restrictedAt + identitiesWidth
+abbrev pub exceptions_at : ℕ
+exceptions_at = restricted_at + identities_width
 
-abbrev pub numbersAt : ℕ
-numbersAt = exceptionsAt + identitiesWidth
+abbrev pub numbers_at : ℕ
+numbers_at = exceptions_at + identities_width
 
-abbrev pub exceptedAt : ℕ
-exceptedAt = numbersAt + numbersWidth
+abbrev pub excepted_at : ℕ
+excepted_at = numbers_at + numbers_width
 
-abbrev pub listsWidth : ℕ
-listsWidth = exceptedAt + numbersWidth
+abbrev pub lists_width : ℕ
+lists_width = excepted_at + numbers_width
 
 -- ---- a record: PDU type first
 
-abbrev pub affectedAt : ℕ
-affectedAt = 1
+abbrev pub affected_at : ℕ
+affected_at = 1
 
-abbrev pub askedAt : ℕ
-askedAt = affectedAt + identitiesWidth
+abbrev pub asked_at : ℕ
+asked_at = affected_at + identities_width
 
 abbrev pub result_at : ℕ
-result_at = askedAt + 1
+result_at = asked_at + 1
 
 -- delivery status
-abbrev pub statusAt : ℕ
-statusAt = result_at + 1
+abbrev pub status_at : ℕ
+status_at = result_at + 1
 
-abbrev pub servicesAt : ℕ
-servicesAt = statusAt + 1
+abbrev pub services_at : ℕ
+services_at = status_at + 1
 
-abbrev pub listsAt : ℕ
-listsAt = servicesAt + servicesWidth
+abbrev pub lists_at : ℕ
+lists_at = services_at + services_width
 
 -- delivery to affected users, acknowledgement from them, definition type
-abbrev pub deliveryAt : ℕ
-deliveryAt = listsAt + listsWidth
+abbrev pub delivery_at : ℕ
+delivery_at = lists_at + lists_width
 
-abbrev pub acknowledgementAt : ℕ
-acknowledgementAt = deliveryAt + 1
+abbrev pub acknowledgement_at : ℕ
+acknowledgement_at = delivery_at + 1
 
-abbrev pub definitionAt : ℕ
-definitionAt = acknowledgementAt + 1
+abbrev pub definition_at : ℕ
+definition_at = acknowledgement_at + 1
 
 -- definition result, distribution result, rejection cause
-abbrev pub definedAt : ℕ
-definedAt = definitionAt + 1
+abbrev pub defined_at : ℕ
+defined_at = definition_at + 1
 
-abbrev pub distributedAt : ℕ
-distributedAt = definedAt + 1
+abbrev pub distributed_at : ℕ
+distributed_at = defined_at + 1
 
-abbrev pub causeAt : ℕ
-causeAt = distributedAt + 1
+abbrev pub cause_at : ℕ
+cause_at = distributed_at + 1
 
-abbrev pub recordWidth : ℕ
-recordWidth = causeAt + 1
+abbrev pub record_width : ℕ
+record_width = cause_at + 1
 
 -- where the lengths and digits of restricted numbers and of exceptions to them begin
-abbrev pub numberEntriesAt : ℕ
-numberEntriesAt = listsAt + numbersAt + 1
+abbrev pub number_entries_at : ℕ
+number_entries_at = lists_at + numbers_at + 1
 
-abbrev pub exceptedEntriesAt : ℕ
-exceptedEntriesAt = listsAt + exceptedAt + 1
+abbrev pub excepted_entries_at : ℕ
+excepted_entries_at = lists_at + excepted_at + 1
 
 -- ---- a request: user first
 
-abbrev pub serviceAt : ℕ
-serviceAt = userWidth
+abbrev pub service_at : ℕ
+service_at = user_width
 
 -- the kind of destination
 abbrev pub kind_at : ℕ
-kind_at = serviceAt + 1
+kind_at = service_at + 1
 
 -- network and SSI of an identity
-abbrev pub identityAt : ℕ
-identityAt = kind_at + 1
+abbrev pub identity_at : ℕ
+identity_at = kind_at + 1
 
 -- length and digits of an external number
 abbrev pub length_at : ℕ
-length_at = identityAt + userWidth
+length_at = identity_at + user_width
 
-abbrev pub digitsAt : ℕ
-digitsAt = length_at + 1
+abbrev pub digits_at : ℕ
+digits_at = length_at + 1
 
 -- whether a group is given
-abbrev pub givenAt : ℕ
-givenAt = digitsAt + digitPlaces
+abbrev pub given_at : ℕ
+given_at = digits_at + digit_places
 
-abbrev pub groupAt : ℕ
-groupAt = givenAt + 1
+abbrev pub group_at : ℕ
+group_at = given_at + 1
 
-abbrev pub requestWidth : ℕ
-requestWidth = groupAt + userWidth
+abbrev pub request_width : ℕ
+request_width = group_at + user_width

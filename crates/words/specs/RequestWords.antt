@@ -8,78 +8,78 @@ use Rattle.rules.specs.declared.request.Destination.TheVariants.{Identity, Numbe
 use Rattle.rules.specs.declared.request.Group.{Group}
 use Rattle.rules.specs.declared.request.Group.TheVariants.{Of, NoGroup}
 use Rattle.rules.specs.declared.request.Request.{Request}
-use Rattle.words.specs.Places.{digitPlaces, serviceAt, kind_at, identityAt, length_at, digitsAt, givenAt, groupAt, requestWidth}
+use Rattle.words.specs.Places.{digit_places, service_at, kind_at, identity_at, length_at, digits_at, given_at, group_at, request_width}
 use Rattle.words.specs.RecordWords.{word, narrow, narrowed}
 use Rattle.words.specs.declared.request.GivenRequest.{GivenRequest}
 
 -- ---- from words
 
 -- an identity has no length, a number neither network nor SSI; the digits are the request's own rule
-unfoldable pub areDestination : List ℕ → Bool
-areDestination w =
+unfoldable pub are_destination : List ℕ → Bool
+are_destination w =
     eqb (word w kind_at) 1 && eqb (word w length_at) 0
-    || eqb (word w kind_at) 2 && (eqb (word w identityAt) 0 && eqb (word w (identityAt + 1)) 0)
+    || eqb (word w kind_at) 2 && (eqb (word w identity_at) 0 && eqb (word w (identity_at + 1)) 0)
 
-unfoldable pub areGroup : List ℕ → Bool
-areGroup w = eqb (word w givenAt) 1 || eqb (word w givenAt) 0 && (eqb (word w groupAt) 0 && eqb (word w (groupAt + 1)) 0)
+unfoldable pub are_group : List ℕ → Bool
+are_group w = eqb (word w given_at) 1 || eqb (word w given_at) 0 && (eqb (word w group_at) 0 && eqb (word w (group_at + 1)) 0)
 
-unfoldable pub areRequest : List ℕ → Bool
-areRequest w = areDestination w && areGroup w
+unfoldable pub are_request : List ℕ → Bool
+are_request w = are_destination w && are_group w
 
-abbrev pub userFrom : List ℕ → ℕ → User
-userFrom w at = record { network = word w at; ssi = word w (at + 1) }
+abbrev pub user_from : List ℕ → ℕ → User
+user_from w at = record { network = word w at; ssi = word w (at + 1) }
 
-unfoldable pub destinationFrom : List ℕ → Destination
-destinationFrom w = pick (eqb (word w kind_at) 1) (Identity (userFrom w identityAt)) (Number (record { 0 = narrow (word w length_at) }))
+unfoldable pub destination_from : List ℕ → Destination
+destination_from w = pick (eqb (word w kind_at) 1) (Identity (user_from w identity_at)) (Number (record { 0 = narrow (word w length_at) }))
 
-unfoldable pub groupFrom : List ℕ → Group
-groupFrom w = pick (eqb (word w givenAt) 1) (Of (userFrom w groupAt)) NoGroup
+unfoldable pub group_from : List ℕ → Group
+group_from w = pick (eqb (word w given_at) 1) (Of (user_from w group_at)) NoGroup
 
-unfoldable pub requestFrom : List ℕ → Request
-requestFrom w = record {
-  user = userFrom w 0;
-  service = word w serviceAt;
-  destination = destinationFrom w;
-  digits = narrowed (take digitPlaces (drop digitsAt w));
-  group = groupFrom w;
+unfoldable pub request_from : List ℕ → Request
+request_from w = record {
+  user = user_from w 0;
+  service = word w service_at;
+  destination = destination_from w;
+  digits = narrowed (take digit_places (drop digits_at w));
+  group = group_from w;
 }
 
 -- as many words as a request has, and they are a request's
-abbrev pub isRequest : List ℕ → Bool
-isRequest words = eqb (length words) requestWidth && areRequest words
+abbrev pub is_request : List ℕ → Bool
+is_request words = eqb (length words) request_width && are_request words
 
-abbrev pub noRequest : GivenRequest
-noRequest = record {
+abbrev pub no_request : GivenRequest
+no_request = record {
   given = false;
   asked = record {
     user = record { network = 0; ssi = 0 };
     service = 0;
     destination = Identity (record { network = 0; ssi = 0 });
-    digits = replicate digitPlaces 0;
+    digits = replicate digit_places 0;
     group = NoGroup;
   };
 }
 
-unfoldable pub givenRequest : List ℕ → GivenRequest
-givenRequest words = pick (isRequest words) (record { given = true; asked = requestFrom words }) noRequest
+unfoldable pub given_request : List ℕ → GivenRequest
+given_request words = pick (is_request words) (record { given = true; asked = request_from words }) no_request
 
 -- ---- to words
 
-abbrev pub userWords : User → List ℕ
-userWords u = u.network ∷ u.ssi ∷ []
+abbrev pub user_words : User → List ℕ
+user_words u = u.network ∷ u.ssi ∷ []
 
-unfoldable pub destinationWords : Destination → List ℕ
-destinationWords (Identity u) = 1 ∷ userWords u ++ (0 ∷ [])
-destinationWords (Number length) = 2 ∷ 0 ∷ 0 ∷ length.0 ∷ []
+unfoldable pub destination_words : Destination → List ℕ
+destination_words (Identity u) = 1 ∷ user_words u ++ (0 ∷ [])
+destination_words (Number length) = 2 ∷ 0 ∷ 0 ∷ length.0 ∷ []
 
-unfoldable pub groupWords : Group → List ℕ
-groupWords (Of u) = 1 ∷ userWords u
-groupWords NoGroup = 0 ∷ 0 ∷ 0 ∷ []
+unfoldable pub group_words : Group → List ℕ
+group_words (Of u) = 1 ∷ user_words u
+group_words NoGroup = 0 ∷ 0 ∷ 0 ∷ []
 
-unfoldable pub requestWords : Request → List ℕ
-requestWords q = userWords q.user ++ (q.service ∷ destinationWords q.destination ++ (q.digits ++ groupWords q.group))
+unfoldable pub request_words : Request → List ℕ
+request_words q = user_words q.user ++ (q.service ∷ destination_words q.destination ++ (q.digits ++ group_words q.group))
 
 -- `unfolding requests` opens all of it
 unfoldable pub requests : Unit {0}
-unfolding areDestination areGroup areRequest destinationFrom groupFrom requestFrom narrowed destinationWords groupWords requestWords
+unfolding are_destination are_group are_request destination_from group_from request_from narrowed destination_words group_words request_words
 requests = tt

@@ -7,7 +7,7 @@ use Rattle.grammar.specs.declared.record.Number.{Number}
 use Rattle.grammar.specs.declared.record.Numbers.{Numbers}
 use Rattle.grammar.specs.declared.record.Lists.{Lists}
 use Rattle.grammar.specs.declared.record.Record.{Record}
-use Rattle.rules.specs.Request.{digitsUsed}
+use Rattle.rules.specs.Request.{digits_used}
 use Rattle.rules.specs.declared.request.Request.{Request}
 
 pub record SizedNumber (e : Number) : Type 0 where
@@ -35,4 +35,4 @@ pub record SizedRecord (r : Record) : Type 0 where
 pub record SizedRequest (q : Request) : Type 0 where
   pub digits : length q.digits ≡ 24
   pub bytes : Bytes q.digits
-  pub used : digitsUsed q.destination < 256
+  pub used : digits_used q.destination < 256

@@ -1,9 +1,9 @@
 // A record as words: PDU type; affected users; interrogation type, result, delivery status; services; the five lists;
 // delivery to affected users, acknowledgement from them, definition type; definition result, distribution result, rejection cause.
 ghost use Rattle.std.specs.Prelude.{◌≡◌, ◌∷◌, [], ◌+◌, ◌≤◌, ◌<◌, length, take, drop};
-ghost use Rattle.words.specs.Places.{digitPlaces, identityWidth, identitiesWidth, numberWidth, numbersWidth, servicesWidth, listsWidth, recordWidth};
+ghost use Rattle.words.specs.Places.{digit_places, identity_width, identities_width, number_width, numbers_width, services_width, lists_width, record_width};
 ghost use Rattle.words.specs.Inner.{Put};
-ghost use Rattle.words.specs.RecordWords.{identityWords, identitiesWords, numberWords, numbersWords, servicesWords, listsWords, recordWords, narrow, narrowed, identityFrom, identitiesFrom, numberFrom, numbersFrom, servicesFrom, listsFrom, figuresFrom, recordFrom, givenRecord, givenFigures, putRecord};
+ghost use Rattle.words.specs.RecordWords.{identity_words, identities_words, number_words, numbers_words, services_words, lists_words, record_words, narrow, narrowed, identity_from, identities_from, number_from, numbers_from, services_from, lists_from, figures_from, record_from, given_record, given_figures, put_record};
 
 use bits::DigitCount;
 use grammar::record::{Figures, Identities, Identity, Lists, Number, Numbers, Record, Services};
@@ -95,15 +95,15 @@ fn put_three(words: &mut [u32], at: usize, first: u32, second: u32, third: u32) 
 }
 
 fn put_identity(words: &mut [u32], at: usize, e: Identity) -> usize
-    requires { at + identityWidth ≤ length words.old }
-    ensures { Put words.old at (identityWords e) identityWidth words.new result }
+    requires { at + identity_width ≤ length words.old }
+    ensures { Put words.old at (identity_words e) identity_width words.new result }
 {
     put_three(words, at, e.ssi, e.present, e.extension)
 }
 
 fn put_identities(words: &mut [u32], at: usize, list: Identities) -> usize
-    requires { at + identitiesWidth ≤ length words.old }
-    ensures { Put words.old at (identitiesWords list) identitiesWidth words.new result }
+    requires { at + identities_width ≤ length words.old }
+    ensures { Put words.old at (identities_words list) identities_width words.new result }
 {
     let entries = list.entries;
     let mut next = put_word(words, at, list.code);
@@ -116,8 +116,8 @@ fn put_identities(words: &mut [u32], at: usize, list: Identities) -> usize
 }
 
 fn put_number(words: &mut [u32], at: usize, e: Number) -> usize
-    requires { at + numberWidth ≤ length words.old }
-    ensures { Put words.old at (numberWords e) numberWidth words.new result }
+    requires { at + number_width ≤ length words.old }
+    ensures { Put words.old at (number_words e) number_width words.new result }
 {
     let digits = e.digits;
     let mut next = put_word(words, at, e.length.0 as u32);
@@ -130,8 +130,8 @@ fn put_number(words: &mut [u32], at: usize, e: Number) -> usize
 }
 
 fn put_numbers(words: &mut [u32], at: usize, list: Numbers) -> usize
-    requires { at + numbersWidth ≤ length words.old }
-    ensures { Put words.old at (numbersWords list) numbersWidth words.new result }
+    requires { at + numbers_width ≤ length words.old }
+    ensures { Put words.old at (numbers_words list) numbers_width words.new result }
 {
     let entries = list.entries;
     let mut next = put_word(words, at, list.code);
@@ -144,8 +144,8 @@ fn put_numbers(words: &mut [u32], at: usize, list: Numbers) -> usize
 }
 
 fn put_services(words: &mut [u32], at: usize, services: Services) -> usize
-    requires { at + servicesWidth ≤ length words.old }
-    ensures { Put words.old at (servicesWords services) servicesWidth words.new result }
+    requires { at + services_width ≤ length words.old }
+    ensures { Put words.old at (services_words services) services_width words.new result }
 {
     let list = services.list;
     let mut next = put_word(words, at, services.count);
@@ -158,8 +158,8 @@ fn put_services(words: &mut [u32], at: usize, services: Services) -> usize
 }
 
 fn put_lists(words: &mut [u32], at: usize, lists: Lists) -> usize
-    requires { at + listsWidth ≤ length words.old }
-    ensures { Put words.old at (listsWords lists) listsWidth words.new result }
+    requires { at + lists_width ≤ length words.old }
+    ensures { Put words.old at (lists_words lists) lists_width words.new result }
 {
     let groups = lists.groups;
     let restricted = lists.restricted;
@@ -174,8 +174,8 @@ fn put_lists(words: &mut [u32], at: usize, lists: Lists) -> usize
 }
 
 fn put_fields(words: &mut [u32], found: Record)
-    requires { length words.old ≡ recordWidth }
-    ensures { words.new ≡ recordWords found }
+    requires { length words.old ≡ record_width }
+    ensures { words.new ≡ record_words found }
 {
     let affected = found.affected;
     let figures = found.figures;
@@ -210,7 +210,7 @@ fn put_fields(words: &mut [u32], found: Record)
 
 // The words of a record in place of those that were there, if there are as many.
 pub fn put_record(words: &mut [u32], found: Record)
-    ensures { words.new ≡ putRecord found words.old }
+    ensures { words.new ≡ put_record found words.old }
 {
     if words.len() == RECORD_WORDS {
         put_fields(words, found);
@@ -230,8 +230,8 @@ pub(crate) fn narrow_word(word: u32) -> u8
 }
 
 fn identity_from(words: &[u32], at: usize) -> Identity
-    requires { at + identityWidth ≤ length words.now }
-    ensures { result ≡ identityFrom (drop at words.now) }
+    requires { at + identity_width ≤ length words.now }
+    ensures { result ≡ identity_from (drop at words.now) }
 {
     Identity {
         ssi: words[at],
@@ -241,8 +241,8 @@ fn identity_from(words: &[u32], at: usize) -> Identity
 }
 
 fn identities_from(words: &[u32], at: usize) -> Identities
-    requires { at + identitiesWidth ≤ length words.now }
-    ensures { result ≡ identitiesFrom (drop at words.now) }
+    requires { at + identities_width ≤ length words.now }
+    ensures { result ≡ identities_from (drop at words.now) }
 {
     let none = Identity {
         ssi: 0,
@@ -265,8 +265,8 @@ fn identities_from(words: &[u32], at: usize) -> Identities
 
 // The 24 digits from a place on.
 pub(crate) fn digits_from(words: &[u32], at: usize) -> [u8; 24]
-    requires { at + digitPlaces ≤ length words.now }
-    ensures { result ≡ narrowed (take digitPlaces (drop at words.now)) }
+    requires { at + digit_places ≤ length words.now }
+    ensures { result ≡ narrowed (take digit_places (drop at words.now)) }
 {
     let mut held = [0u8; 24];
     let mut i: usize = 0;
@@ -278,8 +278,8 @@ pub(crate) fn digits_from(words: &[u32], at: usize) -> [u8; 24]
 }
 
 fn number_from(words: &[u32], at: usize) -> Number
-    requires { at + numberWidth ≤ length words.now }
-    ensures { result ≡ numberFrom (drop at words.now) }
+    requires { at + number_width ≤ length words.now }
+    ensures { result ≡ number_from (drop at words.now) }
 {
     Number {
         length: DigitCount(narrow_word(words[at])),
@@ -288,8 +288,8 @@ fn number_from(words: &[u32], at: usize) -> Number
 }
 
 fn numbers_from(words: &[u32], at: usize) -> Numbers
-    requires { at + numbersWidth ≤ length words.now }
-    ensures { result ≡ numbersFrom (drop at words.now) }
+    requires { at + numbers_width ≤ length words.now }
+    ensures { result ≡ numbers_from (drop at words.now) }
 {
     let none = Number {
         length: DigitCount(0),
@@ -310,8 +310,8 @@ fn numbers_from(words: &[u32], at: usize) -> Numbers
 }
 
 fn services_from(words: &[u32], at: usize) -> Services
-    requires { at + servicesWidth ≤ length words.now }
-    ensures { result ≡ servicesFrom (drop at words.now) }
+    requires { at + services_width ≤ length words.now }
+    ensures { result ≡ services_from (drop at words.now) }
 {
     let mut held = [0u32; 7];
     let first = at + 1;
@@ -327,8 +327,8 @@ fn services_from(words: &[u32], at: usize) -> Services
 }
 
 fn lists_from(words: &[u32], at: usize) -> Lists
-    requires { at + listsWidth ≤ length words.now }
-    ensures { result ≡ listsFrom (drop at words.now) }
+    requires { at + lists_width ≤ length words.now }
+    ensures { result ≡ lists_from (drop at words.now) }
 {
     Lists {
         groups: identities_from(words, at),
@@ -340,8 +340,8 @@ fn lists_from(words: &[u32], at: usize) -> Lists
 }
 
 fn nine_from(words: &[u32]) -> Figures
-    requires { length words.now ≡ recordWidth }
-    ensures { result ≡ figuresFrom words.now }
+    requires { length words.now ≡ record_width }
+    ensures { result ≡ figures_from words.now }
 {
     Figures {
         asked: words[INTERROGATION_TYPE],
@@ -357,8 +357,8 @@ fn nine_from(words: &[u32]) -> Figures
 }
 
 fn fields_from(words: &[u32]) -> Record
-    requires { length words.now ≡ recordWidth }
-    ensures { result ≡ recordFrom words.now }
+    requires { length words.now ≡ record_width }
+    ensures { result ≡ record_from words.now }
 {
     Record {
         kind: words[PDU_TYPE],
@@ -371,7 +371,7 @@ fn fields_from(words: &[u32]) -> Record
 
 // The record of as many words as one has.
 pub fn record_from(words: &[u32]) -> GivenRecord
-    ensures { result ≡ givenRecord words.now }
+    ensures { result ≡ given_record words.now }
 {
     if words.len() != RECORD_WORDS {
         return GivenRecord {
@@ -387,7 +387,7 @@ pub fn record_from(words: &[u32]) -> GivenRecord
 
 // The figures of as many words as a record has, otherwise zeros.
 pub fn figures_from(words: &[u32]) -> Figures
-    ensures { result ≡ givenFigures words.now }
+    ensures { result ≡ given_figures words.now }
 {
     if words.len() != RECORD_WORDS {
         return zero_figures();

@@ -1,7 +1,7 @@
 // A request as words: user network, SSI; service; kind of destination, network, SSI, length, 24 digits; group given, network, SSI.
 ghost use Rattle.std.specs.Prelude.{◌≡◌, length};
-ghost use Rattle.words.specs.Places.{requestWidth};
-ghost use Rattle.words.specs.RequestWords.{areDestination, areGroup, areRequest, destinationFrom, groupFrom, requestFrom, noRequest, givenRequest};
+ghost use Rattle.words.specs.Places.{request_width};
+ghost use Rattle.words.specs.RequestWords.{are_destination, are_group, are_request, destination_from, group_from, request_from, no_request, given_request};
 
 use crate::record::{DIGIT_PLACES, digits_from, narrow_word};
 use bits::DigitCount;
@@ -41,8 +41,8 @@ pub struct GivenRequest {
 
 // The destination is an identity (1) without a length, or a number (2) without network and SSI.
 fn are_destination(words: &[u32]) -> bool
-    requires { length words.now ≡ requestWidth }
-    ensures { result ≡ areDestination words.now }
+    requires { length words.now ≡ request_width }
+    ensures { result ≡ are_destination words.now }
 {
     match words[DESTINATION_KIND] {
         1 => words[LENGTH] == 0,
@@ -58,8 +58,8 @@ fn are_destination(words: &[u32]) -> bool
 
 // The group is given (1), or not (0) and its words are zero.
 fn are_group(words: &[u32]) -> bool
-    requires { length words.now ≡ requestWidth }
-    ensures { result ≡ areGroup words.now }
+    requires { length words.now ≡ request_width }
+    ensures { result ≡ are_group words.now }
 {
     match words[GROUP_GIVEN] {
         0 => {
@@ -75,8 +75,8 @@ fn are_group(words: &[u32]) -> bool
 
 // Whether words are those of a request: its kinds are named, and words that it does not use are zero.
 fn are_request(words: &[u32]) -> bool
-    requires { length words.now ≡ requestWidth }
-    ensures { result ≡ areRequest words.now }
+    requires { length words.now ≡ request_width }
+    ensures { result ≡ are_request words.now }
 {
     if !are_destination(words) {
         return false;
@@ -85,8 +85,8 @@ fn are_request(words: &[u32]) -> bool
 }
 
 fn destination_from(words: &[u32]) -> Destination
-    requires { length words.now ≡ requestWidth }
-    ensures { result ≡ destinationFrom words.now }
+    requires { length words.now ≡ request_width }
+    ensures { result ≡ destination_from words.now }
 {
     if words[DESTINATION_KIND] == 1 {
         return Destination::Identity(User {
@@ -98,8 +98,8 @@ fn destination_from(words: &[u32]) -> Destination
 }
 
 fn group_from(words: &[u32]) -> Group
-    requires { length words.now ≡ requestWidth }
-    ensures { result ≡ groupFrom words.now }
+    requires { length words.now ≡ request_width }
+    ensures { result ≡ group_from words.now }
 {
     if words[GROUP_GIVEN] == 1 {
         return Group::Of(User {
@@ -111,8 +111,8 @@ fn group_from(words: &[u32]) -> Group
 }
 
 fn fields_from(words: &[u32]) -> Request
-    requires { length words.now ≡ requestWidth }
-    ensures { result ≡ requestFrom words.now }
+    requires { length words.now ≡ request_width }
+    ensures { result ≡ request_from words.now }
 {
     let user = User {
         network: words[USER_NETWORK],
@@ -128,7 +128,7 @@ fn fields_from(words: &[u32]) -> Request
 }
 
 fn no_request() -> GivenRequest
-    ensures { result ≡ noRequest }
+    ensures { result ≡ no_request }
 {
     let none = User { network: 0, ssi: 0 };
     GivenRequest {
@@ -145,7 +145,7 @@ fn no_request() -> GivenRequest
 
 // The request of words that are one's.
 pub fn request_from(words: &[u32]) -> GivenRequest
-    ensures { result ≡ givenRequest words.now }
+    ensures { result ≡ given_request words.now }
 {
     if words.len() != REQUEST_WORDS {
         return no_request();

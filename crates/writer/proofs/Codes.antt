@@ -11,7 +11,7 @@ use lib.Dec.{leb}
 use borrow.Author.Tests.{leb-true, leb-false}
 use Rattle.bits.specs.Bits.{bits_of}
 use Rattle.bits.specs.Lists.{Each}
-use Rattle.bits.proofs.Numbers.{length-bitsOf, bitsOf-add, bitsOf-parts, bitsOf-join}
+use Rattle.bits.proofs.Numbers.{length-bits_of, bits_of_add, bits_of-parts, bits_of-join}
 use Rattle.bits.proofs.Lists.{take-used}
 use Rattle.codec.specs.Parts.{number, absent, element, seq, tested, shaped}
 use Rattle.codec.specs.Places.{nil, cons, places}
@@ -19,26 +19,26 @@ use Rattle.grammar.specs.Grammar.{external, services}
 use Rattle.grammar.specs.declared.record.Services.{Services}
 use Rattle.words.specs.RecordWords.{word, narrow, narrowed}
 use Rattle.words.proofs.LegalRecords.{Small, SmallNumber}
-use Rattle.tally.proofs.Words.{number_at, servicesAt}
-use Rattle.writer.specs.Inner.{codeBits, CodesAfter}
+use Rattle.tally.proofs.Words.{number_at, services_at}
+use Rattle.writer.specs.Inner.{code_bits, CodesAfter}
 use Rattle.writer.proofs.Runs.{low_bits}
 
 -- ---- codes of w bits
 
 module _ (w : ℕ) where
-  codeBits-append : (a b : List ℕ) → codeBits w (a ++ b) ≡ codeBits w a ++ codeBits w b
-  unfolding codeBits
-  codeBits-append [] b = refl
-  codeBits-append (d ∷ a) b = ap (λ (l : List Bool). bits_of w d ++ l) (codeBits-append a b) ∙ sym
-      (append_assoc (bits_of w d) (codeBits w a) (codeBits w b))
+  code_bits_append : (a b : List ℕ) → code_bits w (a ++ b) ≡ code_bits w a ++ code_bits w b
+  unfolding code_bits
+  code_bits_append [] b = refl
+  code_bits_append (d ∷ a) b = ap (λ (l : List Bool). bits_of w d ++ l) (code_bits_append a b) ∙ sym
+      (append_assoc (bits_of w d) (code_bits w a) (code_bits w b))
 
-  length-codeBits : (l : List ℕ) → length (codeBits w l) ≡ w * length l
-  unfolding codeBits
-  length-codeBits [] = omega arith
-  length-codeBits (d ∷ l) = omega (arith, length-append (bits_of w d) (codeBits w l), length-bitsOf w d, length-codeBits l)
+  length-code_bits : (l : List ℕ) → length (code_bits w l) ≡ w * length l
+  unfolding code_bits
+  length-code_bits [] = omega arith
+  length-code_bits (d ∷ l) = omega (arith, length-append (bits_of w d) (code_bits w l), length-bits_of w d, length-code_bits l)
 
   pub no-codes : (start : ℕ) → CodesAfter w 0 start [] start
-  unfolding codeBits
+  unfolding code_bits
   no-codes start v =
       let none : v + w * 0 ≡ v = omega arith in
       ap (λ (n : ℕ). bits_of n start) none ∙ sym (append-nil (bits_of v start))
@@ -46,17 +46,17 @@ module _ (w : ℕ) where
   -- one code more
   pub more-codes : (t : List ℕ) (i start run : ℕ) → i < length t → CodesAfter w i start (take i t) run
       → CodesAfter w (i + 1) start (take (i + 1) t) (run * 2 ^ w + get_or t i 0 % 2 ^ w)
-  unfolding codeBits
+  unfolding code_bits
   more-codes t i start run inside sofar v =
       let d : ℕ = get_or t i 0 in
       let size : v + w * (i + 1) ≡ v + w * i + w = omega arith in
       let next : take (i + 1) t ≡ take i t ++ (d ∷ []) = ap (λ (n : ℕ). take n t) (add-one i) ∙ take-suc t i 0 inside in
       ap (λ (n : ℕ). bits_of n (run * 2 ^ w + d % 2 ^ w)) size
-      ∙ bitsOf-join (v + w * i) w run d
+      ∙ bits_of-join (v + w * i) w run d
       ∙ ap (λ (l : List Bool). l ++ bits_of w d) (sofar v)
-      ∙ append_assoc (bits_of v start) (codeBits w (take i t)) (bits_of w d)
+      ∙ append_assoc (bits_of v start) (code_bits w (take i t)) (bits_of w d)
       ∙ ap (λ (l : List Bool). bits_of v start ++ l)
-      (sym (ap (codeBits w) next ∙ codeBits-append (take i t) (d ∷ []) ∙ ap (λ (l : List Bool). codeBits w (take i t) ++ l)
+      (sym (ap (code_bits w) next ∙ code_bits_append (take i t) (d ∷ []) ∙ ap (λ (l : List Bool). code_bits w (take i t) ++ l)
       (append-nil (bits_of w d))))
 
   -- codes, and others after them
@@ -67,10 +67,10 @@ module _ (w : ℕ) where
       let size : v + w * (j + k) ≡ v + w * j + w * k = omega arith in
       let none : 0 + w * k ≡ w * k = omega arith in
       ap (λ (n : ℕ). bits_of n (x * 2 ^ (w * k) + y)) size
-      ∙ bitsOf-parts (v + w * j) (w * k) x y few
+      ∙ bits_of-parts (v + w * j) (w * k) x y few
       ∙ ap₂ (λ (l r : List Bool). l ++ r) (p v) (ap (λ (n : ℕ). bits_of n y) (sym none) ∙ q 0)
-      ∙ append_assoc (bits_of v start) (codeBits w a) (codeBits w b)
-      ∙ ap (λ (l : List Bool). bits_of v start ++ l) (sym (codeBits-append a b))
+      ∙ append_assoc (bits_of v start) (code_bits w a) (code_bits w b)
+      ∙ ap (λ (l : List Bool). bits_of v start ++ l) (sym (code_bits_append a b))
 
   -- of j + k codes after a number, the first j
   fewer-codes : (t : List ℕ) (j k start run : ℕ) → j + k ≤ length t → CodesAfter w (j + k) start (take (j + k) t) run
@@ -80,22 +80,22 @@ module _ (w : ℕ) where
       let n : ℕ = v + w * j in
       let size : v + w * (j + k) ≡ n + m = omega arith in
       let own : List Bool = bits_of n (run / 2 ^ m) in
-      let front : List Bool = bits_of v start ++ codeBits w (take j t) in
-      let rest : List Bool = codeBits w (take k (drop j t)) in
+      let front : List Bool = bits_of v start ++ code_bits w (take j t) in
+      let rest : List Bool = code_bits w (take k (drop j t)) in
       let both : own ++ bits_of m run ≡ front ++ rest =
-      sym (bitsOf-add n m run) ∙ ap (λ (x : ℕ). bits_of x run) (sym size) ∙ whole v
-      ∙ ap (λ (l : List Bool). bits_of v start ++ l) (ap (codeBits w) (take-add j k t) ∙ codeBits-append (take j t) (take k (drop j t)))
-      ∙ sym (append_assoc (bits_of v start) (codeBits w (take j t)) rest) in
-      sym (take_at own (bits_of m run) n (length-bitsOf n (run / 2 ^ m)))
+      sym (bits_of_add n m run) ∙ ap (λ (x : ℕ). bits_of x run) (sym size) ∙ whole v
+      ∙ ap (λ (l : List Bool). bits_of v start ++ l) (ap (code_bits w) (take-add j k t) ∙ code_bits_append (take j t) (take k (drop j t)))
+      ∙ sym (append_assoc (bits_of v start) (code_bits w (take j t)) rest) in
+      sym (take_at own (bits_of m run) n (length-bits_of n (run / 2 ^ m)))
       ∙ ap (take n) both
       ∙ take_at front rest n
-      (length-append (bits_of v start) (codeBits w (take j t)) ∙ ap₂ (λ (x y : ℕ). x + y) (length-bitsOf v start)
-      (length-codeBits (take j t) ∙ ap (λ (x : ℕ). w * x) (length-take-le j t (omega arith))))
+      (length-append (bits_of v start) (code_bits w (take j t)) ∙ ap₂ (λ (x y : ℕ). x + y) (length-bits_of v start)
+      (length-code_bits (take j t) ∙ ap (λ (x : ℕ). w * x) (length-take-le j t (omega arith))))
 
   -- the codes of a list of which the first n are used
-  print-codes : (refuse : ℕ → ℕ) (m n : ℕ) (l : List ℕ) → length l ≡ m → (places (element w refuse) absent m n).print l ≡ codeBits w (take n l)
-  unfolding places cons nil element tested number absent codeBits
-  print-codes refuse zero n [] e = ap (codeBits w) (sym (take-nil n))
+  print-codes : (refuse : ℕ → ℕ) (m n : ℕ) (l : List ℕ) → length l ≡ m → (places (element w refuse) absent m n).print l ≡ code_bits w (take n l)
+  unfolding places cons nil element tested number absent code_bits
+  print-codes refuse zero n [] e = ap (code_bits w) (sym (take-nil n))
   print-codes refuse zero n (d ∷ l) e = absurd (omega arith)
   print-codes refuse (suc m) n [] e = absurd (omega arith)
   print-codes refuse (suc m) zero (d ∷ l) e = print-codes refuse m zero l (omega arith)
@@ -170,7 +170,7 @@ module _ (s : List ℕ) (at : ℕ) (long : at + 25 ≤ length s) (small : SmallN
   -- its length and the digits that stand with it, and the others
   pub number-front : (early late x : ℕ) → early ≡ min (word s at) 12 → early + late ≡ min (word s at) 24
       → CodesAfter 4 12 (word s at) (take 12 (drop (at + 1) s)) x
-      → external.print (number_at s at) ≡ bits_of (5 + 4 * early) (x / 2 ^ (48 - 4 * early)) ++ codeBits 4 (take late (drop (at + 13) s))
+      → external.print (number_at s at) ≡ bits_of (5 + 4 * early) (x / 2 ^ (48 - 4 * early)) ++ code_bits 4 (take late (drop (at + 13) s))
   unfolding external shaped seq element tested number bits_of
   number-front early late x he hl hx =
       let n : ℕ = word s at in
@@ -180,42 +180,42 @@ module _ (s : List ℕ) (at : ℕ) (long : at + 25 ≤ length s) (small : SmallN
       let later : drop 12 v ≡ w = drop-drop 12 (at + 1) s ∙ ap (λ (k : ℕ). drop k s) thirteen in
       let same : narrow n ≡ n = omega (arith, small.small.0) in
       let plain : narrowed (take 24 v) ≡ take 24 v = narrowed-small (take 24 v) small.small.1 in
-      let early-bits : bits_of (5 + 4 * early) (x / 2 ^ (48 - 4 * early)) ≡ bits_of 5 n ++ codeBits 4 (take early v) =
+      let early-bits : bits_of (5 + 4 * early) (x / 2 ^ (48 - 4 * early)) ≡ bits_of 5 n ++ code_bits 4 (take early v) =
       first-codes 4 12 (48 - 4 * early) v early n x (omega arith) (omega (arith, length-drop (at + 1) s)) (omega arith) hx 5
       in
       ap₂ (λ (a b : List Bool). a ++ b) (ap (bits_of 5) same)
       (print-codes 4 _ 24 (narrow n) (narrowed (take 24 v)) small.digits
-      ∙ ap (codeBits 4) (ap₂ (λ (k : ℕ) (l : List ℕ). take k l) same plain
+      ∙ ap (code_bits 4) (ap₂ (λ (k : ℕ) (l : List ℕ). take k l) same plain
       ∙ halves n early late v (omega (arith, length-drop (at + 1) s)) he hl ∙ ap (λ (l : List ℕ). take early v ++ take late l) later)
-      ∙ codeBits-append 4 (take early v) (take late w))
-      ∙ sym (append_assoc (bits_of 5 n) (codeBits 4 (take early v)) (codeBits 4 (take late w)))
-      ∙ ap (λ (l : List Bool). l ++ codeBits 4 (take late w)) (sym early-bits)
+      ∙ code_bits_append 4 (take early v) (take late w))
+      ∙ sym (append_assoc (bits_of 5 n) (code_bits 4 (take early v)) (code_bits 4 (take late w)))
+      ∙ ap (λ (l : List Bool). l ++ code_bits 4 (take late w)) (sym early-bits)
 
   -- the others, after k bits that stand before them
   pub number-rest : (k late x y : ℕ) → k ≤ 8 → late ≤ 12 → CodesAfter 4 12 (x % 256) (take 12 (drop (at + 13) s)) y
-      → bits_of (k + 4 * late) (y / 2 ^ (48 - 4 * late)) ≡ bits_of k x ++ codeBits 4 (take late (drop (at + 13) s))
+      → bits_of (k + 4 * late) (y / 2 ^ (48 - 4 * late)) ≡ bits_of k x ++ code_bits 4 (take late (drop (at + 13) s))
   number-rest k late x y few twelve hy =
       let w : List ℕ = drop (at + 13) s in
       first-codes 4 12 (48 - 4 * late) w late (x % 256) y twelve (omega (arith, length-drop (at + 13) s)) (omega arith) hy k
-      ∙ ap (λ (l : List Bool). l ++ codeBits 4 (take late w)) (low_bits k 8 x few)
+      ∙ ap (λ (l : List Bool). l ++ code_bits 4 (take late w)) (low_bits k 8 x few)
 
 -- ---- services
 
 -- a lead of k bits, the number of services, and as many of them
 pub services-run : (s : List ℕ) (at used k lead x : ℕ) → at + 8 ≤ length s → used ≡ min (word s at) 7
     → CodesAfter 3 7 (lead * 8 + word s at % 8) (take 7 (drop (at + 1) s)) x
-    → (seq (number k) (λ v. services)).print (lead, servicesAt s at) ≡ bits_of (k + 3 + 3 * used) (x / 2 ^ (21 - 3 * used))
+    → (seq (number k) (λ v. services)).print (lead, services_at s at) ≡ bits_of (k + 3 + 3 * used) (x / 2 ^ (21 - 3 * used))
 unfolding services shaped seq element tested number
 services-run s at used k lead x long few hx =
     let n : ℕ = word s at in
     let v : List ℕ = drop (at + 1) s in
-    let codes : List Bool = codeBits 3 (take used v) in
+    let codes : List Bool = code_bits 3 (take used v) in
     let full : length (take 7 v) ≡ 7 = length-take-le 7 v (omega (arith, length-drop (at + 1) s)) in
     ap (λ (l : List Bool). bits_of k lead ++ (bits_of 3 n ++ l))
     (print-codes 3 _ 7 n (take 7 v) full
-    ∙ ap (codeBits 3) (sym (take-used (take 7 v) n full few) ∙ take-take used 7 v (omega arith)))
+    ∙ ap (code_bits 3) (sym (take-used (take 7 v) n full few) ∙ take-take used 7 v (omega arith)))
     ∙ sym (append_assoc (bits_of k lead) (bits_of 3 n) codes)
-    ∙ ap (λ (l : List Bool). l ++ codes) (sym (bitsOf-join k 3 lead n))
+    ∙ ap (λ (l : List Bool). l ++ codes) (sym (bits_of-join k 3 lead n))
     ∙ sym (first-codes 3 7 (21 - 3 * used) v used (lead * 8 + n % 8) x (omega arith) (omega (arith, length-drop (at + 1) s)) (omega arith) hx
     (k + 3))
 

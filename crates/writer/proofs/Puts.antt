@@ -82,9 +82,9 @@ module _ (w : ℕ) (refuse : ℕ → ℕ) {v : ℕ} {s : List ℕ} {at : ℕ} wh
   unfolding element
   room-element h = room-test refuse (λ v. 0) h
 
-  pub put-element : {t : List ℕ} {m : ℕ} → Puts (number w) v s t at m → Puts (element w refuse) v s t at m
+  pub put_element : {t : List ℕ} {m : ℕ} → Puts (number w) v s t at m → Puts (element w refuse) v s t at m
   unfolding element
-  put-element p = put-test refuse (λ v. 0) p
+  put_element p = put-test refuse (λ v. 0) p
 
 -- ---- a part of no bits
 

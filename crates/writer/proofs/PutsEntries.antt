@@ -10,7 +10,7 @@ use Rattle.bits.specs.Lists.{Each}
 use Rattle.codec.specs.Codec.{Codec}
 use Rattle.codec.specs.Places.{cons, places}
 use Rattle.codec.proofs.Sizes.{Within, size-more, size-places}
-use Rattle.words.specs.RecordWords.{entriesFrom}
+use Rattle.words.specs.RecordWords.{entries_from}
 use Rattle.tally.proofs.Entries.{places-next, entries_next}
 use Rattle.writer.specs.Inner.{Room, Puts}
 use Rattle.writer.proofs.Puts.{left, right, join, put-none}
@@ -50,12 +50,12 @@ pub record Putting {A : Type 0} (c z : Codec A) (f : List ℕ → A) (k m n : �
   pub done : i ≤ n
   pub there : place ≡ from + k * i
   pub kept : length t ≡ length s
-  pub room : Room (places c z (m - i) (n - i)) (entriesFrom f k (m - i) (drop place words)) t at
-  pub rest : (u : List ℕ) (end : ℕ) → Puts (places c z (m - i) (n - i)) (entriesFrom f k (m - i) (drop place words)) t u at end
-      → Puts (places c z m n) (entriesFrom f k m (drop from words)) s u start end
+  pub room : Room (places c z (m - i) (n - i)) (entries_from f k (m - i) (drop place words)) t at
+  pub rest : (u : List ℕ) (end : ℕ) → Puts (places c z (m - i) (n - i)) (entries_from f k (m - i) (drop place words)) t u at end
+      → Puts (places c z m n) (entries_from f k m (drop from words)) s u start end
 
 module _ {A : Type 0} {c z : Codec A} {f : List ℕ → A} {k m n : ℕ} {words : List ℕ} {from : ℕ} {s : List ℕ} {start : ℕ} where
-  pub putting-start : Room (places c z m n) (entriesFrom f k m (drop from words)) s start → Putting c z f k m n words from s start 0 from s start
+  pub putting-start : Room (places c z m n) (entries_from f k m (drop from words)) s start → Putting c z f k m n words from s start 0 from s start
   putting-start h = record {
     done = omega arith;
     there = omega arith;
@@ -67,7 +67,7 @@ module _ {A : Type 0} {c z : Codec A} {f : List ℕ → A} {k m n : ℕ} {words 
   module _ {i place : ℕ} {t : List ℕ} {at : ℕ} (h : Putting c z f k m n words from s start i place t at) where
     module _ (inside : i < n) (few : n ≤ m) where
       here : Room (cons c (places c z (m - (i + 1)) (n - (i + 1))))
-          (f (drop place words) ∷ entriesFrom f k (m - (i + 1)) (drop (place + k) words)) t at
+          (f (drop place words) ∷ entries_from f k (m - (i + 1)) (drop (place + k) words)) t at
       here = rw (places-next c z m n i (omega arith) inside, entries_next f k m i words place (omega arith)) at h.room
 
       pub putting-room : Room c (f (drop place words)) t at
@@ -85,23 +85,23 @@ module _ {A : Type 0} {c z : Codec A} {f : List ℕ → A} {k m n : ℕ} {words 
       }
 
     -- after the last that is used
-    pub putting-done : Within 0 z → n ≤ i → Puts (places c z m n) (entriesFrom f k m (drop from words)) s t start at
+    pub putting-done : Within 0 z → n ≤ i → Puts (places c z m n) (entries_from f k m (drop from words)) s t start at
     putting-done none le =
         let last : n - i ≡ 0 = omega arith in
         h.rest t at (rw last (put-none (size-unused c z none (m - i))))
 
 -- what is so of every entry is so of the one at a place
 pub each-entry : {A : Type 0} (P : A → Type 0) (f : List ℕ → A) (k m i : ℕ) (w : List ℕ) (from : ℕ) {place : ℕ} → Each P
-    (entriesFrom f k m (drop from w)) → i < m
+    (entries_from f k m (drop from w)) → i < m
     → place ≡ from + k * i → P (f (drop place w))
-unfolding entriesFrom
+unfolding entries_from
 each-entry P f k zero i w from e h p = absurd (omega arith)
 each-entry P f k (suc m) zero w from e h p =
     let z : from ≡ from + k * 0 = omega arith in
     subst (λ (n : ℕ). P (f (drop n w))) (z ∙ sym p) e.0
 each-entry P f k (suc m) (suc i) w from {place} e h p =
     let z : place ≡ from + k + k * i = omega arith in
-    each-entry P f k m i w (from + k) (subst (λ (v : List ℕ). Each P (entriesFrom f k m v)) (drop-drop k from w) e.1) (omega arith) z
+    each-entry P f k m i w (from + k) (subst (λ (v : List ℕ). Each P (entries_from f k m v)) (drop-drop k from w) e.1) (omega arith) z
 
 -- how many are used, by an equation
 module _ {A : Type 0} (c z : Codec A) (m : ℕ) {n k : ℕ} {l : List A} {s : List ℕ} {at : ℕ} (e : n ≡ k) where

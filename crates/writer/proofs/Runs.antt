@@ -11,7 +11,7 @@ use lib.Seq.{take_at, take-take, drop_at, length-take-le}
 use borrow.Author.Tests.{eq-eqb, ne_eqb}
 use Rattle.bits.specs.Bits.{bits, bits_of}
 use Rattle.bits.proofs.Bytes.{length-bits}
-use Rattle.bits.proofs.Numbers.{length-bitsOf, bitsOf-add, bitsOf-mod, bitsOf-join}
+use Rattle.bits.proofs.Numbers.{length-bits_of, bits_of_add, bits_of_mod, bits_of-join}
 use Rattle.codec.specs.Codec.{Codec}
 use Rattle.codec.specs.Parts.{number, absent, seq, shaped}
 use Rattle.grammar.specs.Grammar.{identity, extension}
@@ -24,9 +24,9 @@ module _ {A : Type 0} {c : Codec A} {a : A} (w v : ℕ) (same : c.print a ≡ bi
   unfolding number
   room-run h = record { short = omega (arith, h.short, ap length same); fits = omega (arith, h.fits, ap length same) }
 
-  pub put-as-run : {t : List ℕ} {m : ℕ} → Puts (number w) v s t at m → Puts c a s t at m
+  pub put_as-run : {t : List ℕ} {m : ℕ} → Puts (number w) v s t at m → Puts c a s t at m
   unfolding number
-  put-as-run p = record {
+  put_as-run p = record {
     there = p.there ∙ ap (λ (l : List Bool). take at (bits s) ++ l) (sym same);
     next = p.next ∙ ap (λ (l : List Bool). at + length l) (sym same);
     kept = p.kept;
@@ -36,14 +36,14 @@ module _ {A : Type 0} {c : Codec A} {a : A} (w v : ℕ) (same : c.print a ≡ bi
 
 -- the low bits of a number are those of its remainder
 pub low_bits : (k n x : ℕ) → k ≤ n → bits_of k (x % 2 ^ n) ≡ bits_of k x
-low_bits k n x few = last (x % 2 ^ n) ∙ ap (drop (n - k)) (bitsOf-mod n x) ∙ sym (last x)
+low_bits k n x few = last (x % 2 ^ n) ∙ ap (drop (n - k)) (bits_of_mod n x) ∙ sym (last x)
   where
     last : (v : ℕ) → bits_of k v ≡ drop (n - k) (bits_of n v)
     last v =
         let j : ℕ = n - k in
         let all : j + k ≡ n = omega arith in
-        sym (drop_at (bits_of j (v / 2 ^ k)) (bits_of k v) j (length-bitsOf j (v / 2 ^ k)))
-        ∙ ap (drop j) (sym (bitsOf-add j k v) ∙ ap (λ (i : ℕ). bits_of i v) all)
+        sym (drop_at (bits_of j (v / 2 ^ k)) (bits_of k v) j (length-bits_of j (v / 2 ^ k)))
+        ∙ ap (drop j) (sym (bits_of_add j k v) ∙ ap (λ (i : ℕ). bits_of i v) all)
 
 -- a part whose bits are those of a number is put: they stand before the next place
 pub ended : {A : Type 0} {c : Codec A} {a : A} (w x : ℕ) {s t : List ℕ} {at m : ℕ} → c.print a ≡ bits_of w x → 8 ≤ w → Room c a s at
@@ -53,7 +53,7 @@ ended w x {s} {t} {at} {m} same wide h p k few =
     let all : w ≡ j + k = omega arith in
     let front : List Bool = take at (bits s) ++ bits_of j (x / 2 ^ k) in
     let whole : take m (bits t) ≡ front ++ bits_of k x =
-    p.there ∙ ap (λ (l : List Bool). take at (bits s) ++ l) (same ∙ ap (λ (i : ℕ). bits_of i x) all ∙ bitsOf-add j k x)
+    p.there ∙ ap (λ (l : List Bool). take at (bits s) ++ l) (same ∙ ap (λ (i : ℕ). bits_of i x) all ∙ bits_of_add j k x)
     ∙ sym (append_assoc (take at (bits s)) (bits_of j (x / 2 ^ k)) (bits_of k x))
     in
     let long : length front ≡ m - k =
@@ -61,7 +61,7 @@ ended w x {s} {t} {at} {m} same wide h p k few =
       arith,
       ap length whole,
       length-append front (bits_of k x),
-      length-bitsOf k x,
+      length-bits_of k x,
       length-take-le m (bits t) (omega (arith, h.fits, p.next, p.kept, length-bits t)),
     )
     in
@@ -80,7 +80,7 @@ after-bits c a k x w run few h = h k ∙ ap (λ (l : List Bool). l ++ c.print a)
 -- the k bits before a place and what follows them are one run, from k bits before it on
 module _ (t : List ℕ) (m x k n y : ℕ) (rest : List Bool) (over : bits_of (k + n) y ≡ bits_of k x ++ rest) where
   left-size : n ≡ length rest
-  left-size = omega (arith, ap length over, length-append (bits_of k x) rest, length-bitsOf k x, length-bitsOf (k + n) y)
+  left-size = omega (arith, ap length over, length-append (bits_of k x) rest, length-bits_of k x, length-bits_of (k + n) y)
 
   again-there : {u : List ℕ} {end : ℕ} → Ended t m x → k ≤ 8 → Puts (number (k + n)) y t u (m - k) end → take end (bits u) ≡ take m (bits t) ++ rest
   unfolding number
@@ -90,22 +90,22 @@ module _ (t : List ℕ) (m x k n y : ℕ) (rest : List Bool) (over : bits_of (k 
 
   again-next : {u : List ℕ} {end : ℕ} → k ≤ m → Puts (number (k + n)) y t u (m - k) end → end ≡ m + length rest
   unfolding number
-  again-next before q = omega (arith, q.next, left-size, length-bitsOf (k + n) y)
+  again-next before q = omega (arith, q.next, left-size, length-bits_of (k + n) y)
 
   again-room : k ≤ m → m + length rest ≤ 4096 → m + length rest ≤ 8 * length t → Room (number (k + n)) y t (m - k)
   unfolding number
   again-room before short fits = record {
-    short = omega (arith, left-size, length-bitsOf (k + n) y);
-    fits = omega (arith, left-size, length-bitsOf (k + n) y);
+    short = omega (arith, left-size, length-bits_of (k + n) y);
+    fits = omega (arith, left-size, length-bits_of (k + n) y);
   }
 
 -- a part after another one
 module _ {A : Type 0} {c : Codec A} {a : A} (t : List ℕ) (m x k n y : ℕ) (before : k ≤ m) (over : bits_of (k + n) y ≡ bits_of k x ++ c.print a) where
-  pub room-again : Room c a t m → Room (number (k + n)) y t (m - k)
-  room-again h = again-room t m x k n y (c.print a) over before h.short h.fits
+  pub room_again : Room c a t m → Room (number (k + n)) y t (m - k)
+  room_again h = again-room t m x k n y (c.print a) over before h.short h.fits
 
-  pub put-again : {u : List ℕ} {end : ℕ} → Ended t m x → k ≤ 8 → Puts (number (k + n)) y t u (m - k) end → Puts c a t u m end
-  put-again e few q = record {
+  pub put_again : {u : List ℕ} {end : ℕ} → Ended t m x → k ≤ 8 → Puts (number (k + n)) y t u (m - k) end → Puts c a t u m end
+  put_again e few q = record {
     there = again-there t m x k n y (c.print a) over e few q;
     next = again-next t m x k n y (c.print a) over before q;
     kept = q.kept;
@@ -115,16 +115,16 @@ module _ {A : Type 0} {c : Codec A} {a : A} (t : List ℕ) (m x k n y : ℕ) (be
 module _ {A : Type 0} {c : Codec A} {a : A} (w x : ℕ) (rest : List Bool) (same : c.print a ≡ bits_of w x ++ rest) {s : List ℕ} {at : ℕ}
     (h : Room c a s at) where
   size : length (c.print a) ≡ w + length rest
-  size = omega (arith, ap length same, length-append (bits_of w x) rest, length-bitsOf w x)
+  size = omega (arith, ap length same, length-append (bits_of w x) rest, length-bits_of w x)
 
   pub room-front : Room (number w) x s at
   unfolding number
-  room-front = record { short = omega (arith, h.short, size, length-bitsOf w x); fits = omega (arith, h.fits, size, length-bitsOf w x) }
+  room-front = record { short = omega (arith, h.short, size, length-bits_of w x); fits = omega (arith, h.fits, size, length-bits_of w x) }
 
   module _ {t : List ℕ} {m : ℕ} (p : Puts (number w) x s t at m) (k n y : ℕ) (wide : 8 ≤ w) (few : k ≤ 8) (over : bits_of (k + n) y ≡ bits_of k x ++ rest) where
     next_place : m ≡ at + w
     unfolding number
-    next_place = omega (arith, p.next, length-bitsOf w x)
+    next_place = omega (arith, p.next, length-bits_of w x)
 
     pub room-over : Room (number (k + n)) y t (m - k)
     room-over = again-room t m x k n y rest over (omega (arith, next_place)) (omega (arith, h.short, size, next_place))
@@ -151,8 +151,8 @@ module _ (e : Identity) (lead : ℕ) where
   head-run k =
       let size : k + 25 ≡ k + 24 + 1 = omega arith in
       ap (λ (n : ℕ). bits_of n headed) size
-      ∙ bitsOf-join (k + 24) 1 (lead * 16777216 + e.ssi % 16777216) e.present
-      ∙ ap (λ (l : List Bool). l ++ bits_of 1 e.present) (bitsOf-join k 24 lead e.ssi)
+      ∙ bits_of-join (k + 24) 1 (lead * 16777216 + e.ssi % 16777216) e.present
+      ∙ ap (λ (l : List Bool). l ++ bits_of 1 e.present) (bits_of-join k 24 lead e.ssi)
       ∙ append_assoc (bits_of k lead) (bits_of 24 e.ssi) (bits_of 1 e.present)
 
   pub plain-run : e.present ≢ 1 → RunAfter identity e lead 25 headed
@@ -168,7 +168,7 @@ module _ (e : Identity) (lead : ℕ) where
       let both : List Bool = bits_of 24 e.ssi ++ bits_of 1 e.present in
       rw (eq-eqb e.present 1 h)
       (ap (λ (n : ℕ). bits_of n (headed * 16777216 + e.extension % 16777216)) size
-      ∙ bitsOf-join (k + 25) 24 headed e.extension
+      ∙ bits_of-join (k + 25) 24 headed e.extension
       ∙ ap (λ (l : List Bool). l ++ bits_of 24 e.extension) (head-run k)
       ∙ append_assoc (bits_of k lead) both (bits_of 24 e.extension)
       ∙ ap (λ (l : List Bool). bits_of k lead ++ l) (append_assoc (bits_of 24 e.ssi) (bits_of 1 e.present) (bits_of 24 e.extension)))

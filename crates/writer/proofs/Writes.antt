@@ -8,17 +8,17 @@ use borrow.Author.Tests.{leb-true, eq-eqb}
 use lib.ListN.{length}
 use lib.Dec.{leb}
 use Rattle.bits.specs.Bits.{pick}
-use Rattle.bits.specs.Frame.{bytesFor}
+use Rattle.bits.specs.Frame.{bytes_for}
 use Rattle.bits.proofs.Tests.{never, both, picked}
 use Rattle.bits.specs.declared.BitCount.{BitCount}
 use Rattle.codec.specs.Codec.{first, Legal}
 use Rattle.codec.specs.Parts.{is_zero, first-none}
-use Rattle.grammar.specs.SiteSheet.{kindRefusal}
+use Rattle.grammar.specs.SiteSheet.{kind_refusal}
 use Rattle.grammar.specs.Grammar.{pdu}
-use Rattle.words.specs.RecordWords.{recordWords, putRecord}
+use Rattle.words.specs.RecordWords.{record_words, put_record}
 use Rattle.words.specs.Sized.{SizedRecord}
 use Rattle.words.proofs.RecordInverse.{record-long, record-back}
-use Rattle.writer.specs.Write.{recordRefusal, length_of, writeRefusal, written, writeIs, outIs, writeWordsIs, writeWordsOut}
+use Rattle.writer.specs.Write.{record_refusal, length_of, write_refusal, written, write_is, out_is, write_words_is, write_words_out}
 use Rattle.grammar.specs.declared.record.Record.{Record}
 use Rattle.writer.specs.declared.Written.TheVariants.{Bits, Refused}
 
@@ -27,32 +27,32 @@ not-zero zero h = absurd (h refl)
 not-zero (suc v) h = refl
 
 module _ (r : Record) (room : ℕ) where
-  pub other-kind : (kindRefusal r.kind ≡ 0 → ⊥) → writeRefusal r room ≡ 3
-  unfolding writeRefusal recordRefusal
-  other-kind h = rw (not-zero (kindRefusal r.kind) h)
+  pub other-kind : (kind_refusal r.kind ≡ 0 → ⊥) → write_refusal r room ≡ 3
+  unfolding write_refusal record_refusal
+  other-kind h = rw (not-zero (kind_refusal r.kind) h)
 
-  pub not-clean : pdu.clean r ≡ false → writeRefusal r room ≡ 3
-  unfolding writeRefusal recordRefusal
-  not-clean e = rw (e, and-false (is_zero (kindRefusal r.kind)))
+  pub not-clean : pdu.clean r ≡ false → write_refusal r room ≡ 3
+  unfolding write_refusal record_refusal
+  not-clean e = rw (e, and-false (is_zero (kind_refusal r.kind)))
 
-  pub then-fault : kindRefusal r.kind ≡ 0 → pdu.clean r ≡ true → writeRefusal r room ≡ first (pdu.fault r)
-      (pick (leb (bytesFor (length_of r)) room) 0 8)
-  unfolding writeRefusal recordRefusal
+  pub then-fault : kind_refusal r.kind ≡ 0 → pdu.clean r ≡ true → write_refusal r room ≡ first (pdu.fault r)
+      (pick (leb (bytes_for (length_of r)) room) 0 8)
+  unfolding write_refusal record_refusal
   then-fault kind clean = rw (kind, clean)
 
   -- what is not refused has room
-  pub has_room : writeRefusal r room ≡ 0 → bytesFor (length_of r) ≤ room
-  unfolding writeRefusal
+  pub has_room : write_refusal r room ≡ 0 → bytes_for (length_of r) ≤ room
+  unfolding write_refusal
   has_room e =
-      let fits = leb (bytesFor (length_of r)) room in
-      leb-true (bytesFor (length_of r)) room (picked fits (first-none (recordRefusal r) (pick fits 0 8) e).1 (λ x. omega arith)).0
+      let fits = leb (bytes_for (length_of r)) room in
+      leb-true (bytes_for (length_of r)) room (picked fits (first-none (record_refusal r) (pick fits 0 8) e).1 (λ x. omega arith)).0
 
   -- and is legal
-  pub is-legal : writeRefusal r room ≡ 0 → Legal pdu r
-  unfolding writeRefusal recordRefusal
+  pub is-legal : write_refusal r room ≡ 0 → Legal pdu r
+  unfolding write_refusal record_refusal
   is-legal e =
-      let kind = is_zero (kindRefusal r.kind) in
-      let h = picked (kind && pdu.clean r) (first-none (recordRefusal r) (pick (leb (bytesFor (length_of r)) room) 0 8) e).0 (λ x. omega arith) in
+      let kind = is_zero (kind_refusal r.kind) in
+      let h = picked (kind && pdu.clean r) (first-none (record_refusal r) (pick (leb (bytes_for (length_of r)) room) 0 8) e).0 (λ x. omega arith) in
       record { clean = (both kind (pdu.clean r) h.0).1; faultless = h.1 }
 
 -- ---- the answer of a refusal number
@@ -79,15 +79,15 @@ bits-length bits (suc n) e = never cc
 
 -- ---- a record by its words
 
-module _ (r : Record) (sized : SizedRecord r) {words : List ℕ} (spelt : words ≡ recordWords r) (out : List ℕ) where
-  pub answer_back : writeWordsIs words out ≡ writeIs r out
-  unfolding writeWordsIs
-  answer_back = rw (spelt, eq-eqb (length (recordWords r)) 520 (record-long r sized), record-back r sized)
+module _ (r : Record) (sized : SizedRecord r) {words : List ℕ} (spelt : words ≡ record_words r) (out : List ℕ) where
+  pub answer_back : write_words_is words out ≡ write_is r out
+  unfolding write_words_is
+  answer_back = rw (spelt, eq-eqb (length (record_words r)) 520 (record-long r sized), record-back r sized)
 
-  pub out-back : writeWordsOut words out ≡ outIs r out
-  unfolding writeWordsOut
-  out-back = rw (spelt, eq-eqb (length (recordWords r)) 520 (record-long r sized), record-back r sized)
+  pub out-back : write_words_out words out ≡ out_is r out
+  unfolding write_words_out
+  out-back = rw (spelt, eq-eqb (length (record_words r)) 520 (record-long r sized), record-back r sized)
 
-pub put-spelt : (r : Record) (words : List ℕ) → length words ≡ 520 → putRecord r words ≡ recordWords r
-unfolding putRecord
+pub put-spelt : (r : Record) (words : List ℕ) → length words ≡ 520 → put_record r words ≡ record_words r
+unfolding put_record
 put-spelt r words e = rw (eq-eqb (length words) 520 e)

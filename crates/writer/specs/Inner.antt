@@ -5,7 +5,7 @@ use Rattle.bits.specs.Lists.{Each}
 use Rattle.codec.specs.Codec.{Codec}
 use Rattle.codec.specs.Parts.{seq}
 use Rattle.grammar.specs.Grammar.{part_of}
-use Rattle.grammar.specs.Rows.{partIn, figuresOf, servicesOf}
+use Rattle.grammar.specs.Rows.{part_in, figures_of, services_of}
 use Rattle.grammar.specs.declared.site.PduType.{PduType}
 use Rattle.grammar.specs.declared.record.Figures.{Figures}
 use Rattle.grammar.specs.declared.record.Services.{Services}
@@ -28,13 +28,13 @@ abbrev pub Small : Lists → Type 0
 Small l = Each SmallNumber l.numbers.entries × Each SmallNumber l.excepted.entries
 
 -- the bits of codes, w each
-unfoldable pub codeBits : ℕ → List ℕ → List Bool
-codeBits w [] = []
-codeBits w (d ∷ l) = bits_of w d ++ codeBits w l
+unfoldable pub code_bits : ℕ → List ℕ → List Bool
+code_bits w [] = []
+code_bits w (d ∷ l) = bits_of w d ++ code_bits w l
 
 -- a number that is another with n codes of w bits after it, whatever the width of that one
 abbrev pub CodesAfter : ℕ → ℕ → ℕ → List ℕ → ℕ → Type 0
-CodesAfter w n start codes run = (v : ℕ) → bits_of (v + w * n) run ≡ bits_of v start ++ codeBits w codes
+CodesAfter w n start codes run = (v : ℕ) → bits_of (v + w * n) run ≡ bits_of v start ++ code_bits w codes
 
 -- a number of w bits that is the part a of c, after another number, whatever the width of that one
 abbrev pub RunAfter : {A : Type 0} → Codec A → A → ℕ → ℕ → ℕ → Type 0
@@ -46,4 +46,4 @@ Ended out at last = (k : ℕ) → k ≤ 8 → take at (bits out) ≡ take (at - 
 
 -- what follows the affected users in a PDU of a type
 abbrev pub figured : PduType → Codec (Figures × (Services × Lists))
-figured t = seq (figuresOf t) (λ f. seq (servicesOf t) (λ s. part_of (partIn t f)))
+figured t = seq (figures_of t) (λ f. seq (services_of t) (λ s. part_of (part_in t f)))

@@ -4,11 +4,11 @@ mod put;
 
 ghost use Rattle.std.specs.Prelude.{◌≡◌, ◌++◌, ◌≤◌, length, drop, leb};
 ghost use Rattle.bits.specs.Bits.{pick};
-ghost use Rattle.bits.specs.Frame.{bytesFor, pack};
+ghost use Rattle.bits.specs.Frame.{bytes_for, pack};
 ghost use Rattle.grammar.specs.Grammar.{pdu};
-ghost use Rattle.words.specs.RecordWords.{recordFrom};
+ghost use Rattle.words.specs.RecordWords.{record_from};
 ghost use Rattle.writer.specs.Inner.{Small};
-ghost use Rattle.writer.specs.Write.{length_of, writeRefusal, written, writeIs, outIs, writeWordsIs, writeWordsOut};
+ghost use Rattle.writer.specs.Write.{length_of, write_refusal, written, write_is, out_is, write_words_is, write_words_out};
 
 use crate::put::put_record;
 use bits::BitCount;
@@ -27,7 +27,7 @@ pub enum Written {
 
 // The length in bits, or the refusal number; the bytes of the PDU, and all after them as they were.
 pub fn write(r: Record, out: &mut [u8]) -> Written
-    ensures { (result ≡ writeIs r out.old) × (out.new ≡ outIs r out.old) }
+    ensures { (result ≡ write_is r out.old) × (out.new ≡ out_is r out.old) }
 {
     let mut spelt = [0u32; RECORD_WORDS];
     record::put_record(&mut spelt, r);
@@ -36,7 +36,7 @@ pub fn write(r: Record, out: &mut [u8]) -> Written
 
 // The same for a record in 520 words; another number of words gives 9.
 pub fn write_words(words: &[u32], out: &mut [u8]) -> Written
-    ensures { (result ≡ writeWordsIs words.now out.old) × (out.new ≡ writeWordsOut words.now out.old) }
+    ensures { (result ≡ write_words_is words.now out.old) × (out.new ≡ write_words_out words.now out.old) }
 {
     if words.len() != RECORD_WORDS {
         return Written::Refused(9);
@@ -52,7 +52,7 @@ pub fn write_words(words: &[u32], out: &mut [u8]) -> Written
 // The answer for a buffer of `room` bytes: 3 for a PDU type that we do not read or for what must be zero and is not; then the first fault; then 8.
 fn checked(words: &[u32], room: usize) -> Written
     requires { length words.now ≡ 520 }
-    ensures { result ≡ written (length_of (recordFrom words.now)) (writeRefusal (recordFrom words.now) room) }
+    ensures { result ≡ written (length_of (record_from words.now)) (write_refusal (record_from words.now) room) }
 {
     let kind = words[0];
     if kind_refusal(kind) != 0 {
@@ -76,15 +76,15 @@ fn checked(words: &[u32], room: usize) -> Written
 
 // 8 for a buffer that has not the bytes which hold a PDU of this length.
 fn room_refusal(room: usize, length: BitCount) -> u32
-    ensures { result ≡ pick (leb (bytesFor length.0) room) 0 8 }
+    ensures { result ≡ pick (leb (bytes_for length.0) room) 0 8 }
 {
     if length.bytes() <= room { 0 } else { 8 }
 }
 
 // Straight into the PDU's own bytes: the first of the buffer are lent on, exactly as many as hold it.
 fn fill(out: &mut [u8], words: &[u32], n: BitCount)
-    requires { (length words.now ≡ 520) × Small (recordFrom words.now).lists × (bytesFor (length_of (recordFrom words.now)) ≤ length out.old) × (n.0 ≡ length_of (recordFrom words.now)) }
-    ensures { out.new ≡ pack (pdu.print (recordFrom words.now)) ++ drop (bytesFor (length_of (recordFrom words.now))) out.old }
+    requires { (length words.now ≡ 520) × Small (record_from words.now).lists × (bytes_for (length_of (record_from words.now)) ≤ length out.old) × (n.0 ≡ length_of (record_from words.now)) }
+    ensures { out.new ≡ pack (pdu.print (record_from words.now)) ++ drop (bytes_for (length_of (record_from words.now))) out.old }
 {
     let count = n.bytes();
     fill_bytes(&mut out[..count], words);
@@ -92,8 +92,8 @@ fn fill(out: &mut [u8], words: &[u32], n: BitCount)
 
 // The record's elements in exactly the bytes that hold them, and zeros in the unused bits of the last.
 fn fill_bytes(place: &mut [u8], words: &[u32])
-    requires { (length words.now ≡ 520) × Small (recordFrom words.now).lists × (length place.old ≡ bytesFor (length_of (recordFrom words.now))) }
-    ensures { place.new ≡ pack (pdu.print (recordFrom words.now)) }
+    requires { (length words.now ≡ 520) × Small (record_from words.now).lists × (length place.old ≡ bytes_for (length_of (record_from words.now))) }
+    ensures { place.new ≡ pack (pdu.print (record_from words.now)) }
 {
     let end = put_record(place, words);
     bits::lay(place, end, 8 * place.len() - end, 0);

@@ -3,12 +3,12 @@ ghost use Rattle.std.specs.Prelude.{◌≡◌, ℕ, ◌+◌, ◌*◌, ◌^◌, �
 ghost use Rattle.bits.specs.Lists.{Each};
 ghost use Rattle.codec.specs.Parts.{number, seq};
 ghost use Rattle.codec.specs.Places.{places};
-ghost use Rattle.grammar.specs.SiteSheet.{entriesOf};
-ghost use Rattle.grammar.specs.Grammar.{identity, noIdentity, identities, external, noExternal, externals, services};
-ghost use Rattle.grammar.specs.Grammar.{identityPart, numberPart, part_of, fromRecord, pdu};
-ghost use Rattle.grammar.specs.Rows.{formOf, usersIf};
+ghost use Rattle.grammar.specs.SiteSheet.{entries_of};
+ghost use Rattle.grammar.specs.Grammar.{identity, no_identity, identities, external, no_external, externals, services};
+ghost use Rattle.grammar.specs.Grammar.{identity_part, number_part, part_of, from_record, pdu};
+ghost use Rattle.grammar.specs.Rows.{form_of, users_if};
 ghost use Rattle.grammar.specs.declared.site.ListKind.TheVariants as of;
-ghost use Rattle.words.specs.RecordWords.{entriesFrom, identityFrom, identitiesFrom, numberFrom, numbersFrom, servicesFrom, listsFrom, recordFrom};
+ghost use Rattle.words.specs.RecordWords.{entries_from, identity_from, identities_from, number_from, numbers_from, services_from, lists_from, record_from};
 ghost use Rattle.words.proofs.LegalRecords.{SmallNumber};
 ghost use Rattle.writer.specs.Inner.{Room, Puts, Small, CodesAfter, RunAfter, Ended, figured};
 
@@ -72,7 +72,7 @@ fn with_twelve(start: u64, words: &[u32], from: usize) -> u64
 
 // The entries that follow a range type, by its meaning.
 fn entries_of(code: u32) -> usize
-    ensures { result ≡ entriesOf code }
+    ensures { result ≡ entries_of code }
 {
     match range_type(code) {
         RangeType::Empty => 0,
@@ -101,7 +101,7 @@ struct Step {
 // SSI, extension present, and the extension exactly if that is 1.
 fn identity_run(lead: u64, words: &[u32], from: usize) -> Run
     requires { (lead < 256) × (from + 3 ≤ length words.now) }
-    ensures { (8 ≤ result.width) × (result.width ≤ 49) × RunAfter identity (identityFrom (drop from words.now)) lead result.width result.bits }
+    ensures { (8 ≤ result.width) × (result.width ≤ 49) × RunAfter identity (identity_from (drop from words.now)) lead result.width result.bits }
 {
     let ssi = words[from];
     let present = words[from + 1];
@@ -121,8 +121,8 @@ fn identity_run(lead: u64, words: &[u32], from: usize) -> Run
 
 // The first identity of a list.
 fn put_identity(out: &mut [u8], at: usize, words: &[u32], from: usize) -> Step
-    requires { (from + 3 ≤ length words.now) × Room identity (identityFrom (drop from words.now)) out.old at }
-    ensures { Puts identity (identityFrom (drop from words.now)) out.old out.new at result.at × Ended out.new result.at result.last }
+    requires { (from + 3 ≤ length words.now) × Room identity (identity_from (drop from words.now)) out.old at }
+    ensures { Puts identity (identity_from (drop from words.now)) out.old out.new at result.at × Ended out.new result.at result.last }
 {
     let run = identity_run(0, words, from);
     let last = run.bits;
@@ -132,8 +132,8 @@ fn put_identity(out: &mut [u8], at: usize, words: &[u32], from: usize) -> Step
 
 // Another: from the byte on in which the one before it ends, whose last bits are put again. So no byte is read back that was just stored.
 fn put_next_identity(out: &mut [u8], step: Step, words: &[u32], from: usize) -> Step
-    requires { (from + 3 ≤ length words.now) × Ended out.old step.at step.last × Room identity (identityFrom (drop from words.now)) out.old step.at }
-    ensures { Puts identity (identityFrom (drop from words.now)) out.old out.new step.at result.at × Ended out.new result.at result.last }
+    requires { (from + 3 ≤ length words.now) × Ended out.old step.at step.last × Room identity (identity_from (drop from words.now)) out.old step.at }
+    ensures { Puts identity (identity_from (drop from words.now)) out.old out.new step.at result.at × Ended out.new result.at result.last }
 {
     let at = step.at;
     let again = at % 8;
@@ -145,8 +145,8 @@ fn put_next_identity(out: &mut [u8], step: Step, words: &[u32], from: usize) -> 
 
 // The first n of seven entries that follow another.
 fn put_next_identities(out: &mut [u8], step: Step, words: &[u32], from: usize, n: usize) -> usize
-    requires { (from + 21 ≤ length words.now) × (n ≤ 7) × Ended out.old step.at step.last × Room (places identity noIdentity 7 n) (entriesFrom identityFrom 3 7 (drop from words.now)) out.old step.at }
-    ensures { Puts (places identity noIdentity 7 n) (entriesFrom identityFrom 3 7 (drop from words.now)) out.old out.new step.at result }
+    requires { (from + 21 ≤ length words.now) × (n ≤ 7) × Ended out.old step.at step.last × Room (places identity no_identity 7 n) (entries_from identity_from 3 7 (drop from words.now)) out.old step.at }
+    ensures { Puts (places identity no_identity 7 n) (entries_from identity_from 3 7 (drop from words.now)) out.old out.new step.at result }
 {
     let mut next = step;
     let mut place = from;
@@ -161,8 +161,8 @@ fn put_next_identities(out: &mut [u8], step: Step, words: &[u32], from: usize, n
 
 // The first n of eight entries.
 fn put_identity_entries(out: &mut [u8], at: usize, words: &[u32], from: usize, n: usize) -> usize
-    requires { (from + 24 ≤ length words.now) × (n ≤ 8) × Room (places identity noIdentity 8 n) (entriesFrom identityFrom 3 8 (drop from words.now)) out.old at }
-    ensures { Puts (places identity noIdentity 8 n) (entriesFrom identityFrom 3 8 (drop from words.now)) out.old out.new at result }
+    requires { (from + 24 ≤ length words.now) × (n ≤ 8) × Room (places identity no_identity 8 n) (entries_from identity_from 3 8 (drop from words.now)) out.old at }
+    ensures { Puts (places identity no_identity 8 n) (entries_from identity_from 3 8 (drop from words.now)) out.old out.new at result }
 {
     if n == 0 {
         return at;
@@ -173,8 +173,8 @@ fn put_identity_entries(out: &mut [u8], at: usize, words: &[u32], from: usize, n
 
 // The range type, and as many entries as it says.
 fn put_identities(out: &mut [u8], at: usize, words: &[u32], from: usize) -> usize
-    requires { (from + 25 ≤ length words.now) × Room (identities of.Identities) (identitiesFrom (drop from words.now)) out.old at }
-    ensures { Puts (identities of.Identities) (identitiesFrom (drop from words.now)) out.old out.new at result }
+    requires { (from + 25 ≤ length words.now) × Room (identities of.Identities) (identities_from (drop from words.now)) out.old at }
+    ensures { Puts (identities of.Identities) (identities_from (drop from words.now)) out.old out.new at result }
 {
     let code = words[from];
     let count = entries_of(code);
@@ -187,8 +187,8 @@ fn put_identities(out: &mut [u8], at: usize, words: &[u32], from: usize) -> usiz
 // The length, and as many digits: up to twelve with it, and up to twelve more. Those begin at the byte in which the first run ends: its last
 // bits are put again, so that no byte is read back that was just stored.
 fn put_number(out: &mut [u8], at: usize, words: &[u32], from: usize) -> usize
-    requires { (from + 25 ≤ length words.now) × SmallNumber (numberFrom (drop from words.now)) × Room external (numberFrom (drop from words.now)) out.old at }
-    ensures { Puts external (numberFrom (drop from words.now)) out.old out.new at result }
+    requires { (from + 25 ≤ length words.now) × SmallNumber (number_from (drop from words.now)) × Room external (number_from (drop from words.now)) out.old at }
+    ensures { Puts external (number_from (drop from words.now)) out.old out.new at result }
 {
     let count = words[from];
     let early = bits::least(count as usize, 12);
@@ -207,8 +207,8 @@ fn put_number(out: &mut [u8], at: usize, words: &[u32], from: usize) -> usize
 
 // The first n of eight entries.
 fn put_number_entries(out: &mut [u8], at: usize, words: &[u32], from: usize, n: usize) -> usize
-    requires { (from + 200 ≤ length words.now) × (n ≤ 8) × Each SmallNumber (entriesFrom numberFrom 25 8 (drop from words.now)) × Room (places external noExternal 8 n) (entriesFrom numberFrom 25 8 (drop from words.now)) out.old at }
-    ensures { Puts (places external noExternal 8 n) (entriesFrom numberFrom 25 8 (drop from words.now)) out.old out.new at result }
+    requires { (from + 200 ≤ length words.now) × (n ≤ 8) × Each SmallNumber (entries_from number_from 25 8 (drop from words.now)) × Room (places external no_external 8 n) (entries_from number_from 25 8 (drop from words.now)) out.old at }
+    ensures { Puts (places external no_external 8 n) (entries_from number_from 25 8 (drop from words.now)) out.old out.new at result }
 {
     let mut next = at;
     let mut place = from;
@@ -223,8 +223,8 @@ fn put_number_entries(out: &mut [u8], at: usize, words: &[u32], from: usize, n: 
 
 // The range type, and as many numbers as it says.
 fn put_numbers(out: &mut [u8], at: usize, words: &[u32], from: usize) -> usize
-    requires { (from + 201 ≤ length words.now) × Each SmallNumber (numbersFrom (drop from words.now)).entries × Room externals (numbersFrom (drop from words.now)) out.old at }
-    ensures { Puts externals (numbersFrom (drop from words.now)) out.old out.new at result }
+    requires { (from + 201 ≤ length words.now) × Each SmallNumber (numbers_from (drop from words.now)).entries × Room externals (numbers_from (drop from words.now)) out.old at }
+    ensures { Puts externals (numbers_from (drop from words.now)) out.old out.new at result }
 {
     let code = words[from];
     let count = entries_of(code);
@@ -243,8 +243,8 @@ fn put_services(
     words: &[u32],
     from: usize,
 ) -> usize
-    requires { (lead < 32) × (width ≤ 5) × (from + 8 ≤ length words.now) × Room (seq (number width) (λ x. services)) (lead, servicesFrom (drop from words.now)) out.old at }
-    ensures { Puts (seq (number width) (λ x. services)) (lead, servicesFrom (drop from words.now)) out.old out.new at result }
+    requires { (lead < 32) × (width ≤ 5) × (from + 8 ≤ length words.now) × Room (seq (number width) (λ x. services)) (lead, services_from (drop from words.now)) out.old at }
+    ensures { Puts (seq (number width) (λ x. services)) (lead, services_from (drop from words.now)) out.old out.new at result }
 {
     let count = words[from];
     let used_bits = 3 * bits::least(count as usize, 7);
@@ -257,8 +257,8 @@ fn put_services(
 
 // Part 1: TETRA identities.
 fn put_identity_part(out: &mut [u8], at: usize, words: &[u32], from: usize) -> usize
-    requires { (from + 477 ≤ length words.now) × Room identityPart (listsFrom (drop from words.now)) out.old at }
-    ensures { Puts identityPart (listsFrom (drop from words.now)) out.old out.new at result }
+    requires { (from + 477 ≤ length words.now) × Room identity_part (lists_from (drop from words.now)) out.old at }
+    ensures { Puts identity_part (lists_from (drop from words.now)) out.old out.new at result }
 {
     let after_groups = put_identities(out, at, words, from);
     let after_restricted = put_identities(out, after_groups, words, from + 25);
@@ -267,8 +267,8 @@ fn put_identity_part(out: &mut [u8], at: usize, words: &[u32], from: usize) -> u
 
 // Part 2: external subscriber numbers.
 fn put_number_part(out: &mut [u8], at: usize, words: &[u32], from: usize) -> usize
-    requires { (from + 477 ≤ length words.now) × Small (listsFrom (drop from words.now)) × Room numberPart (listsFrom (drop from words.now)) out.old at }
-    ensures { Puts numberPart (listsFrom (drop from words.now)) out.old out.new at result }
+    requires { (from + 477 ≤ length words.now) × Small (lists_from (drop from words.now)) × Room number_part (lists_from (drop from words.now)) out.old at }
+    ensures { Puts number_part (lists_from (drop from words.now)) out.old out.new at result }
 {
     let after_groups = put_identities(out, at, words, from);
     let after_numbers = put_numbers(out, after_groups, words, from + 75);
@@ -277,8 +277,8 @@ fn put_number_part(out: &mut [u8], at: usize, words: &[u32], from: usize) -> usi
 
 // The part of this number; any other has no lists.
 fn put_part(out: &mut [u8], at: usize, part: u32, words: &[u32], from: usize) -> usize
-    requires { (from + 477 ≤ length words.now) × Small (listsFrom (drop from words.now)) × Room (part_of part) (listsFrom (drop from words.now)) out.old at }
-    ensures { Puts (part_of part) (listsFrom (drop from words.now)) out.old out.new at result }
+    requires { (from + 477 ≤ length words.now) × Small (lists_from (drop from words.now)) × Room (part_of part) (lists_from (drop from words.now)) out.old at }
+    ensures { Puts (part_of part) (lists_from (drop from words.now)) out.old out.new at result }
 {
     if part == 1 {
         return put_identity_part(out, at, words, from);
@@ -293,8 +293,8 @@ fn put_part(out: &mut [u8], at: usize, part: u32, words: &[u32], from: usize) ->
 
 // The affected users, where the PDU has them.
 fn put_users(out: &mut [u8], at: usize, users: bool, words: &[u32]) -> usize
-    requires { (length words.now ≡ 520) × Room (usersIf users) (identitiesFrom (drop 1 words.now)) out.old at }
-    ensures { Puts (usersIf users) (identitiesFrom (drop 1 words.now)) out.old out.new at result }
+    requires { (length words.now ≡ 520) × Room (users_if users) (identities_from (drop 1 words.now)) out.old at }
+    ensures { Puts (users_if users) (identities_from (drop 1 words.now)) out.old out.new at result }
 {
     if users {
         return put_identities(out, at, words, 1);
@@ -304,8 +304,8 @@ fn put_users(out: &mut [u8], at: usize, users: bool, words: &[u32]) -> usize
 
 // What follows the affected users in a PDU of a type; figures and services are one run.
 fn put_figured(out: &mut [u8], at: usize, kind: PduType, form: Form, words: &[u32]) -> usize
-    requires { (length words.now ≡ 520) × (form ≡ formOf kind) × Small (recordFrom words.now).lists × Room (figured kind) (fromRecord (recordFrom words.now)).1.1 out.old at }
-    ensures { Puts (figured kind) (fromRecord (recordFrom words.now)).1.1 out.old out.new at result }
+    requires { (length words.now ≡ 520) × (form ≡ form_of kind) × Small (record_from words.now).lists × Room (figured kind) (from_record (record_from words.now)).1.1 out.old at }
+    ensures { Puts (figured kind) (from_record (record_from words.now)).1.1 out.old out.new at result }
 {
     let figures = figures_from(words);
     let run = figures_run(kind, figures);
@@ -320,8 +320,8 @@ fn put_figured(out: &mut [u8], at: usize, kind: PduType, form: Form, words: &[u3
 
 // The whole record, from the first bit on: SS type, PDU type, affected users, and what follows them.
 pub(crate) fn put_record(out: &mut [u8], words: &[u32]) -> usize
-    requires { (length words.now ≡ 520) × Small (recordFrom words.now).lists × Room pdu (recordFrom words.now) out.old 0 }
-    ensures { Puts pdu (recordFrom words.now) out.old out.new 0 result }
+    requires { (length words.now ≡ 520) × Small (record_from words.now).lists × Room pdu (record_from words.now) out.old 0 }
+    ensures { Puts pdu (record_from words.now) out.old out.new 0 result }
 {
     let code = words[0];
     let kind = pdu_type(code);

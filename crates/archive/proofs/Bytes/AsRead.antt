@@ -8,9 +8,9 @@ use native.Mathlib.Omega.{arith}
 use lib.ListN.{length, get_or, take, drop, length-drop, take-append-drop}
 use lib.Seq.{drop-cons, drop-drop, take-add, take_all}
 use Rattle.bits.specs.Bits.{Bytes}
-use Rattle.archive.specs.Model.{headerWidth, entryWidth, bytes2, bytes3, headerBytes, entryBytes, contentsOf, bodiesOf, bytes_of, sizes}
-use Rattle.archive.specs.Reading.{number3, count_of, entryAt, size_at, heldFrom, bodiesAt, heldIn, reading, isArchive}
-use Rattle.archive.proofs.Bytes.Walking.{length-heldFrom}
+use Rattle.archive.specs.Model.{header_width, entry_width, bytes2, bytes3, header_bytes, entry_bytes, contents_of, bodies_of, bytes_of, sizes}
+use Rattle.archive.specs.Reading.{number3, count_of, entry_at, size_at, held_from, bodies_at, held_in, reading, is_archive}
+use Rattle.archive.proofs.Bytes.Walking.{length-held_from}
 use Rattle.archive.proofs.Bytes.Checking.{sound}
 
 -- ---- numbers in bytes
@@ -29,12 +29,12 @@ bytes3-number {x} {y} {z} hy hz =
     λ i. p i ∷ q i ∷ r i ∷ []
 
 -- n bytes from place `at + k` on, one by one
-bytesFrom : List ℕ → ℕ → ℕ → ℕ → List ℕ
-bytesFrom b at k zero = []
-bytesFrom b at k (suc n) = get_or b (at + k) 0 ∷ bytesFrom b at (suc k) n
+bytes_from : List ℕ → ℕ → ℕ → ℕ → List ℕ
+bytes_from b at k zero = []
+bytes_from b at k (suc n) = get_or b (at + k) 0 ∷ bytes_from b at (suc k) n
 
-bytes-from : (b : List ℕ) (at n k : ℕ) → at + k + n ≤ length b → bytesFrom b at k n ≡ take n (drop (at + k) b)
-unfolding bytesFrom
+bytes-from : (b : List ℕ) (at n k : ℕ) → at + k + n ≤ length b → bytes_from b at k n ≡ take n (drop (at + k) b)
+unfolding bytes_from
 bytes-from b at zero k h = refl
 bytes-from b at (suc n) k h =
     let e : at + suc k ≡ suc (at + k) = omega arith in
@@ -43,63 +43,63 @@ bytes-from b at (suc n) k h =
 
 -- ---- what passes is written as it was read
 
-entry_read : (b : List ℕ) (at : ℕ) → Bytes b → at + entryWidth ≤ length b → entryBytes (entryAt b at) ≡ take entryWidth (drop at b)
-unfolding entryBytes bytesFrom
+entry_read : (b : List ℕ) (at : ℕ) → Bytes b → at + entry_width ≤ length b → entry_bytes (entry_at b at) ≡ take entry_width (drop at b)
+unfolding entry_bytes bytes_from
 entry_read b at y h =
     let z : at + 0 ≡ at = omega arith in
     let n₁ = bytes3-number {x = get_or b at 0} (y (at + 1)) (y (at + 2)) in
     let n₂ = bytes3-number {x = get_or b (at + 3) 0} (y (at + 3 + 1)) (y (at + 3 + 2)) in
     let n₃ = bytes2-number {x = get_or b (at + 7) 0} (y (at + 7 + 1)) in
     let n₄ = bytes2-number {x = get_or b (at + 9) 0} (y (at + 9 + 1)) in
-    let r : entryBytes (entryAt b at) ≡ bytesFrom b at 0 entryWidth =
+    let r : entry_bytes (entry_at b at) ≡ bytes_from b at 0 entry_width =
     (λ i. n₁ i ++ (n₂ i ++ (get_or b (at + 6) 0 ∷ (n₃ i ++ n₄ i))))
     ∙ rw (z, add_assoc at 3 1, add_assoc at 3 2, add_assoc at 7 1, add_assoc at 9 1)
     in
-    r ∙ bytes-from b at entryWidth 0 (omega arith) ∙ ap (λ (j : ℕ). take entryWidth (drop j b)) z
+    r ∙ bytes-from b at entry_width 0 (omega arith) ∙ ap (λ (j : ℕ). take entry_width (drop j b)) z
 
-header_read : (b : List ℕ) → Bytes b → headerWidth ≤ length b → headerBytes (number3 b 0) (count_of b) ≡ take headerWidth b
-unfolding headerBytes bytesFrom
+header_read : (b : List ℕ) → Bytes b → header_width ≤ length b → header_bytes (number3 b 0) (count_of b) ≡ take header_width b
+unfolding header_bytes bytes_from
 header_read b y h =
     let n₁ = bytes3-number {x = get_or b 0 0} (y 1) (y 2) in
     let n₂ = bytes2-number {x = get_or b 3 0} (y 4) in
-    (λ i. n₁ i ++ n₂ i) ∙ bytes-from b 0 headerWidth 0 h
+    (λ i. n₁ i ++ n₂ i) ∙ bytes-from b 0 header_width 0 h
 
-contents-read : (b : List ℕ) (n at off : ℕ) → Bytes b → at + entryWidth * n ≤ length b
-    → contentsOf (heldFrom b n at off) ≡ take (entryWidth * n) (drop at b)
-unfolding heldFrom
+contents-read : (b : List ℕ) (n at off : ℕ) → Bytes b → at + entry_width * n ≤ length b
+    → contents_of (held_from b n at off) ≡ take (entry_width * n) (drop at b)
+unfolding held_from
 contents-read b zero at off y h = refl
 contents-read b (suc n) at off y h =
-    let e : entryWidth * suc n ≡ entryWidth + entryWidth * n = omega arith in
+    let e : entry_width * suc n ≡ entry_width + entry_width * n = omega arith in
     let p = entry_read b at y (omega arith) in
-    let q = contents-read b n (at + entryWidth) (off + size_at b at) y (omega arith) in
-    let r : contentsOf (heldFrom b (suc n) at off) ≡ take entryWidth (drop at b) ++ take (entryWidth * n) (drop (at + entryWidth) b) =
+    let q = contents-read b n (at + entry_width) (off + size_at b at) y (omega arith) in
+    let r : contents_of (held_from b (suc n) at off) ≡ take entry_width (drop at b) ++ take (entry_width * n) (drop (at + entry_width) b) =
     λ i. p i ++ q i in
-    r ∙ rw (e, take-add entryWidth (entryWidth * n) (drop at b), drop-drop)
+    r ∙ rw (e, take-add entry_width (entry_width * n) (drop at b), drop-drop)
 
-bodies-read : (b : List ℕ) (n at off : ℕ) → bodiesOf (heldFrom b n at off) ≡ take (sizes (heldFrom b n at off)) (drop off b)
-unfolding heldFrom
+bodies-read : (b : List ℕ) (n at off : ℕ) → bodies_of (held_from b n at off) ≡ take (sizes (held_from b n at off)) (drop off b)
+unfolding held_from
 bodies-read b zero at off = refl
 bodies-read b (suc n) at off =
     let m = size_at b at in
-    rw (bodies-read b n (at + entryWidth) (off + m), take-add m (sizes (heldFrom b n (at + entryWidth) (off + m))) (drop off b), drop-drop)
+    rw (bodies-read b n (at + entry_width) (off + m), take-add m (sizes (held_from b n (at + entry_width) (off + m))) (drop off b), drop-drop)
 
 -- bytes that pass the check are the bytes of the archive that they say
-pub written-as-read : (b : List ℕ) → Bytes b → isArchive b ≡ true → bytes_of (reading b) ≡ b
+pub written_as-read : (b : List ℕ) → Bytes b → is_archive b ≡ true → bytes_of (reading b) ≡ b
 unfolding reading
-written-as-read b y ok =
+written_as-read b y ok =
     let s = sound b ok in
     let n = count_of b in
-    let w : bodiesAt b + sizes (heldIn b) ≡ length b = s.whole in
-    let e₁ : headerBytes (number3 b 0) (length (heldIn b)) ≡ take headerWidth b =
-    ap (headerBytes (number3 b 0)) (length-heldFrom b n headerWidth (bodiesAt b)) ∙ header_read b y (omega arith)
+    let w : bodies_at b + sizes (held_in b) ≡ length b = s.whole in
+    let e₁ : header_bytes (number3 b 0) (length (held_in b)) ≡ take header_width b =
+    ap (header_bytes (number3 b 0)) (length-held_from b n header_width (bodies_at b)) ∙ header_read b y (omega arith)
     in
-    let e₂ : contentsOf (heldIn b) ≡ take (entryWidth * n) (drop headerWidth b) = contents-read b n headerWidth (bodiesAt b) y (omega arith) in
-    let e₃ : bodiesOf (heldIn b) ≡ drop (entryWidth * n) (drop headerWidth b) =
-    bodies-read b n headerWidth (bodiesAt b)
-    ∙ take_all (sizes (heldIn b)) (drop (bodiesAt b) b) (simp length-drop (omega arith))
-    ∙ sym (drop-drop (entryWidth * n) headerWidth b)
+    let e₂ : contents_of (held_in b) ≡ take (entry_width * n) (drop header_width b) = contents-read b n header_width (bodies_at b) y (omega arith) in
+    let e₃ : bodies_of (held_in b) ≡ drop (entry_width * n) (drop header_width b) =
+    bodies-read b n header_width (bodies_at b)
+    ∙ take_all (sizes (held_in b)) (drop (bodies_at b) b) (simp length-drop (omega arith))
+    ∙ sym (drop-drop (entry_width * n) header_width b)
     in
-    let r : bytes_of (reading b) ≡ take headerWidth b ++ (take (entryWidth * n) (drop headerWidth b) ++ drop (entryWidth * n) (drop headerWidth b)) =
+    let r : bytes_of (reading b) ≡ take header_width b ++ (take (entry_width * n) (drop header_width b) ++ drop (entry_width * n) (drop header_width b)) =
     λ i. e₁ i ++ (e₂ i ++ e₃ i)
     in
-    r ∙ rw (take-append-drop (entryWidth * n) (drop headerWidth b), take-append-drop headerWidth b)
+    r ∙ rw (take-append-drop (entry_width * n) (drop header_width b), take-append-drop header_width b)

@@ -11,9 +11,9 @@ use Rattle.bits.specs.Bits.{splice}
 use Rattle.bits.specs.Inner.{Laid}
 use Rattle.bits.proofs.Lists.{length_part}
 use Rattle.bits.proofs.Splices.{splice_at}
-use Rattle.archive.specs.Model.{headerWidth, entryWidth, headerBytes, entryBytes}
+use Rattle.archive.specs.Model.{header_width, entry_width, header_bytes, entry_bytes}
 use Rattle.archive.specs.Keeping.{over}
-use Rattle.archive.specs.Inner.{next_at, rest_at, Within, frontOf, backOf, spliced, splicedLength}
+use Rattle.archive.specs.Inner.{next_at, rest_at, Within, front_of, back_of, spliced, spliced_length}
 use Rattle.archive.specs.declared.checking.Place.{Place}
 use Rattle.archive.specs.declared.contents.Entry.{Entry}
 
@@ -37,15 +37,15 @@ pub lent : (out s : List ℕ) (at : ℕ) {s' : List ℕ} → s' ≡ s
     → Laid out at s (take at out ++ (s' ++ drop (at + length s - at) (drop at out))) (at + length s)
 lent out s at e = record { ends = refl; same = rw (e, add-sub_cancel_left, drop-drop) }
 
-pub length_front : (b : List ℕ) (at count : ℕ) (e : Entry) → headerWidth ≤ at → at ≤ length b → length (frontOf b at count e) ≡ at + entryWidth
-unfolding frontOf headerBytes entryBytes
+pub length_front : (b : List ℕ) (at count : ℕ) (e : Entry) → header_width ≤ at → at ≤ length b → length (front_of b at count e) ≡ at + entry_width
+unfolding front_of header_bytes entry_bytes
 length_front b at count e h k =
-    let l : length (take (at - headerWidth) (drop headerWidth b)) ≡ at - headerWidth = length_part b headerWidth (at - headerWidth) (omega arith) in
+    let l : length (take (at - header_width) (drop header_width b)) ≡ at - header_width = length_part b header_width (at - header_width) (omega arith) in
     simp (length-append, l) (omega arith)
 
 pub length-spliced : (b : List ℕ) (p : Place) (count : ℕ) (e : Entry) (body : List ℕ) → Within p b
-    → length (spliced b p count e body) ≡ splicedLength b p (length body)
-unfolding backOf
+    → length (spliced b p count e body) ≡ spliced_length b p (length body)
+unfolding back_of
 length-spliced b p count e body w =
     let l₁ : length (take (p.off - next_at p) (drop (next_at p) b)) ≡ p.off - next_at p =
     length_part b (next_at p) (p.off - next_at p) (omega (arith, w.contents, w.bodies)) in
@@ -59,9 +59,9 @@ pub at_front : {out s out' : List ℕ} {end : ℕ} → Laid out 0 s out' end →
 at_front {out} {s} x = (x.ends ∙ zero-add (length s), x.same ∙ ap (λ (k : ℕ). s ++ drop k out) (zero-add (length s)))
 
 -- a part laid before one that was laid first
-pub before-it : {out out' out'' s t : List ℕ} {at m end : ℕ} → at + length (s ++ t) ≤ length out
+pub before_it : {out out' out'' s t : List ℕ} {at m end : ℕ} → at + length (s ++ t) ≤ length out
     → Laid out (at + length s) t out' end → Laid out' at s out'' m → Laid out at (s ++ t) out'' end
-before-it {out} {s = s} {t = t} {at = at} h x y =
+before_it {out} {s = s} {t = t} {at = at} h x y =
     let n : length (s ++ t) ≡ length s + length t = length-append s t in
     let mid : List ℕ = take (length s) (drop at out) in
     let rest : List ℕ = drop (at + length s + length t) out in

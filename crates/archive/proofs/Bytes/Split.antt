@@ -6,8 +6,8 @@ use Prim.Native.Nat.{ℕ, ◌+◌, ◌*◌}
 use native.Mathlib.Omega.{arith}
 use lib.ListN.{length}
 use lib.Dec.{ltb, eqb}
-use Rattle.bits.specs.Frame.{bytesFor}
-use Rattle.archive.specs.Model.{Held, rank, entryWidth, entryBytes, contentsOf, bodiesOf, bodySize, sizes}
+use Rattle.bits.specs.Frame.{bytes_for}
+use Rattle.archive.specs.Model.{Held, rank, entry_width, entry_bytes, contents_of, bodies_of, body_size, sizes}
 use Rattle.archive.specs.Keeping.{put}
 use Rattle.archive.specs.Inner.{seek}
 use Rattle.archive.specs.declared.checking.Place.{Place}
@@ -21,10 +21,10 @@ pub record Split (key at off : ℕ) (hs : List Held) (p : Place) : Type 0 where
   pub mid : List Held
   pub post : List Held
   pub is : hs ≡ pre ++ (mid ++ post)
-  pub at-is : p.at ≡ at + entryWidth * length pre
+  pub at-is : p.at ≡ at + entry_width * length pre
   pub off-is : p.off ≡ off + sizes pre
   pub entries-is : p.entries ≡ length mid
-  pub bits_is : bytesFor p.bits.0 ≡ sizes mid
+  pub bits_is : bytes_for p.bits.0 ≡ sizes mid
   pub put_is : (h : Held) → rank h ≡ key → put h hs ≡ pre ++ (h ∷ post)
 
 pub split : (key at off : ℕ) (hs : List Held) → Split key at off hs (seek key at off hs)
@@ -42,10 +42,10 @@ split key at off [] =
       put_is =
           λ h e. refl;
     }
-split key at off (x ∷ xs) = go (ltb (rank x) key) refl (eqb (rank x) key) refl (split key (at + entryWidth) (off + bodySize x) xs)
+split key at off (x ∷ xs) = go (ltb (rank x) key) refl (eqb (rank x) key) refl (split key (at + entry_width) (off + body_size x) xs)
   where
     go : (p : Bool) → ltb (rank x) key ≡ p → (q : Bool) → eqb (rank x) key ≡ q
-        → Split key (at + entryWidth) (off + bodySize x) xs (seek key (at + entryWidth) (off + bodySize x) xs)
+        → Split key (at + entry_width) (off + body_size x) xs (seek key (at + entry_width) (off + body_size x) xs)
         → Split key at off (x ∷ xs) (seek key at off (x ∷ xs))
     go true hp q hq s =
         rw hp
@@ -89,14 +89,14 @@ split key at off (x ∷ xs) = go (ltb (rank x) key) refl (eqb (rank x) key) refl
 
 -- ---- joined lists
 
-pub contents-join : (xs ys : List Held) → contentsOf (xs ++ ys) ≡ contentsOf xs ++ contentsOf ys
+pub contents-join : (xs ys : List Held) → contents_of (xs ++ ys) ≡ contents_of xs ++ contents_of ys
 contents-join [] ys = refl
 contents-join (x ∷ xs) ys =
-    ap (λ (l : List ℕ). entryBytes x.entry ++ l) (contents-join xs ys) ∙ sym (append_assoc (entryBytes x.entry) (contentsOf xs) (contentsOf ys))
+    ap (λ (l : List ℕ). entry_bytes x.entry ++ l) (contents-join xs ys) ∙ sym (append_assoc (entry_bytes x.entry) (contents_of xs) (contents_of ys))
 
-pub bodies-join : (xs ys : List Held) → bodiesOf (xs ++ ys) ≡ bodiesOf xs ++ bodiesOf ys
+pub bodies-join : (xs ys : List Held) → bodies_of (xs ++ ys) ≡ bodies_of xs ++ bodies_of ys
 bodies-join [] ys = refl
-bodies-join (x ∷ xs) ys = ap (λ (l : List ℕ). x.body ++ l) (bodies-join xs ys) ∙ sym (append_assoc x.body (bodiesOf xs) (bodiesOf ys))
+bodies-join (x ∷ xs) ys = ap (λ (l : List ℕ). x.body ++ l) (bodies-join xs ys) ∙ sym (append_assoc x.body (bodies_of xs) (bodies_of ys))
 
 pub sizes-join : (xs ys : List Held) → sizes (xs ++ ys) ≡ sizes xs + sizes ys
 sizes-join [] ys = omega arith

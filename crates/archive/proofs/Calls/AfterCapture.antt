@@ -7,14 +7,14 @@ use Prim.Native.Nat.{ℕ, ◌≤◌}
 use lib.ListN.{length, take}
 use borrow.Author.Tests.{le-leb}
 use Rattle.bits.specs.Bits.{pick}
-use Rattle.bits.specs.Frame.{bytesFor}
-use Rattle.reader.specs.Read.{readIs}
+use Rattle.bits.specs.Frame.{bytes_for}
+use Rattle.reader.specs.Read.{read_is}
 use Rattle.archive.specs.Model.{Held, Archive, length_of, in_range}
-use Rattle.archive.specs.Filing.{sameKey}
-use Rattle.archive.specs.Reading.{reading, isArchive}
+use Rattle.archive.specs.Filing.{same_key}
+use Rattle.archive.specs.Reading.{reading, is_archive}
 use Rattle.archive.specs.Refusals.{plain}
-use Rattle.archive.specs.Keeping.{over, heldFor, captured, captureIs, captureOut}
-use Rattle.archive.specs.Restoring.{lookup, delivered, body_of, restoreIs, restoreOut}
+use Rattle.archive.specs.Keeping.{over, held_for, captured, capture_is, capture_out}
+use Rattle.archive.specs.Restoring.{lookup, delivered, body_of, restore_is, restore_out}
 use Rattle.archive.specs.Inner.{KeyFits}
 use Rattle.archive.specs.declared.Stored.TheVariants.{Bytes}
 use Rattle.archive.specs.declared.Restored.TheVariants as restored
@@ -25,26 +25,26 @@ use Rattle.archive.proofs.Bytes.AsWritten.{length-written}
 use Rattle.archive.proofs.Calls.Restore.{as-delivered, restore-leaves}
 use Rattle.archive.proofs.Calls.Capture.{home_fits, offered-agrees}
 use Rattle.archive.proofs.Model.Put.{lookup-put}
-use Rattle.archive.proofs.Model.Keys.{is-same-key, ranged, in-range, rank-names}
+use Rattle.archive.proofs.Model.Keys.{is-same_key, ranged, in-range, rank-names}
 
 -- after an accepted capture
 
-module _ (b s : List ℕ) (n day m : ℕ) (lent : List ℕ) (e : captureIs b s n day (length lent) ≡ Bytes m) where
+module _ (b s : List ℕ) (n day m : ℕ) (lent : List ℕ) (e : capture_is b s n day (length lent) ≡ Bytes m) where
   -- what the captured PDU is held as, its user and part, and the archive that was written
   abbrev held : Held
-  held = heldFor (reading b).home s n day
+  held = held_for (reading b).home s n day
 
   abbrev pub key : Key
   key = held.entry.key
 
   abbrev pub new : List ℕ
-  new = take m (captureOut b s n day lent)
+  new = take m (capture_out b s n day lent)
 
   t : Taken b s n day (length lent) m
   t = taken b s n day (length lent) m e
 
-  pub new-archive : isArchive new ≡ true
-  new-archive = ap isArchive (written b s n day m lent e) ∙ captured-archive b s n day (length lent) m t
+  pub new-archive : is_archive new ≡ true
+  new-archive = ap is_archive (written b s n day m lent e) ∙ captured-archive b s n day (length lent) m t
 
   pub new-reads : reading new ≡ captured b s n day
   new-reads = ap reading (written b s n day m lent e) ∙ captured-reads b s n day (length lent) m t
@@ -60,14 +60,14 @@ module _ (b s : List ℕ) (n day m : ℕ) (lent : List ℕ) (e : captureIs b s n
   fit : KeyFits key
   fit = key_fits (reading b).home held (home_fits b t.archive) (offered-agrees (reading b).home s n day t.accepted t.may)
 
-  in-its-range : in_range key ≡ true
-  in-its-range =
-      let p = part-is (readIs s n).found t.may in
+  in_its-range : in_range key ≡ true
+  in_its-range =
+      let p = part-is (read_is s n).found t.may in
       in-range key fit.network fit.ssi p.0 p.1
 
   -- what is held for a user and part
   pub held_after : (k : Key) → in_range k ≡ true
-      → lookup k (reading new).held ≡ pick (sameKey key k) (some held) (lookup k (reading b).held)
+      → lookup k (reading new).held ≡ pick (same_key key k) (some held) (lookup k (reading b).held)
   unfolding captured
   held_after k r =
       ap (λ (a : Archive). lookup k a.held) new-reads
@@ -76,16 +76,16 @@ module _ (b s : List ℕ) (n day m : ℕ) (lent : List ℕ) (e : captureIs b s n
       (rank-names key k fit (ranged k r))
 
   -- restore gives exactly the captured bits and the day for that user and part
-  pub restore-captured : (out : List ℕ) → bytesFor n ≤ length out
-      → (restoreIs new key (length out) ≡ restored.Bits (record { 0 = n }) day) × (restoreOut new key out ≡ over s out)
+  pub restore-captured : (out : List ℕ) → bytes_for n ≤ length out
+      → (restore_is new key (length out) ≡ restored.Bits (record { 0 = n }) day) × (restore_out new key out ≡ over s out)
   restore-captured out h =
-      let r = in-its-range in
+      let r = in_its-range in
       let l : lookup key (reading new).held ≡ some held =
-      held_after key r ∙ ap (λ (p : Bool). pick p (some held) (lookup key (reading b).held)) (is-same-key key key refl)
+      held_after key r ∙ ap (λ (p : Bool). pick p (some held) (lookup key (reading b).held)) (is-same_key key key refl)
       in
-      let x : restoreIs new key (length out) ≡ restored.Bits (record { 0 = n }) day =
+      let x : restore_is new key (length out) ≡ restored.Bits (record { 0 = n }) day =
       as-delivered new key (length out) r new-archive
       ∙ ap (λ (z : Option Held). delivered z (length out)) l
-      ∙ ap (λ (p : Bool). pick p (restored.Bits (record { 0 = n }) day) (restored.Refused (plain 8))) (le-leb (bytesFor n) (length out) h)
+      ∙ ap (λ (p : Bool). pick p (restored.Bits (record { 0 = n }) day) (restored.Refused (plain 8))) (le-leb (bytes_for n) (length out) h)
       in
       (x, restore-leaves new key out x ∙ ap (λ (z : Option Held). over (body_of z) out) l)

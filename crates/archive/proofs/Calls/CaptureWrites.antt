@@ -9,60 +9,60 @@ use lib.Seq.{take_at}
 use lib.Dec.{leb}
 use borrow.Author.Tests.{leb-true, ltb-true}
 use Rattle.bits.proofs.Tests.{never, both, picked}
-use Rattle.reader.specs.Read.{readIs}
+use Rattle.reader.specs.Read.{read_is}
 use Rattle.reader.specs.declared.Answer.{Answer}
 use Rattle.reader.specs.declared.Answer.TheVariants as reader
-use Rattle.judging.specs.Judge.{mayHold}
-use Rattle.archive.specs.Model.{Archive, isDay, bytes_of, length_of, withinLimits}
-use Rattle.archive.specs.Filing.{wellFormed}
-use Rattle.archive.specs.Reading.{reading, isArchive}
-use Rattle.archive.specs.Checking.{checkIs, ifArchive}
+use Rattle.judging.specs.Judge.{may_hold}
+use Rattle.archive.specs.Model.{Archive, is_day, bytes_of, length_of, within_limits}
+use Rattle.archive.specs.Filing.{well_formed}
+use Rattle.archive.specs.Reading.{reading, is_archive}
+use Rattle.archive.specs.Checking.{check_is, if_archive}
 use Rattle.archive.specs.declared.checking.Checked.{Checked}
 use Rattle.archive.specs.declared.checking.Checked.TheVariants as checked
-use Rattle.archive.specs.Keeping.{heldFor, captured, ifAccepted, placed, captureIs, captureOut}
+use Rattle.archive.specs.Keeping.{held_for, captured, if_accepted, placed, capture_is, capture_out}
 use Rattle.archive.specs.declared.Stored.{Stored}
 use Rattle.archive.specs.declared.Stored.TheVariants.{Bytes, Refused}
 use Rattle.archive.proofs.Model.Bodies.{agrees-is, part-is}
 use Rattle.archive.proofs.Model.Rules.{archive-formed, is-formed}
 use Rattle.archive.proofs.Model.Checked.{checked-archive}
-use Rattle.archive.proofs.Bytes.AsWritten.{length-written, read-as-written, passes}
+use Rattle.archive.proofs.Bytes.AsWritten.{length-written, read-as_written, passes}
 use Rattle.archive.proofs.Model.Put.{rules-put}
 use Rattle.archive.proofs.Calls.Capture.{offered-agrees, capture-leaves}
 
 -- what an accepted capture says
 pub record Taken (b s : List ℕ) (n day room m : ℕ) : Type 0 where
   pub dated : day < 65536
-  pub archive : isArchive b ≡ true
-  pub accepted : (readIs s n).answer ≡ reader.Accepted
-  pub may : mayHold (readIs s n).found ≡ true
-  pub limits : withinLimits (length (captured b s n day).held) (length_of (captured b s n day)) ≡ true
+  pub archive : is_archive b ≡ true
+  pub accepted : (read_is s n).answer ≡ reader.Accepted
+  pub may : may_hold (read_is s n).found ≡ true
+  pub limits : within_limits (length (captured b s n day).held) (length_of (captured b s n day)) ≡ true
   pub fits : length_of (captured b s n day) ≤ room
   pub size : m ≡ length_of (captured b s n day)
 
 was-placed : (a : Archive) (room m : ℕ) → placed a room ≡ Bytes m
-    → (withinLimits (length a.held) (length_of a) ≡ true) × (length_of a ≤ room) × (m ≡ length_of a)
+    → (within_limits (length a.held) (length_of a) ≡ true) × (length_of a ≤ room) × (m ≡ length_of a)
 unfolding placed
 was-placed a room m e =
-    let within = withinLimits (length a.held) (length_of a) in
+    let within = within_limits (length a.held) (length_of a) in
     let p = picked (within && leb (length_of a) room) e (λ x. never cc) in
     let q = both within (leb (length_of a) room) p.0 in
     (q.0, leb-true (length_of a) room q.1, cc p.1)
 
-if-accepted : (a : Answer) {r : Stored} {m : ℕ} → ifAccepted a r ≡ Bytes m → (a ≡ reader.Accepted) × (r ≡ Bytes m)
+if-accepted : (a : Answer) {r : Stored} {m : ℕ} → if_accepted a r ≡ Bytes m → (a ≡ reader.Accepted) × (r ≡ Bytes m)
 if-accepted reader.Accepted e = (refl, e)
 if-accepted (reader.Refused f) e = never cc
 
-if-archive : (c : Checked) {r : Stored} {m : ℕ} → ifArchive c Refused r ≡ Bytes m → (c ≡ checked.Archive) × (r ≡ Bytes m)
+if-archive : (c : Checked) {r : Stored} {m : ℕ} → if_archive c Refused r ≡ Bytes m → (c ≡ checked.Archive) × (r ≡ Bytes m)
 if-archive checked.Archive e = (refl, e)
 if-archive (checked.Refused f) e = never cc
 
-pub taken : (b s : List ℕ) (n day room m : ℕ) → captureIs b s n day room ≡ Bytes m → Taken b s n day room m
-unfolding captureIs
+pub taken : (b s : List ℕ) (n day room m : ℕ) → capture_is b s n day room ≡ Bytes m → Taken b s n day room m
+unfolding capture_is
 taken b s n day room m e =
-    let d = picked (isDay day) e (λ x. never cc) in
-    let p = if-archive (checkIs b) d.1 in
-    let a = if-accepted (readIs s n).answer p.1 in
-    let q = picked (mayHold (readIs s n).found) a.1 (λ x. never cc) in
+    let d = picked (is_day day) e (λ x. never cc) in
+    let p = if-archive (check_is b) d.1 in
+    let a = if-accepted (read_is s n).answer p.1 in
+    let q = picked (may_hold (read_is s n).found) a.1 (λ x. never cc) in
     let r = was-placed (captured b s n day) room m q.1 in
     record {
       dated = ltb-true day 65536 d.0;
@@ -75,15 +75,15 @@ taken b s n day room m e =
     }
 
 module _ (b s : List ℕ) (n day room m : ℕ) (t : Taken b s n day room m) where
-  pub captured-formed : wellFormed (captured b s n day) ≡ true
+  pub captured-formed : well_formed (captured b s n day) ≡ true
   unfolding captured
   captured-formed =
       let home = (reading b).home in
-      let h = heldFor home s n day in
+      let h = held_for home s n day in
       let f = archive-formed b t.archive in
       let a = agrees-is home h (offered-agrees home s n day t.accepted t.may) in
       let l = both (leb (length (captured b s n day).held) 512) (leb (length_of (captured b s n day)) 65536) t.limits in
-      let part = part-is (readIs s n).found t.may in
+      let part = part-is (read_is s n).found t.may in
       is-formed (captured b s n day)
       (record {
         home = f.home;
@@ -92,15 +92,15 @@ module _ (b s : List ℕ) (n day room m : ℕ) (t : Taken b s n day room m) wher
         rules = rules-put home 0 h (reading b).held t.dated a (omega (arith, part.0)) f.rules;
       })
 
-  pub captured-archive : isArchive (bytes_of (captured b s n day)) ≡ true
+  pub captured-archive : is_archive (bytes_of (captured b s n day)) ≡ true
   captured-archive = passes (captured b s n day) captured-formed
 
   pub captured-reads : reading (bytes_of (captured b s n day)) ≡ captured b s n day
-  captured-reads = read-as-written (captured b s n day) captured-formed
+  captured-reads = read-as_written (captured b s n day) captured-formed
 
 -- the written part of the lent buffer is the archive with the PDU
-pub written : (b s : List ℕ) (n day m : ℕ) (out : List ℕ) → captureIs b s n day (length out) ≡ Bytes m
-    → take m (captureOut b s n day out) ≡ bytes_of (captured b s n day)
+pub written : (b s : List ℕ) (n day m : ℕ) (out : List ℕ) → capture_is b s n day (length out) ≡ Bytes m
+    → take m (capture_out b s n day out) ≡ bytes_of (captured b s n day)
 written b s n day m out e =
     let t = taken b s n day (length out) m e in
     let w = bytes_of (captured b s n day) in

@@ -9,21 +9,21 @@ use lib.Dec.{ltb, eqb}
 use borrow.Author.Tests.{ltb-true}
 use Rattle.bits.specs.Bits.{pick}
 use Rattle.bits.proofs.Tests.{differ, never, and-false}
-use Rattle.walk.specs.Walk.{walkIs}
+use Rattle.walk.specs.Walk.{walk_is}
 use Rattle.walk.specs.declared.BitPlace.{BitPlace}
 use Rattle.walk.specs.declared.BitPlace.TheVariants.{Nowhere}
 use Rattle.walk.specs.declared.Head.{Head}
 use Rattle.walk.specs.declared.Refusal as pdu
 use Rattle.walk.specs.declared.Walked.TheVariants as walked
-use Rattle.reader.specs.Read.{refusalOf, readIs}
+use Rattle.reader.specs.Read.{refusal_of, read_is}
 use Rattle.reader.specs.declared.Answer.{Answer}
 use Rattle.reader.proofs.Walked.{answer_of, same_answer}
-use Rattle.archive.specs.Model.{Held, rank, in_range, isDay, length_of, withinLimits}
-use Rattle.archive.specs.Filing.{agrees, bodyAgrees, keepsRules, wellFormed}
-use Rattle.archive.specs.Reading.{reading, isArchive}
-use Rattle.archive.specs.Refusals.{plain, ofBody}
-use Rattle.archive.specs.Checking.{inOrder, hasShape, bodyPlace, bodiesFrom, checkIs}
-use Rattle.archive.specs.Inner.{filingUnder, agreementIs}
+use Rattle.archive.specs.Model.{Held, rank, in_range, is_day, length_of, within_limits}
+use Rattle.archive.specs.Filing.{agrees, body_agrees, keeps_rules, well_formed}
+use Rattle.archive.specs.Reading.{reading, is_archive}
+use Rattle.archive.specs.Refusals.{plain, of_body}
+use Rattle.archive.specs.Checking.{in_order, has_shape, body_place, bodies_from, check_is}
+use Rattle.archive.specs.Inner.{filing_under, agreement_is}
 use Rattle.archive.specs.declared.contents.Key.{Key}
 use Rattle.archive.specs.declared.checking.Checked.{Checked}
 use Rattle.archive.specs.declared.checking.Checked.TheVariants.{Archive, Refused}
@@ -38,39 +38,39 @@ is_yes (Refused f) = false
 -- ---- one body
 
 module _ (home : ℕ) (h : Held) where
-  pub agreed : agreementIs home h ≡ Agrees → bodyAgrees home h ≡ true
-  unfolding agreementIs
-  agreed = go (bodyAgrees home h)
+  pub agreed : agreement_is home h ≡ Agrees → body_agrees home h ≡ true
+  unfolding agreement_is
+  agreed = go (body_agrees home h)
     where
-      go : (t : Bool) → pick t Agrees (Fault (bodyPlace h)) ≡ Agrees → t ≡ true
+      go : (t : Bool) → pick t Agrees (Fault (body_place h)) ≡ Agrees → t ≡ true
       go true e = refl
       go false e = never cc
 
-  pub faulty : {p : BitPlace} → agreementIs home h ≡ Fault p → (bodyAgrees home h ≡ false) × (bodyPlace h ≡ p)
-  unfolding agreementIs
-  faulty {p} = go (bodyAgrees home h)
+  pub faulty : {p : BitPlace} → agreement_is home h ≡ Fault p → (body_agrees home h ≡ false) × (body_place h ≡ p)
+  unfolding agreement_is
+  faulty {p} = go (body_agrees home h)
     where
-      go : (t : Bool) → pick t Agrees (Fault (bodyPlace h)) ≡ Fault p → (t ≡ false) × (bodyPlace h ≡ p)
+      go : (t : Bool) → pick t Agrees (Fault (body_place h)) ≡ Fault p → (t ≡ false) × (body_place h ≡ p)
       go true e = never cc
       go false e = (refl, cc)
 
   -- by the walk's answer
-  pub agreement-refused : {f : pdu.Refusal} → walkIs h.body h.entry.bits.0 ≡ walked.Refused f → agreementIs home h ≡ Fault f.place
-  unfolding agreementIs
+  pub agreement-refused : {f : pdu.Refusal} → walk_is h.body h.entry.bits.0 ≡ walked.Refused f → agreement_is home h ≡ Fault f.place
+  unfolding agreement_is
   agreement-refused w =
-      rw (body_refused home h w, ap (λ (a : Answer). (refusalOf a).place) (same_answer h.body h.entry.bits.0 ∙ ap answer_of w))
+      rw (body_refused home h w, ap (λ (a : Answer). (refusal_of a).place) (same_answer h.body h.entry.bits.0 ∙ ap answer_of w))
 
-  pub agreement-filed : {x : Head} → walkIs h.body h.entry.bits.0 ≡ walked.Accepted x
-      → agreementIs home h ≡ pick (agrees (filingUnder home x) h.entry.key) Agrees (Fault Nowhere)
-  unfolding agreementIs
-  agreement-filed w = rw (body-filed home h w, ap (λ (a : Answer). (refusalOf a).place) (walk-accepted h.body h.entry.bits.0 w))
+  pub agreement-filed : {x : Head} → walk_is h.body h.entry.bits.0 ≡ walked.Accepted x
+      → agreement_is home h ≡ pick (agrees (filing_under home x) h.entry.key) Agrees (Fault Nowhere)
+  unfolding agreement_is
+  agreement-filed w = rw (body-filed home h w, ap (λ (a : Answer). (refusal_of a).place) (walk-accepted h.body h.entry.bits.0 w))
 
   -- a body that agrees has a user and part in range
-  pub agrees-ranged : home < 16777216 → bodyAgrees home h ≡ true → in_range h.entry.key ≡ true
+  pub agrees-ranged : home < 16777216 → body_agrees home h ≡ true → in_range h.entry.key ≡ true
   agrees-ranged k e =
       let a = agrees-says home h e in
       let f = key_fits home h k a in
-      let p = part-is (readIs h.body h.entry.bits.0).found a.may in
+      let p = part-is (read_is h.body h.entry.bits.0).found a.may in
       let part = ap (λ (y : Key). y.part) a.key in
       in-range h.entry.key f.network f.ssi (omega (arith, p.0, part)) (omega (arith, p.1, part))
 
@@ -80,28 +80,28 @@ pub and_assoc : (p q r : Bool) → p && (q && r) ≡ (p && q) && r
 and_assoc true q r = refl
 and_assoc false q r = refl
 
-rules-are : (home last i : ℕ) (hs : List Held) → home < 16777216 → keepsRules home last hs ≡ inOrder last hs && is_yes (bodiesFrom home i hs)
-unfolding keepsRules inOrder bodiesFrom
-rules-are home last i [] k = refl
-rules-are home last i (h ∷ hs) k = go (bodyAgrees home h) refl (rules-are home (rank h) (suc i) hs k)
+rules_are : (home last i : ℕ) (hs : List Held) → home < 16777216 → keeps_rules home last hs ≡ in_order last hs && is_yes (bodies_from home i hs)
+unfolding keeps_rules in_order bodies_from
+rules_are home last i [] k = refl
+rules_are home last i (h ∷ hs) k = go (body_agrees home h) refl (rules_are home (rank h) (suc i) hs k)
   where
-    go : (t : Bool) → bodyAgrees home h ≡ t → keepsRules home (rank h) hs ≡ inOrder (rank h) hs && is_yes (bodiesFrom home (suc i) hs)
-        → ltb last (rank h) && (isDay h.entry.day && (bodyAgrees home h && keepsRules home (rank h) hs))
-        ≡ (ltb last (rank h) && (in_range h.entry.key && (isDay h.entry.day && inOrder (rank h) hs)))
-        && is_yes (pick (bodyAgrees home h) (bodiesFrom home (suc i) hs) (Refused (ofBody i (bodyPlace h))))
+    go : (t : Bool) → body_agrees home h ≡ t → keeps_rules home (rank h) hs ≡ in_order (rank h) hs && is_yes (bodies_from home (suc i) hs)
+        → ltb last (rank h) && (is_day h.entry.day && (body_agrees home h && keeps_rules home (rank h) hs))
+        ≡ (ltb last (rank h) && (in_range h.entry.key && (is_day h.entry.day && in_order (rank h) hs)))
+        && is_yes (pick (body_agrees home h) (bodies_from home (suc i) hs) (Refused (of_body i (body_place h))))
     go true e rest =
         rw (e, agrees-ranged home h k e, rest)
         (ap (λ (x : Bool). ltb last (rank h) && x)
-        (and_assoc (isDay h.entry.day) (inOrder (rank h) hs) (is_yes (bodiesFrom home (suc i) hs)))
-        ∙ and_assoc (ltb last (rank h)) (isDay h.entry.day && inOrder (rank h) hs) (is_yes (bodiesFrom home (suc i) hs)))
+        (and_assoc (is_day h.entry.day) (in_order (rank h) hs) (is_yes (bodies_from home (suc i) hs)))
+        ∙ and_assoc (ltb last (rank h)) (is_day h.entry.day && in_order (rank h) hs) (is_yes (bodies_from home (suc i) hs)))
     go false e rest = rw e
-        (and-false (ltb last (rank h)) (and-false (isDay h.entry.day) refl)
-        ∙ sym (and-false (ltb last (rank h) && (in_range h.entry.key && (isDay h.entry.day && inOrder (rank h) hs))) refl))
+        (and-false (ltb last (rank h)) (and-false (is_day h.entry.day) refl)
+        ∙ sym (and-false (ltb last (rank h) && (in_range h.entry.key && (is_day h.entry.day && in_order (rank h) hs))) refl))
 
 module _ (b : List ℕ) where
   -- the bytes are an archive exactly if the check says so
-  same : isArchive b ≡ is_yes (checkIs b)
-  unfolding isArchive wellFormed hasShape checkIs
+  same : is_archive b ≡ is_yes (check_is b)
+  unfolding is_archive well_formed has_shape check_is
   same = go (ltb home 16777216) refl
     where
       home : ℕ
@@ -119,19 +119,19 @@ module _ (b : List ℕ) where
       shuffled true true true (Refused f) = refl
 
       go : (t : Bool) → ltb home 16777216 ≡ t
-          → (t && (withinLimits (length held) (length_of (reading b)) && keepsRules home 0 held)) && eqb (length_of (reading b)) (length b)
-          ≡ is_yes (pick (t && (withinLimits (length held) (length_of (reading b)) && (inOrder 0 held && eqb (length_of (reading b)) (length b))))
-          (bodiesFrom home 0 held) (Refused (plain 7)))
+          → (t && (within_limits (length held) (length_of (reading b)) && keeps_rules home 0 held)) && eqb (length_of (reading b)) (length b)
+          ≡ is_yes (pick (t && (within_limits (length held) (length_of (reading b)) && (in_order 0 held && eqb (length_of (reading b)) (length b))))
+          (bodies_from home 0 held) (Refused (plain 7)))
       go false h = refl
-      go true h = rw (rules-are home 0 0 held (ltb-true home 16777216 h))
-          (shuffled (withinLimits (length held) (length_of (reading b))) (inOrder 0 held) (eqb (length_of (reading b)) (length b)) (bodiesFrom home 0 held))
+      go true h = rw (rules_are home 0 0 held (ltb-true home 16777216 h))
+          (shuffled (within_limits (length held) (length_of (reading b))) (in_order 0 held) (eqb (length_of (reading b)) (length b)) (bodies_from home 0 held))
 
-  pub archive-checked : isArchive b ≡ true → checkIs b ≡ Archive
-  archive-checked e = go (checkIs b) (sym same ∙ e)
+  pub archive_checked : is_archive b ≡ true → check_is b ≡ Archive
+  archive_checked e = go (check_is b) (sym same ∙ e)
     where
       go : (c : Checked) → is_yes c ≡ true → c ≡ Archive
       go Archive h = refl
       go (Refused f) h = differ (sym h)
 
-  pub checked-archive : checkIs b ≡ Archive → isArchive b ≡ true
+  pub checked-archive : check_is b ≡ Archive → is_archive b ≡ true
   checked-archive e = same ∙ ap is_yes e

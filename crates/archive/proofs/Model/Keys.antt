@@ -9,13 +9,13 @@ use borrow.Author.Tests.{ltb-true, leb-true, eqb-true, eq-eqb, ne_eqb, lt-ltb, l
 use Rattle.bits.proofs.Tests.{differ, both, both⁻¹}
 use Rattle.archive.specs.Model.{rank_of, in_range}
 use Rattle.archive.specs.Inner.{KeyFits}
-use Rattle.archive.specs.Filing.{sameKey}
+use Rattle.archive.specs.Filing.{same_key}
 use Rattle.archive.specs.declared.contents.Key.{Key}
 
 -- ---- one key
 
-pub same_key : (a k : Key) → sameKey a k ≡ true → a ≡ k
-same_key a k h =
+pub same_key_lem : (a k : Key) → same_key a k ≡ true → a ≡ k
+same_key_lem a k h =
     let p = both (eqb a.network k.network) (eqb a.ssi k.ssi && eqb a.part k.part) h in
     let q = both (eqb a.ssi k.ssi) (eqb a.part k.part) p.1 in
     let network = eqb-true a.network k.network p.0 in
@@ -23,8 +23,8 @@ same_key a k h =
     let part = eqb-true a.part k.part q.1 in
     λ i. record { network = network i; ssi = ssi i; part = part i }
 
-pub is-same-key : (a k : Key) → a ≡ k → sameKey a k ≡ true
-is-same-key a k h =
+pub is-same_key : (a k : Key) → a ≡ k → same_key a k ≡ true
+is-same_key a k h =
     both⁻¹ (eq-eqb _ _ (λ i. (h i).network)) (both⁻¹ (eq-eqb _ _ (λ i. (h i).ssi)) (eq-eqb _ _ (λ i. (h i).part)))
 
 -- ---- in range
@@ -59,15 +59,15 @@ pub by_part : (k l : Key) → k.network ≡ l.network → k.ssi ≡ l.ssi → k.
 by_part k l n s p = omega arith
 
 -- a rank is one user's and part's
-pub rank-names : (a k : Key) → KeyFits a → Ranged k → eqb (rank_of a) (rank_of k) ≡ sameKey a k
-rank-names a k h r = go (sameKey a k) refl
+pub rank-names : (a k : Key) → KeyFits a → Ranged k → eqb (rank_of a) (rank_of k) ≡ same_key a k
+rank-names a k h r = go (same_key a k) refl
   where
-    go : (p : Bool) → sameKey a k ≡ p → eqb (rank_of a) (rank_of k) ≡ p
-    go true t = eq-eqb _ _ (ap rank_of (same_key a k t))
+    go : (p : Bool) → same_key a k ≡ p → eqb (rank_of a) (rank_of k) ≡ p
+    go true t = eq-eqb _ _ (ap rank_of (same_key_lem a k t))
     go false f =
         ne_eqb _ _
         (λ (q : rank_of a ≡ rank_of k).
         let x : a.network ≡ k.network = omega (arith, q, h.ssi, h.part, r.ssi, r.high) in
         let y : a.ssi ≡ k.ssi = omega (arith, q, h.ssi, h.part, r.ssi, r.high) in
         let z : a.part ≡ k.part = omega (arith, q, h.ssi, h.part, r.ssi, r.high) in
-        differ (sym (is-same-key a k (λ i. record { network = x i; ssi = y i; part = z i })) ∙ f))
+        differ (sym (is-same_key a k (λ i. record { network = x i; ssi = y i; part = z i })) ∙ f))

@@ -10,7 +10,7 @@ use lib.Dec.{ltb, eqb}
 use borrow.Author.Tests.{ltb-true, ltb-false, eqb-true, eqb-false, ne_eqb}
 use Rattle.bits.specs.Bits.{pick}
 use Rattle.archive.specs.Model.{Held, rank_of, rank}
-use Rattle.archive.specs.Filing.{bodyAgrees, keepsRules}
+use Rattle.archive.specs.Filing.{body_agrees, keeps_rules}
 use Rattle.archive.specs.Keeping.{put}
 use Rattle.archive.specs.Restoring.{lookup}
 use Rattle.archive.specs.declared.contents.Key.{Key}
@@ -42,9 +42,9 @@ lookup-put key h (x ∷ xs) = go (ltb (rank x) (rank h)) refl (eqb (rank x) (ran
 
 -- ---- in an archive that keeps the rules
 
-pub rules-put : (home last : ℕ) (h : Held) (hs : List Held) → h.entry.day < 65536 → bodyAgrees home h ≡ true → last < rank h
-    → keepsRules home last hs ≡ true → keepsRules home last (put h hs) ≡ true
-unfolding keepsRules
+pub rules-put : (home last : ℕ) (h : Held) (hs : List Held) → h.entry.day < 65536 → body_agrees home h ≡ true → last < rank h
+    → keeps_rules home last hs ≡ true → keeps_rules home last (put h hs) ≡ true
+unfolding keeps_rules
 rules-put home last h [] d a r k = is-kept home last h [] (record { rises = r; day = d; agrees = a; others = refl })
 rules-put home last h (x ∷ xs) d a r k = go (ltb (rank x) (rank h)) refl (eqb (rank x) (rank h)) refl (rules-put home (rank x) h xs d a)
   where
@@ -52,8 +52,8 @@ rules-put home last h (x ∷ xs) d a r k = go (ltb (rank x) (rank h)) refl (eqb 
     u = kept home last x xs k
 
     go : (p : Bool) → ltb (rank x) (rank h) ≡ p → (q : Bool) → eqb (rank x) (rank h) ≡ q
-        → (rank x < rank h → keepsRules home (rank x) xs ≡ true → keepsRules home (rank x) (put h xs) ≡ true)
-        → keepsRules home last (put h (x ∷ xs)) ≡ true
+        → (rank x < rank h → keeps_rules home (rank x) xs ≡ true → keeps_rules home (rank x) (put h xs) ≡ true)
+        → keeps_rules home last (put h (x ∷ xs)) ≡ true
     go true hp q hq ih =
         rw hp (is-kept home last x (put h xs)
         (record { rises = u.rises; day = u.day; agrees = u.agrees; others = ih (ltb-true (rank x) (rank h) hp) u.others }))
@@ -77,7 +77,7 @@ abbrev pub is_none : Option Held → Bool
 is_none none = true
 is_none (some h) = false
 
-none_above : (home last : ℕ) (key : Key) (hs : List Held) → keepsRules home last hs ≡ true → rank_of key ≤ last → lookup key hs ≡ none
+none_above : (home last : ℕ) (key : Key) (hs : List Held) → keeps_rules home last hs ≡ true → rank_of key ≤ last → lookup key hs ≡ none
 none_above home last key [] k h = refl
 none_above home last key (x ∷ xs) k h =
     let u = kept home last x xs k in
@@ -85,7 +85,7 @@ none_above home last key (x ∷ xs) k h =
     (none_above home (rank x) key xs u.others (omega (arith, u.rises)))
 
 -- one more for a new key, as many as before for a key that is held
-pub length-put : (home last : ℕ) (h : Held) (hs : List Held) → keepsRules home last hs ≡ true
+pub length-put : (home last : ℕ) (h : Held) (hs : List Held) → keeps_rules home last hs ≡ true
     → length (put h hs) ≡ pick (is_none (lookup h.entry.key hs)) (suc (length hs)) (length hs)
 length-put home last h [] k = refl
 length-put home last h (x ∷ xs) k =

@@ -5,12 +5,12 @@ use Prim.Native.Nat.{ℕ, zero, suc, ◌+◌, ◌-◌, ◌≤◌, ◌<◌}
 use native.Mathlib.Omega.{arith}
 use native.Mathlib.Nat.{not-suc-le-zero}
 use lib.ListN.{length, length-append}
-use Rattle.archive.specs.Model.{headerWidth, entryWidth}
-use Rattle.archive.specs.Reading.{home_of, count_of, entryAt, size_at, heldFrom, bodiesAt, reading}
+use Rattle.archive.specs.Model.{header_width, entry_width}
+use Rattle.archive.specs.Reading.{home_of, count_of, entry_at, size_at, held_from, bodies_at, reading}
 use Rattle.archive.specs.Inner.{lines_from}
-use Rattle.archive.specs.Listing.{homeWord, entriesWord, decimal, item, twoItems, firstLine, line, lines, listing}
+use Rattle.archive.specs.Listing.{home_word, entries_word, decimal, item, two_items, first_line, line, lines, listing}
 use Rattle.archive.specs.declared.contents.Entry.{Entry}
-use Rattle.archive.proofs.Bytes.Walking.{home-is, length-heldFrom}
+use Rattle.archive.proofs.Bytes.Walking.{home-is, length-held_from}
 
 -- ---- lengths
 
@@ -21,38 +21,38 @@ unfolding line item
 length-line e = simp length-append (omega arith)
 
 pub length_two : (word : List ℕ) (n : ℕ) (other : List ℕ) (m : ℕ)
-    → length (twoItems word n other m) ≡ length word + length (decimal n) + length other + length (decimal m) + 1
-unfolding twoItems item
+    → length (two_items word n other m) ≡ length word + length (decimal n) + length other + length (decimal m) + 1
+unfolding two_items item
 length_two word n other m = simp length-append (omega arith)
 
-pub length-first : (home count : ℕ) → length (firstLine home count) ≡ length (decimal home) + length (decimal count) + 15
-unfolding firstLine
-length-first home count = omega (arith, length_two homeWord home entriesWord count)
+pub length-first : (home count : ℕ) → length (first_line home count) ≡ length (decimal home) + length (decimal count) + 15
+unfolding first_line
+length-first home count = omega (arith, length_two home_word home entries_word count)
 
 -- ---- one entry more
 
-pub linesFrom-next : (b : List ℕ) (n at : ℕ) → 0 < n → lines_from b n at ≡ line (entryAt b at) ++ lines_from b (n - 1) (at + entryWidth)
+pub lines_from-next : (b : List ℕ) (n at : ℕ) → 0 < n → lines_from b n at ≡ line (entry_at b at) ++ lines_from b (n - 1) (at + entry_width)
 unfolding lines_from
-linesFrom-next b zero at h = absurd (not-suc-le-zero h)
-linesFrom-next b (suc n) at h = let e : n ≡ suc n - 1 = omega arith in ap (λ (k : ℕ). line (entryAt b at) ++ lines_from b k (at + entryWidth)) e
+lines_from-next b zero at h = absurd (not-suc-le-zero h)
+lines_from-next b (suc n) at h = let e : n ≡ suc n - 1 = omega arith in ap (λ (k : ℕ). line (entry_at b at) ++ lines_from b k (at + entry_width)) e
 
-pub linesFrom-none : (b : List ℕ) (n at : ℕ) → n ≤ 0 → lines_from b n at ≡ []
+pub lines_from-none : (b : List ℕ) (n at : ℕ) → n ≤ 0 → lines_from b n at ≡ []
 unfolding lines_from
-linesFrom-none b zero at h = refl
-linesFrom-none b (suc n) at h = absurd (not-suc-le-zero h)
+lines_from-none b zero at h = refl
+lines_from-none b (suc n) at h = absurd (not-suc-le-zero h)
 
 -- ---- the whole
 
 -- the bodies do not matter
-lines-read : (b : List ℕ) (n at off : ℕ) → lines (heldFrom b n at off) ≡ lines_from b n at
-unfolding lines lines_from heldFrom
+lines-read : (b : List ℕ) (n at off : ℕ) → lines (held_from b n at off) ≡ lines_from b n at
+unfolding lines lines_from held_from
 lines-read b zero at off = refl
-lines-read b (suc n) at off = ap (λ (s : List ℕ). line (entryAt b at) ++ s) (lines-read b n (at + entryWidth) (off + size_at b at))
+lines-read b (suc n) at off = ap (λ (s : List ℕ). line (entry_at b at) ++ s) (lines-read b n (at + entry_width) (off + size_at b at))
 
-pub listing-read : (b : List ℕ) → headerWidth ≤ length b
-    → listing (reading b) ≡ firstLine (home_of b) (count_of b) ++ lines_from b (count_of b) headerWidth
+pub listing-read : (b : List ℕ) → header_width ≤ length b
+    → listing (reading b) ≡ first_line (home_of b) (count_of b) ++ lines_from b (count_of b) header_width
 unfolding listing reading
 listing-read b h =
-    let l = length-heldFrom b (count_of b) headerWidth (bodiesAt b) in
-    let r = lines-read b (count_of b) headerWidth (bodiesAt b) in
-    λ i. firstLine (sym (home-is b h) i) (l i) ++ r i
+    let l = length-held_from b (count_of b) header_width (bodies_at b) in
+    let r = lines-read b (count_of b) header_width (bodies_at b) in
+    λ i. first_line (sym (home-is b h) i) (l i) ++ r i

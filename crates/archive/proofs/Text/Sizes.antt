@@ -8,15 +8,15 @@ use lib.ListN.{length, length-append}
 use lib.Dec.{leb}
 use borrow.Author.Tests.{leb-true, le-leb}
 use Rattle.bits.specs.Bits.{pick}
-use Rattle.reader.specs.Read.{readIs}
+use Rattle.reader.specs.Read.{read_is}
 use Rattle.pdu.proofs.Accepted.{accepted-framed}
 use Rattle.archive.specs.Model.{Held, rank}
-use Rattle.archive.specs.Filing.{keepsRules}
-use Rattle.archive.specs.Reading.{reading, isArchive}
+use Rattle.archive.specs.Filing.{keeps_rules}
+use Rattle.archive.specs.Reading.{reading, is_archive}
 use Rattle.archive.specs.Keeping.{over}
-use Rattle.archive.specs.Checking.{checkIs, ifArchive}
-use Rattle.archive.specs.Listing.{decimal, entryWord, bitWord, lineEnd, item, firstLine, line, lines, listing, refusedLine, reportOf, faultText, toldOf}
-use Rattle.archive.specs.Listing.{lengthWithin, reportIs, reportOut, toldOut}
+use Rattle.archive.specs.Checking.{check_is, if_archive}
+use Rattle.archive.specs.Listing.{decimal, entry_word, bit_word, line_end, item, first_line, line, lines, listing, refused_line, report_of, fault_text, told_of}
+use Rattle.archive.specs.Listing.{length_within, report_is, report_out, told_out}
 use Rattle.walk.specs.declared.BitPlace.{BitPlace}
 use Rattle.walk.specs.declared.BitPlace.TheVariants as bit
 use Rattle.archive.specs.declared.refusal.EntryPlace.{EntryPlace}
@@ -38,7 +38,7 @@ line-size home h k a d =
     let f = key_fits home h k a in
     let network : e.key.network < 100000000 = omega (arith, f.network) in
     let ssi : e.key.ssi < 100000000 = omega (arith, f.ssi) in
-    let part : e.key.part < 10 = omega (arith, ap (λ (y : Key). y.part) a.key, (part-is (readIs h.body n).found a.may).1) in
+    let part : e.key.part < 10 = omega (arith, ap (λ (y : Key). y.part) a.key, (part-is (read_is h.body n).found a.may).1) in
     let bits : n < 10000 = omega (arith, (accepted-framed h.body n a.accepted).short) in
     let day : e.day < 100000 = omega arith in
     omega (
@@ -51,7 +51,7 @@ line-size home h k a d =
       within 4 e.day day,
     )
 
-lines-size : (home last : ℕ) (hs : List Held) → home < 16777216 → keepsRules home last hs ≡ true → length (lines hs) ≤ 45 * length hs
+lines-size : (home last : ℕ) (hs : List Held) → home < 16777216 → keeps_rules home last hs ≡ true → length (lines hs) ≤ 45 * length hs
 unfolding lines
 lines-size home last [] k e = omega arith
 lines-size home last (h ∷ hs) k e =
@@ -60,7 +60,7 @@ lines-size home last (h ∷ hs) k e =
     let rest = lines-size home (rank h) hs k u.others in
     omega (arith, length-append (line h.entry) (lines hs), l, rest)
 
-pub listing-size : (b : List ℕ) → isArchive b ≡ true → length (listing (reading b)) ≤ 23066
+pub listing-size : (b : List ℕ) → is_archive b ≡ true → length (listing (reading b)) ≤ 23066
 unfolding listing
 listing-size b ok =
     let a = reading b in
@@ -68,7 +68,7 @@ listing-size b ok =
     let home : a.home < 100000000 = omega (arith, f.home) in
     let count : length a.held < 1000 = omega (arith, f.few) in
     let first = length-first a.home (length a.held) in
-    let all = length-append (firstLine a.home (length a.held)) (lines a.held) in
+    let all = length-append (first_line a.home (length a.held)) (lines a.held) in
     omega (
       arith,
       all,
@@ -83,46 +83,46 @@ listing-size b ok =
 -- ---- the report
 
 -- what is reported fits the lent buffers
-no_longer : (w : List ℕ) (room : ℕ) → lengthWithin w room ≤ room
+no_longer : (w : List ℕ) (room : ℕ) → length_within w room ≤ room
 no_longer w room = go (leb (length w) room) refl
   where
     go : (p : Bool) → leb (length w) room ≡ p → pick p (length w) 0 ≤ room
     go true e = leb-true (length w) room e
     go false e = omega arith
 
-pub report-fits : (b : List ℕ) (room more : ℕ) → ((reportIs b room more).printed ≤ room) × ((reportIs b room more).told ≤ more)
-unfolding reportIs
-report-fits b room more = (no_longer (reportOf b) room, no_longer (toldOf b) more)
+pub report-fits : (b : List ℕ) (room more : ℕ) → ((report_is b room more).printed ≤ room) × ((report_is b room more).told ≤ more)
+unfolding report_is
+report-fits b room more = (no_longer (report_of b) room, no_longer (told_of b) more)
 
-report-size : (b : List ℕ) → length (reportOf b) ≤ 23066
-unfolding reportOf
-report-size b = go (checkIs b) refl
+report-size : (b : List ℕ) → length (report_of b) ≤ 23066
+unfolding report_of
+report-size b = go (check_is b) refl
   where
-    go : (c : Checked) → checkIs b ≡ c → length (ifArchive c (λ f. refusedLine) (listing (reading b))) ≤ 23066
+    go : (c : Checked) → check_is b ≡ c → length (if_archive c (λ f. refused_line) (listing (reading b))) ≤ 23066
     go Archive e = listing-size b (checked-archive b e)
     go (Refused f) e = omega arith
 
 -- `entry `, a number, ` bit `, a number, a line end
-fault-size : (e : EntryPlace) (p : BitPlace) → length (faultText e p) ≤ 52
-unfolding faultText item
+fault-size : (e : EntryPlace) (p : BitPlace) → length (fault_text e p) ≤ 52
+unfolding fault_text item
 fault-size entry.Nowhere p = omega arith
-fault-size (entry.At i) bit.Nowhere = omega (arith, length-append (decimal i) lineEnd, decimal-size i)
-fault-size (entry.At i) (bit.At p) = omega (arith, length_two entryWord i bitWord p, decimal-size i, decimal-size p)
+fault-size (entry.At i) bit.Nowhere = omega (arith, length-append (decimal i) line_end, decimal-size i)
+fault-size (entry.At i) (bit.At p) = omega (arith, length_two entry_word i bit_word p, decimal-size i, decimal-size p)
 
-told-size : (b : List ℕ) → length (toldOf b) ≤ 52
-unfolding toldOf
-told-size b = go (checkIs b)
+told-size : (b : List ℕ) → length (told_of b) ≤ 52
+unfolding told_of
+told-size b = go (check_is b)
   where
-    go : (c : Checked) → length (ifArchive c (λ f. faultText f.entry f.place) []) ≤ 52
+    go : (c : Checked) → length (if_archive c (λ f. fault_text f.entry f.place) []) ≤ 52
     go Archive = omega arith
     go (Refused f) = fault-size f.entry f.place
 
 -- buffers of 23,066 and of 52 bytes hold every report
 pub report-whole : (b out told : List ℕ) → 23066 ≤ length out → 52 ≤ length told
-    → (reportIs b (length out) (length told) ≡ record { printed = length (reportOf b); told = length (toldOf b) })
-    × (reportOut b out ≡ over (reportOf b) out) × (toldOut b told ≡ over (toldOf b) told)
-unfolding reportIs reportOut toldOut
+    → (report_is b (length out) (length told) ≡ record { printed = length (report_of b); told = length (told_of b) })
+    × (report_out b out ≡ over (report_of b) out) × (told_out b told ≡ over (told_of b) told)
+unfolding report_is report_out told_out
 report-whole b out told h k =
-    let e = le-leb (length (reportOf b)) (length out) (omega (arith, report-size b)) in
-    let f = le-leb (length (toldOf b)) (length told) (omega (arith, told-size b)) in
+    let e = le-leb (length (report_of b)) (length out) (omega (arith, report-size b)) in
+    let f = le-leb (length (told_of b)) (length told) (omega (arith, told-size b)) in
     (rw (e, f), rw e, rw f)

@@ -10,11 +10,11 @@ use Rattle.bits.specs.Bits.{pick}
 use Rattle.bits.specs.Inner.{Laid}
 use Rattle.bits.proofs.Tests.{same-pick}
 use Rattle.archive.specs.Keeping.{over}
-use Rattle.archive.specs.Listing.{lengthWithin, textWithin}
+use Rattle.archive.specs.Listing.{length_within, text_within}
 use Rattle.archive.proofs.Bytes.Copied.{at_front}
 
 module _ (w out : List ℕ) where
-  pub too_long : length out < length w → (0 ≡ lengthWithin w (length out)) × (out ≡ textWithin w out)
+  pub too_long : length out < length w → (0 ≡ length_within w (length out)) × (out ≡ text_within w out)
   too_long h =
       let e = lt-leb (length w) (length out) h in (
         sym (ap (λ (t : Bool). pick t (length w) 0) e),
@@ -22,7 +22,7 @@ module _ (w out : List ℕ) where
       )
 
   pub laid-whole : {out' : List ℕ} {end : ℕ} → length w ≤ length out → Laid out 0 w out' end
-      → (end ≡ lengthWithin w (length out)) × (out' ≡ textWithin w out)
+      → (end ≡ length_within w (length out)) × (out' ≡ text_within w out)
   laid-whole h l =
       let e = le-leb (length w) (length out) h in
       let f = at_front l in (
@@ -31,5 +31,5 @@ module _ (w out : List ℕ) where
       )
 
 -- no text
-pub nothing : (out : List ℕ) → (0 ≡ lengthWithin [] (length out)) × (out ≡ textWithin [] out)
+pub nothing : (out : List ℕ) → (0 ≡ length_within [] (length out)) × (out ≡ text_within [] out)
 nothing out = (sym (same-pick (leb 0 (length out)) 0), sym (same-pick (leb 0 (length out)) out))

@@ -6,23 +6,23 @@ use Prim.Native.Nat.{ℕ, ◌<◌}
 use native.Mathlib.Omega.{arith}
 use borrow.Author.Rules.{rules}
 use lib.ListN.{length}
-use Rattle.walk.specs.Walk.{walkIs}
+use Rattle.walk.specs.Walk.{walk_is}
 use Rattle.walk.specs.declared.Head.{Head}
 use Rattle.walk.specs.declared.Walked.TheVariants as walked
-use Rattle.reader.specs.Read.{readIs}
+use Rattle.reader.specs.Read.{read_is}
 use Rattle.reader.specs.declared.Answer.TheVariants.{Accepted}
-use Rattle.judging.specs.Judge.{mayHold}
+use Rattle.judging.specs.Judge.{may_hold}
 use Rattle.archive.specs.Model.{Held, Archive, bytes_of}
-use Rattle.archive.specs.Filing.{filedKey}
-use Rattle.archive.specs.Reading.{reading, isArchive}
-use Rattle.archive.specs.Keeping.{leaves, with, heldFor, captured, placed, captureIs}
-use Rattle.archive.specs.Inner.{filingUnder, walkedRefusal}
+use Rattle.archive.specs.Filing.{filed_key}
+use Rattle.archive.specs.Reading.{reading, is_archive}
+use Rattle.archive.specs.Keeping.{leaves, with, held_for, captured, placed, capture_is}
+use Rattle.archive.specs.Inner.{filing_under, walked_refusal}
 use Rattle.archive.specs.declared.Stored.TheVariants.{Refused}
 use Rattle.archive.specs.declared.contents.Key.{Key}
 use Rattle.archive.specs.declared.refusal.Refusal.{Refusal}
 use Rattle.archive.proofs.Model.Bodies.{fits, Fits}
 use Rattle.archive.proofs.Model.Checked.{checked-archive}
-use Rattle.archive.proofs.Calls.Capture.{home-read, home_fits, filed-under, offered-agrees}
+use Rattle.archive.proofs.Calls.Capture.{home-read, home_fits, filed_under, offered-agrees}
 use Rattle.archive.proofs.Calls.Capture.{no-day, no-archive, pdu-refused, not-held, as-placed, capture-leaves}
 use Rattle.archive.proofs.capture.Statement.{statement}
 use Rattle.archive.proofs.capture.Tie as tie
@@ -65,7 +65,7 @@ out_of c = (dated-of c).before.before.before.before.args.out.now
 dated : (c : tie.After-walk) → day-of c < 65536
 dated c = omega (arith, (dated-of c).if1.false)
 
-ok : (c : tie.After-walk) → isArchive (b-of c) ≡ true
+ok : (c : tie.After-walk) → is_archive (b-of c) ≡ true
 ok c = let told = c.before in checked-archive _ (sym told.before.before.check.ensures ∙ told.enum_told.given.1)
 
 -- the walk's refusal is passed on
@@ -73,9 +73,9 @@ returns-3 : tie.Need-returns-3
 returns-3 c =
     let told = c.before in
     let w = told.before.before in
-    let e : captureIs (b-of w) (s-of w) (n-of w) (day-of w) (length (out_of w)) ≡ Refused c.of-walk.result =
+    let e : capture_is (b-of w) (s-of w) (n-of w) (day-of w) (length (out_of w)) ≡ Refused c.of-walk.result =
     pdu-refused _ _ _ _ _ (dated w) (ok w) (sym w.walk.ensures ∙ told.enum-told2.given.1)
-    ∙ ap (λ (f : Refusal). Refused f) (sym (c.of-walk.ensures ∙ ap walkedRefusal told.enum-told2.given.1))
+    ∙ ap (λ (f : Refusal). Refused f) (sym (c.of-walk.ensures ∙ ap walked_refusal told.enum-told2.given.1))
     in
     (sym e, sym (capture-leaves _ _ _ _ (out_of w) e))
 
@@ -86,13 +86,13 @@ walk_of c = c.before.before.before.before.before
 abbrev head_of : tie.After-filing-of → Head
 head_of c = c.before.before.before.walked.given.0.0
 
-accepted : (c : tie.After-filing-of) → walkIs (s-of (walk_of c)) (n-of (walk_of c)) ≡ walked.Accepted (head_of c)
+accepted : (c : tie.After-filing-of) → walk_is (s-of (walk_of c)) (n-of (walk_of c)) ≡ walked.Accepted (head_of c)
 accepted c = sym (walk_of c).walk.ensures ∙ c.before.before.before.walked.given.1
 
-filed : (c : tie.After-filing-of) → let w = walk_of c in c.filing-of.result ≡ filingUnder (reading (b-of w)).home (head_of c)
+filed : (c : tie.After-filing-of) → let w = walk_of c in c.filing-of.result ≡ filing_under (reading (b-of w)).home (head_of c)
 filed c =
     let w = walk_of c in
-    c.filing-of.ensures ∙ ap (λ (home : ℕ). filingUnder home (head_of c)) (c.before.home.ensures ∙ home-read (b-of w) (ok w))
+    c.filing-of.ensures ∙ ap (λ (home : ℕ). filing_under home (head_of c)) (c.before.home.ensures ∙ home-read (b-of w) (ok w))
 
 returns-4 : tie.Need-returns-4
 returns-4 c =
@@ -104,10 +104,10 @@ returns-4 c =
     (ap (λ (x : Refusal). Refused x) c.plain2.ensures ∙ sym e, sym (capture-leaves _ _ _ _ (out_of w) e))
 
 -- the key is the one that the PDU is held under
-under : (c : tie.After-filing) → let w = walk_of c.before.before in ((readIs (s-of w) (n-of w)).answer ≡ Accepted)
-    × (mayHold (readIs (s-of w) (n-of w)).found ≡ true)
-    × (filedKey (reading (b-of w)).home (readIs (s-of w) (n-of w)).found ≡ c.filing.given.0.0)
-under c = let f = c.before.before in filed-under _ _ _ (accepted f) (sym (filed f) ∙ c.filing.given.1)
+under : (c : tie.After-filing) → let w = walk_of c.before.before in ((read_is (s-of w) (n-of w)).answer ≡ Accepted)
+    × (may_hold (read_is (s-of w) (n-of w)).found ≡ true)
+    × (filed_key (reading (b-of w)).home (read_is (s-of w) (n-of w)).found ≡ c.filing.given.0.0)
+under c = let f = c.before.before in filed_under _ _ _ (accepted f) (sym (filed f) ∙ c.filing.given.1)
 
 -- what is held under a key
 abbrev held-as : tie.After-filing → Key → Held
@@ -120,7 +120,7 @@ fit c =
     let w = walk_of c.before.before in
     let home = (reading (b-of w)).home in
     subst (λ (k : Key). Fits (held-as c k)) (under c).2
-    (fits home (heldFor home (s-of w) (n-of w) (day-of w)) (home_fits (b-of w) (ok w))
+    (fits home (held_for home (s-of w) (n-of w) (day-of w)) (home_fits (b-of w) (ok w))
     (offered-agrees home (s-of w) (n-of w) (day-of w) (under c).0 (under c).1) (dated w))
 
 file-requires : tie.Need-file-requires
@@ -137,7 +137,7 @@ returns-5 c =
     let is : with (reading (b-of w)) (held-as filing filing.filing.given.0.0) ≡ captured (b-of w) (s-of w) (n-of w) (day-of w) =
     ap (λ (k : Key). with (reading (b-of w)) (held-as filing k)) (sym (under filing).2)
     in
-    let e : captureIs (b-of w) (s-of w) (n-of w) (day-of w) (length (out_of w)) ≡ file.file.result =
+    let e : capture_is (b-of w) (s-of w) (n-of w) (day-of w) (length (out_of w)) ≡ file.file.result =
     as-placed (b-of w) (s-of w) (n-of w) (day-of w) (length (out_of w)) (dated w) (ok w) (under filing).0 (under filing).1
     ∙ sym (file.file.ensures.0 ∙ ap (λ (a : Archive). placed a (length (out_of w))) is)
     in (

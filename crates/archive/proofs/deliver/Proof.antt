@@ -5,7 +5,7 @@ use native.Mathlib.Nat.{add-sub_cancel_left}
 use borrow.Author.Rules.{rules}
 use borrow.Author.Tests.{le-leb, lt-leb}
 use lib.ListN.{take, drop}
-use Rattle.bits.specs.Frame.{bytesFor}
+use Rattle.bits.specs.Frame.{bytes_for}
 use Rattle.archive.specs.Keeping.{over}
 use Rattle.archive.proofs.Bytes.Copied.{at_front}
 use Rattle.archive.proofs.deliver.Statement.{statement}
@@ -20,7 +20,7 @@ returns-2 c =
     let test = append.before.before.before in
     let bytes = test.before in
     let a = bytes.before.before.before.args in
-    let n : a.off + bytes.bytes.result - a.off ≡ bytesFor a.n.0 =
+    let n : a.off + bytes.bytes.result - a.off ≡ bytes_for a.n.0 =
     add-sub_cancel_left a.off bytes.bytes.result ∙ bytes.bytes.ensures in (
       rw (← bytes.bytes.ensures, le-leb _ _ test.if1.false),
       (at_front append.append.ensures).1 ∙ ap (λ (k : ℕ). over (take k (drop a.off a.archive.now)) a.out.now) n,

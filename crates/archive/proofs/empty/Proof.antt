@@ -5,19 +5,19 @@ use Prim.Native.Nat.{ℕ}
 use borrow.Author.Rules.{rules}
 use borrow.Author.Tests.{lt-ltb, le-ltb, le-leb, lt-leb}
 use lib.ListN.{length}
-use Rattle.archive.specs.Model.{headerBytes}
-use Rattle.archive.specs.Keeping.{over, emptyIs, emptyOut}
+use Rattle.archive.specs.Model.{header_bytes}
+use Rattle.archive.specs.Keeping.{over, empty_is, empty_out}
 use Rattle.archive.specs.declared.Stored.TheVariants.{Bytes}
 use Rattle.archive.proofs.Bytes.Copied.{at_front}
 use Rattle.archive.proofs.empty.Statement.{statement}
 use Rattle.archive.proofs.empty.Tie as tie
 
 returns : tie.Need-returns
-unfolding emptyIs emptyOut
+unfolding empty_is empty_out
 returns c = let h = le-ltb _ _ c.before.if1.true in (rw (c.plain.ensures, h), rw h)
 
 returns-2 : tie.Need-returns-2
-unfolding emptyIs emptyOut
+unfolding empty_is empty_out
 returns-2 c =
     let test = c.before in
     let h = lt-ltb _ _ test.before.if1.false in
@@ -25,7 +25,7 @@ returns-2 c =
     (rw (c.plain2.ensures, h, k), rw (h, k))
 
 returns-3 : tie.Need-returns-3
-unfolding emptyIs emptyOut headerBytes
+unfolding empty_is empty_out header_bytes
 returns-3 c =
     let append = c.before.before in
     let header = append.before.before.before in

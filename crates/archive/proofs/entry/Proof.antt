@@ -3,7 +3,7 @@ use mathlib.Core.Path.{◌≡◌, sym, ap, ◌∙◌}
 use mathlib.Core.Bool.{true}
 use native.Mathlib.Omega.{arith}
 use borrow.Author.Rules.{rules}
-use Rattle.archive.specs.Reading.{isArchive}
+use Rattle.archive.specs.Reading.{is_archive}
 use Rattle.archive.specs.declared.contents.Entry as contents
 use Rattle.archive.specs.declared.refusal.Refusal.{Refusal}
 use Rattle.archive.specs.declared.Listed.TheVariants.{Entry, Refused}
@@ -19,7 +19,7 @@ returns c =
     let check = checked.before.before in
     sym (no-archive _ _ (sym check.check.ensures ∙ checked.checked.given.1))
 
-ok : (c : tie.After-enum-told) → isArchive c.before.before.before.before.args.archive.now ≡ true
+ok : (c : tie.After-enum-told) → is_archive c.before.before.before.before.args.archive.now ≡ true
 ok c = checked-archive _ (sym c.before.before.check.ensures ∙ c.enum_told.given.1)
 
 returns-2 : tie.Need-returns-2

@@ -6,16 +6,16 @@ use borrow.Author.Rules.{rules}
 use borrow.Author.Tests.{eq-eqb, ne_eqb}
 use Rattle.bits.proofs.Tests.{said-no, said-yes}
 use Rattle.archive.specs.Model.{in_range}
-use Rattle.archive.specs.Reading.{isArchive}
-use Rattle.archive.specs.Restoring.{fetchIs}
+use Rattle.archive.specs.Reading.{is_archive}
+use Rattle.archive.specs.Restoring.{fetch_is}
 use Rattle.archive.proofs.Bytes.Spliced.{place_in}
-use Rattle.archive.proofs.Calls.Fetch.{fetchedOf, fetch-none, fetch-out, fetch-place}
+use Rattle.archive.proofs.Calls.Fetch.{fetched_of, fetch-none, fetch_out, fetch-place}
 use Rattle.archive.proofs.Model.Keys.{ranged}
 use Rattle.archive.proofs.Model.Checked.{checked-archive}
 use Rattle.archive.proofs.fetch.Statement.{statement}
 use Rattle.archive.proofs.fetch.Tie as tie
 
-ok : (c : tie.After-enum-told) → isArchive c.before.before.before.before.args.archive.now ≡ true
+ok : (c : tie.After-enum-told) → is_archive c.before.before.before.before.args.archive.now ≡ true
 ok c = checked-archive _ (sym c.before.before.check.ensures ∙ c.enum_told.given.1)
 
 within : (c : tie.Else1) → in_range c.before.before.before.before.before.before.args.key ≡ true
@@ -24,18 +24,18 @@ within c = said-yes c.before.in-range.ensures c.if1.false
 -- the answer of the place that was found
 found : (c : tie.After-find) →
     let a = c.before.before.before.before.before.before.before.args in
-    fetchIs a.archive.now a.key ≡ fetchedOf c.find.result
+    fetch_is a.archive.now a.key ≡ fetched_of c.find.result
 unfolding place_in
 found c =
     let test = c.before in
     let a = test.before.before.before.before.before.before.args in
-    fetch-place a.archive.now a.key (ok test.before.before) (within test) ∙ sym (ap fetchedOf c.find.ensures)
+    fetch-place a.archive.now a.key (ok test.before.before) (within test) ∙ sym (ap fetched_of c.find.ensures)
 
 returns : tie.Need-returns
 returns c = let checked = c.before in sym (fetch-none _ _ (sym checked.before.before.check.ensures ∙ checked.checked.given.1))
 
 returns-2 : tie.Need-returns-2
-returns-2 c = sym (fetch-out _ _ (ok c.before.before) (said-no c.before.in-range.ensures c.if1.true))
+returns-2 c = sym (fetch_out _ _ (ok c.before.before) (said-no c.before.in-range.ensures c.if1.true))
 
 find-requires : tie.Need-find-requires
 find-requires c κs =

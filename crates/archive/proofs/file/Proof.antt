@@ -7,10 +7,10 @@ use borrow.Author.Rules.{rules}
 use lib.ListN.{length}
 use Rattle.bits.specs.Bits as are
 use Rattle.bits.proofs.Tests.{said-no, said-yes}
-use Rattle.archive.specs.Model.{Held, rank, bytes_of, length_of, withinLimits}
-use Rattle.archive.specs.Reading.{heldIn, reading}
+use Rattle.archive.specs.Model.{Held, rank, bytes_of, length_of, within_limits}
+use Rattle.archive.specs.Reading.{held_in, reading}
 use Rattle.archive.specs.Keeping.{over, put, with}
-use Rattle.archive.specs.Inner.{Within, spliced, splicedLength}
+use Rattle.archive.specs.Inner.{Within, spliced, spliced_length}
 use Rattle.archive.specs.declared.Stored.TheVariants.{Bytes}
 use Rattle.archive.specs.declared.checking.Place.{Place}
 use Rattle.archive.proofs.Bytes.Checking.{sound}
@@ -39,7 +39,7 @@ inside c = subst (λ (p : Place). Within p (b-of c)) (sym (found c))
     (within (b-of c) (bytes c) c.before.before.before.before.before.requires.0 (rank (h-of c)))
 
 counted : (c : tie.After-count)
-    → c.count.result + 1 ≡ length (put (h-of c.before) (heldIn (b-of c.before))) + c.before.find.result.entries
+    → c.count.result + 1 ≡ length (put (h-of c.before) (held_in (b-of c.before))) + c.before.find.result.entries
 counted c =
     let f = c.before in
     omega (
@@ -54,19 +54,19 @@ sized : (c : tie.After-spliced-length)
 sized c =
     let f = c.before.before.before in
     c.spliced-length.ensures
-    ∙ (λ i. splicedLength (b-of f) (found f i) (f.before.before.before.before.before.requires.2 i))
+    ∙ (λ i. spliced_length (b-of f) (found f i) (f.before.before.before.before.before.requires.2 i))
     ∙ new-length (b-of f) (bytes f) f.before.before.before.before.before.requires.0 (rank (h-of f)) (h-of f) refl
 
 limits : (c : tie.After-within-limits)
     → c.within-limits.result
-    ≡ withinLimits (length (with (reading (b-of c.before.before.before.before)) (h-of c.before.before.before.before)).held)
+    ≡ within_limits (length (with (reading (b-of c.before.before.before.before)) (h-of c.before.before.before.before)).held)
     (length_of (with (reading (b-of c.before.before.before.before)) (h-of c.before.before.before.before)))
 unfolding reading
 limits c =
     let count = c.before.before.before in
-    let n : count.count.result + 1 - count.before.find.result.entries ≡ length (put (h-of count.before) (heldIn (b-of count.before))) =
+    let n : count.count.result + 1 - count.before.find.result.entries ≡ length (put (h-of count.before) (held_in (b-of count.before))) =
     omega (arith, counted count) in
-    c.within-limits.ensures ∙ (λ i. withinLimits (n i) (sized c.before i))
+    c.within-limits.ensures ∙ (λ i. within_limits (n i) (sized c.before i))
 
 spliced-length-requires : tie.Need-spliced-length-requires
 spliced-length-requires c κs =
@@ -108,7 +108,7 @@ returns-3 c =
     let f = count.before in
     let start = f.before.before.before.before.before in
     let ok = start.requires.0 in
-    let n : count.count.result + 1 - f.find.result.entries ≡ length (put (h-of f) (heldIn (b-of f))) = omega (arith, counted count) in
+    let n : count.count.result + 1 - f.find.result.entries ≡ length (put (h-of f) (held_in (b-of f))) = omega (arith, counted count) in
     let x : List ℕ = spliced (b-of f) f.find.result (count.count.result + 1 - f.find.result.entries) (h-of f).entry (h-of f).body in
     let w = at_front {s = x} splice.splice.ensures in
     let e : x ≡ bytes_of (with (reading (b-of f)) (h-of f)) =

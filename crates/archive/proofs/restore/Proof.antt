@@ -7,7 +7,7 @@ use borrow.Author.Rules.{rules}
 use lib.ListN.{length}
 use Rattle.bits.proofs.Tests.{said-no, said-yes}
 use Rattle.archive.specs.Model.{in_range}
-use Rattle.archive.specs.Restoring.{fetchIs, restores, restoreIs}
+use Rattle.archive.specs.Restoring.{fetch_is, restores, restore_is}
 use Rattle.archive.specs.declared.refusal.Refusal.{Refusal}
 use Rattle.archive.specs.declared.Restored.TheVariants.{Refused}
 use Rattle.archive.specs.declared.Fetched.{Fetched}
@@ -28,7 +28,7 @@ within c = said-yes c.before.in-range.ensures c.if1.false
 
 -- what fetch found
 found : (c : tie.After-fetch) {f : Fetched} → c.fetch.result ≡ f
-    → fetchIs c.before.before.before.before.before.args.archive.now c.before.before.before.before.before.args.key ≡ f
+    → fetch_is c.before.before.before.before.before.args.archive.now c.before.before.before.before.before.args.key ≡ f
 found c e = sym c.fetch.ensures ∙ e
 
 returns-2 : tie.Need-returns-2
@@ -62,7 +62,7 @@ returns-4 c =
     let a = fetch.before.before.before.before.before.args in
     let out = a.out.now in
     let r = found-body a.archive.now a.key (within fetch.before) (length out) (found fetch found_in.found2.given.1) in
-    let e : restoreIs a.archive.now a.key (length out) ≡ deliver.deliver.result = r.0 ∙ sym deliver.deliver.ensures.0 in (
+    let e : restore_is a.archive.now a.key (length out) ≡ deliver.deliver.result = r.0 ∙ sym deliver.deliver.ensures.0 in (
       sym e,
       deliver.deliver.ensures.1
           ∙ ap (λ (w : List ℕ). restores deliver.deliver.result w out) (sym r.1)

@@ -1,15 +1,15 @@
 -- Each kind of destination is the definition's own case. Assumes nothing.
 use borrow.Author.Rules.{rules}
-use Rattle.barring.specs.Decide.{partFor}
+use Rattle.barring.specs.Decide.{part_for}
 use Rattle.barring.proofs.part_for.Statement.{statement}
 use Rattle.barring.proofs.part_for.Tie as tie
 
 returns : tie.Need-returns
-unfolding partFor
+unfolding part_for
 returns c = rw c.enum_told.given.1
 
 returns-2 : tie.Need-returns-2
-unfolding partFor
+unfolding part_for
 returns-2 c = rw c.enum-told2.given.1
 
 pub part-for-spec : {M : Type 1} → statement M

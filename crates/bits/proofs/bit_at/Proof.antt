@@ -5,7 +5,7 @@ use native.Mathlib.Omega.{arith}
 use borrow.Author.Rules.{rules}
 use lib.ListN.{take, drop, get_or}
 use Rattle.bits.specs.Bits.{bits, value}
-use Rattle.bits.proofs.Numbers.{value-bitsOf}
+use Rattle.bits.proofs.Numbers.{value-bits_of}
 use Rattle.bits.proofs.Shares.{read-within}
 use Rattle.bits.proofs.Windows.{none-there}
 use Rattle.bits.proofs.bit_at.Statement.{statement}
@@ -22,7 +22,7 @@ returns-2 c =
     let place : 8 * (a.at / 8) + a.at % 8 ≡ a.at = omega arith in
     sym (ap (λ (x : ℕ). value (take 1 (drop x (bits s)))) (sym place)
     ∙ ap value (read-within s (a.at / 8) (a.at % 8) 1 k (omega arith) (omega arith))
-    ∙ value-bitsOf 1 (get_or s (a.at / 8) 0 / 2 ^ k))
+    ∙ value-bits_of 1 (get_or s (a.at / 8) 0 / 2 ^ k))
 
 pub bit-at-spec : {M : Type 1} → statement M
 bit-at-spec =

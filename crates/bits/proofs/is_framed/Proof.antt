@@ -7,7 +7,7 @@ use borrow.Author.Tests.{eq-eqb, ne_eqb, le-leb, lt-leb}
 use lib.ListN.{length, get_or}
 use lib.Dec.{eqb}
 use lib.Pow.{pow_pos}
-use Rattle.bits.specs.Frame.{framed, bytesFor}
+use Rattle.bits.specs.Frame.{framed, bytes_for}
 use Rattle.bits.proofs.Frames.{none-unused, last-unused}
 use Rattle.bits.proofs.is_framed.Statement.{statement}
 use Rattle.bits.proofs.is_framed.Tie as tie
@@ -21,15 +21,15 @@ unfolding framed
 returns-2 c =
     let d = c.before.before in
     let a = d.before.before.args in
-    rw (le-leb a.n.0 4096 d.if1.false, ne_eqb (length a.s.now) (bytesFor a.n.0) (omega arith))
+    rw (le-leb a.n.0 4096 d.if1.false, ne_eqb (length a.s.now) (bytes_for a.n.0) (omega arith))
 
 returns-3 : tie.Need-returns-3
 unfolding framed
 returns-3 c =
     let d = c.before.before.before in
     let a = d.before.before.args in
-    let e : length a.s.now ≡ bytesFor a.n.0 = omega arith in
-    rw (le-leb a.n.0 4096 d.if1.false, eq-eqb (length a.s.now) (bytesFor a.n.0) e, none-unused a.s.now a.n.0 e c.if3.true)
+    let e : length a.s.now ≡ bytes_for a.n.0 = omega arith in
+    rw (le-leb a.n.0 4096 d.if1.false, eq-eqb (length a.s.now) (bytes_for a.n.0) e, none-unused a.s.now a.n.0 e c.if3.true)
 
 cast-result : tie.Need-overflow-cast-result
 cast-result c = omega (arith, c.shared-slice-known2.given (c.before.before.before.before.before.before.args.n.0 / 8))
@@ -42,8 +42,8 @@ unfolding framed
 returns-4 c =
     let d = c.before.before.before.before.before in
     let a = d.before.before.args in
-    let e : length a.s.now ≡ bytesFor a.n.0 = omega arith in
-    rw (le-leb a.n.0 4096 d.if1.false, eq-eqb (length a.s.now) (bytesFor a.n.0) e, last-unused a.s.now a.n.0 e (omega arith))
+    let e : length a.s.now ≡ bytes_for a.n.0 = omega arith in
+    rw (le-leb a.n.0 4096 d.if1.false, eq-eqb (length a.s.now) (bytes_for a.n.0) e, last-unused a.s.now a.n.0 e (omega arith))
     (ap (λ (x : ℕ). eqb (get_or a.s.now (a.n.0 / 8) 0 % x) 0) c.pow2.ensures)
 
 pub is-framed-spec : {M : Type 1} → statement M

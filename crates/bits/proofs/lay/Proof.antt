@@ -7,7 +7,7 @@ use native.Mathlib.Omega.{arith}
 use borrow.Author.Rules.{rules}
 use lib.ListN.{length}
 use Rattle.bits.specs.Bits.{bits_of}
-use Rattle.bits.specs.Element.{hasEight}
+use Rattle.bits.specs.Element.{has_eight}
 use Rattle.bits.proofs.Tests.{said-no, said-yes}
 use Rattle.bits.proofs.Elements.{room}
 use Rattle.bits.proofs.Lays.{eight-room, splice-laid, lay-there, lay-put}
@@ -22,7 +22,7 @@ returns c =
     let e = said-no t.before.has-eight.ensures t.if1.true in
     (p.put.ensures.0, p.put.ensures.1 ∙ sym (lay-put a.buf.now a.at a.width a.element e))
 
-eight : (c : tie.Else1) → let a = c.before.before.before.args in hasEight (length a.buf.now) a.at a.width ≡ true
+eight : (c : tie.Else1) → let a = c.before.before.before.args in has_eight (length a.buf.now) a.at a.width ≡ true
 eight c = said-yes c.before.has-eight.ensures c.if1.false
 
 inside : (c : tie.Else1) → let a = c.before.before.before.args in (a.width ≤ 57) × (a.at / 8 + 8 ≤ length a.buf.now)

@@ -5,16 +5,16 @@ use Prim.Native.Nat.{ℕ}
 use native.Mathlib.Omega.{arith}
 use borrow.Author.Rules.{rules}
 use Rattle.bits.specs.Bits.{bits, bits_of, splice}
-use Rattle.bits.specs.Element.{hasRoom}
+use Rattle.bits.specs.Element.{has_room}
 use Rattle.bits.proofs.Splices.{splice-nil}
-use Rattle.bits.proofs.Elements.{room, no-room-wide, no_room, put-there, put-nothing}
+use Rattle.bits.proofs.Elements.{room, no_room-wide, no_room, put-there, put-nothing}
 use Rattle.bits.proofs.put.Statement.{statement}
 use Rattle.bits.proofs.put.Tie as tie
 
 returns : tie.Need-returns
 returns c =
     let a = c.before.before.args in
-    let e = no-room-wide a.buf.now a.at a.width c.if1.true in
+    let e = no_room-wide a.buf.now a.at a.width c.if1.true in
     (sym e, sym (put-nothing a.buf.now a.at a.width a.element e))
 
 returns-2 : tie.Need-returns-2
@@ -29,7 +29,7 @@ returns-3 c =
     let e = no_room a.buf.now a.at a.width (omega arith) (omega arith) in
     (sym e, sym (put-nothing a.buf.now a.at a.width a.element e))
 
-there : (c : tie.Else3) → let a = c.before.before.before.before.args in hasRoom a.buf.now a.at a.width ≡ true
+there : (c : tie.Else3) → let a = c.before.before.before.before.args in has_room a.buf.now a.at a.width ≡ true
 there c = let a = c.before.before.before.before.args in room a.buf.now a.at a.width (omega arith) (omega arith)
 
 returns-4 : tie.Need-returns-4

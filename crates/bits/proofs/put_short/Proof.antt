@@ -9,7 +9,7 @@ use borrow.Author.Rules.{rules}
 use lib.ListN.{length, take, drop, get_or, set, replicate, length-set}
 use lib.Seq.{paste, paste-zero, paste-suc, drop-length}
 use Rattle.bits.specs.Bits.{bits, bits_of, splice}
-use Rattle.bits.proofs.Numbers.{length-bitsOf}
+use Rattle.bits.proofs.Numbers.{length-bits_of}
 use Rattle.bits.proofs.Stores.{splice_front}
 use Rattle.bits.proofs.put_short.Statement.{statement}
 use Rattle.bits.proofs.put_short.Tie as tie
@@ -53,7 +53,7 @@ returns c =
     ∙ splice_front s (replicate (8 - n) 0) held a.at (bits_of a.width a.element)
     (omega (arith, eight c.before))
     (d.put-within.ensures ∙ ap (λ (x : List ℕ). splice (bits x) a.at (bits_of a.width a.element)) p.padded.ensures)
-    (omega (arith, length-bitsOf a.width a.element))
+    (omega (arith, length-bits_of a.width a.element))
 
 pub put-short-spec : {M : Type 1} → statement M
 put-short-spec =

@@ -6,7 +6,7 @@ use native.Mathlib.Omega.{arith}
 use borrow.Author.Rules.{rules}
 use lib.Pow.{pow_pos}
 use Rattle.bits.specs.Bits.{bits, bits_of, splice}
-use Rattle.bits.proofs.Numbers.{bitsOf-mod}
+use Rattle.bits.proofs.Numbers.{bits_of_mod}
 use Rattle.bits.proofs.Stores.{within, splice-eight}
 use Rattle.bits.proofs.put_within.Statement.{statement}
 use Rattle.bits.proofs.put_within.Tie as tie
@@ -27,7 +27,7 @@ returns c =
     c.before.before.set-eight.ensures
     ∙ ap (λ (x : ℕ). splice (bits s) (8 * first) (bits_of 64 x)) (w.with-field.ensures ∙ ap (λ (x : ℕ). within x n k f) e.eight.ensures)
     ∙ splice-eight s first r n k f (omega (arith, m.least.ensures)) (omega (arith, m.least.ensures)) (mod-lt a.element (pow_pos n))
-    ∙ ap₂ (splice (bits s)) place (bitsOf-mod n a.element)
+    ∙ ap₂ (splice (bits s)) place (bits_of_mod n a.element)
 
 pub put-within-spec : {M : Type 1} → statement M
 put-within-spec =

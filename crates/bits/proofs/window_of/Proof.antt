@@ -3,7 +3,7 @@ use mathlib.Core.Path.{◌≡◌, ◌∙◌, ap, sym}
 use Prim.Native.Nat.{ℕ, ◌+◌, ◌-◌, ◌*◌, ◌/◌, ◌%◌, ◌^◌}
 use native.Mathlib.Omega.{arith}
 use borrow.Author.Rules.{rules}
-use Rattle.bits.specs.Element.{windowAt}
+use Rattle.bits.specs.Element.{window_at}
 use Rattle.bits.proofs.Windows.{window-after, window-eight}
 use Rattle.bits.proofs.window_of.Statement.{statement}
 use Rattle.bits.proofs.window_of.Tie as tie
@@ -22,7 +22,7 @@ returns-2 c =
     let place : 8 * first + into ≡ a.at = omega (arith, c.before.before.least.ensures) in
     ap (λ (x : ℕ). x * 2 ^ into % 2 ^ 64 / 2 ^ 7) c.eight.ensures
     ∙ window-eight s first into (omega (arith, c.before.before.least.ensures)) (omega arith) (λ late. omega (arith, c.before.before.least.ensures))
-    ∙ ap (windowAt s) place
+    ∙ ap (window_at s) place
 
 pub window-of-spec : {M : Type 1} → statement M
 window-of-spec =

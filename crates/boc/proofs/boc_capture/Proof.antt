@@ -1,6 +1,6 @@
 -- The answer told. Assumes nothing.
 use borrow.Author.Rules.{rules}
-use Rattle.boc.specs.Calls.{storedNumber, storedLength, storedEntry, storedPlace}
+use Rattle.boc.specs.Calls.{stored_number, stored_length, stored_entry, stored_place}
 use Rattle.boc.proofs.Answering.{passed_on}
 use Rattle.boc.proofs.boc_capture.Statement.{statement}
 use Rattle.boc.proofs.boc_capture.Tie as tie
@@ -8,7 +8,7 @@ use Rattle.boc.proofs.boc_capture.Tie as tie
 returns : tie.Need-returns
 returns c =
     let call = c.before.before.before.before.before.before.capture.ensures in
-    passed_on call.0 storedNumber storedLength storedEntry storedPlace call.1 c.tell-stored.ensures
+    passed_on call.0 stored_number stored_length stored_entry stored_place call.1 c.tell-stored.ensures
 
 pub boc-capture-spec : {M : Type 1} → statement M
 boc-capture-spec = tie.close (tie.spec (λ c κs. search rules) (λ c κs. search rules) (λ c. search rules) returns)

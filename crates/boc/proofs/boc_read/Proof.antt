@@ -2,22 +2,22 @@
 use mathlib.Core.Path.{refl}
 use Prim.Native.Nat.{ℕ}
 use borrow.Author.Rules.{rules}
-use Rattle.reader.specs.Read.{refusalOf}
+use Rattle.reader.specs.Read.{refusal_of}
 use Rattle.reader.specs.declared.Answer.{Answer}
-use Rattle.boc.specs.Calls.{readPlaceOf}
+use Rattle.boc.specs.Calls.{read_place_of}
 use Rattle.boc.proofs.Answering.{said, left}
 use Rattle.boc.proofs.boc_read.Statement.{statement}
 use Rattle.boc.proofs.boc_read.Tie as tie
 
 abbrev number : Answer → ℕ
-number a = (refusalOf a).number
+number a = (refusal_of a).number
 
 returns : tie.Need-returns
 returns c =
     let call = c.before.before.before.before.read-words in
     let e = call.ensures.0 in
     let t = c.enum_told.given.1 in
-    (said e t number refl, (call.ensures.1, left e t readPlaceOf refl))
+    (said e t number refl, (call.ensures.1, left e t read_place_of refl))
 
 returns-2 : tie.Need-returns-2
 returns-2 c =
@@ -25,7 +25,7 @@ returns-2 c =
     let call = refusal.before.before.before.before.read-words in
     let e = call.ensures.0 in
     let t = refusal.refusal.given.1 in
-    (said e t number refl, (call.ensures.1, left e t readPlaceOf c.place-word.ensures))
+    (said e t number refl, (call.ensures.1, left e t read_place_of c.place-word.ensures))
 
 pub boc-read-spec : {M : Type 1} → statement M
 boc-read-spec =

@@ -2,9 +2,9 @@
 use mathlib.Core.Path.{◌≡◌, ◌∙◌}
 use Prim.Native.Nat.{ℕ}
 use borrow.Author.Rules.{rules}
-use Rattle.writer.specs.Write.{writtenNumber}
+use Rattle.writer.specs.Write.{written_number}
 use Rattle.writer.specs.declared.Written.{Written}
-use Rattle.boc.specs.Calls.{writtenLength, writeNumber, writeOut, writeBits}
+use Rattle.boc.specs.Calls.{written_length, write_number, write_out, write_bits}
 use Rattle.boc.proofs.Answering.{passed}
 use Rattle.boc.proofs.Words.{write-number, write-out, write-bits}
 use Rattle.boc.proofs.boc_write.Statement.{statement}
@@ -15,12 +15,12 @@ told : (c : tie.After-write-words) {answer : Written} → c.write-words.result �
     let a = c.before.before.before.before.args in
     let w = a.«record».now in
     let out = a.out.now in
-    (writtenNumber answer ≡ writeNumber w out) × ((c.write-words.new.1.0 ≡ writeOut w out) × (writtenLength answer old ≡ writeBits w out old))
+    (written_number answer ≡ write_number w out) × ((c.write-words.new.1.0 ≡ write_out w out) × (written_length answer old ≡ write_bits w out old))
 told c e old =
     let a = c.before.before.before.before.args in
     let w = a.«record».now in
     let out = a.out.now in
-    let p = passed c.write-words.ensures.0 e writtenNumber writtenLength old c.write-words.ensures.1 in
+    let p = passed c.write-words.ensures.0 e written_number written_length old c.write-words.ensures.1 in
     (p.0 ∙ write-number w out, (p.1.0 ∙ write-out w out, p.1.1 ∙ write-bits w out old))
 
 returns : tie.Need-returns

@@ -7,13 +7,13 @@ use borrow.Author.Rules.{rules}
 use lib.ListN.{length-take}
 use Rattle.bits.proofs.Tests.{by-test}
 use Rattle.archive.specs.declared.listing.Reported.{Reported}
-use Rattle.archive.specs.Listing.{reportIs}
+use Rattle.archive.specs.Listing.{report_is}
 use Rattle.archive.proofs.Text.Sizes.{report-fits}
 use Rattle.contents.proofs.main.Statement.{statement}
 use Rattle.contents.proofs.main.Tie as tie
 
 at_most :
-    (b : List ℕ) (room more : ℕ) {r : Reported} → r ≡ reportIs b room more → (r.printed ≤ room) × (r.told ≤ more)
+    (b : List ℕ) (room more : ℕ) {r : Reported} → r ≡ report_is b room more → (r.printed ≤ room) × (r.told ≤ more)
 at_most b room more e = subst (λ (x : Reported). (x.printed ≤ room) × (x.told ≤ more)) (sym e) (report-fits b room more)
 
 fits : (c : tie.After-report) → (c.report.result.printed ≤ 23066) × (c.report.result.told ≤ 52)

@@ -22,15 +22,15 @@ module _ (c : tie.After-read-some invariant-loop decreases-loop) where
   abbrev left : ℕ
   left = length at-loop.loop.buffer - at-loop.loop.done
 
-  kept : length (put_mid at-loop.loop.done left at-loop.loop.buffer c.read_Some.new.0) ≡ length at-loop.loop.buffer
-  kept = same_len_mid at-loop.loop.done left at-loop.loop.buffer c.read_Some.new.0 c.read_Some.auto.0
+  kept : length (put_mid at-loop.loop.done left at-loop.loop.buffer c.read_some.new.0) ≡ length at-loop.loop.buffer
+  kept = same_len_mid at-loop.loop.done left at-loop.loop.buffer c.read_some.new.0 c.read_some.auto.0
 
-  fits : at-loop.loop.done + c.read_Some.result.count ≤ length at-loop.loop.buffer
+  fits : at-loop.loop.done + c.read_some.result.count ≤ length at-loop.loop.buffer
   fits =
       omega (
         arith,
-        c.read_Some.ensures,
-        c.read_Some.auto.0,
+        c.read_some.ensures,
+        c.read_some.auto.0,
         length-take left (drop at-loop.loop.done at-loop.loop.buffer),
         length-drop
             at-loop.loop.done at-loop.loop.buffer,

@@ -2,8 +2,8 @@
 use Rattle.std.specs.Prelude.{◌≡◌, refl, Bool, List, [], ◌∷◌, ◌++◌, ℕ}
 use Rattle.bits.specs.Bits.{bits_of}
 use Rattle.grammar.specs.Grammar.{pdu, grammar}
-use Rattle.grammar.specs.Zero.{zeroLists}
-use Rattle.grammar.specs.Samples.{near, far, list, digits, numbers, services, identityLists, numberLists}
+use Rattle.grammar.specs.Zero.{zero_lists}
+use Rattle.grammar.specs.Samples.{near, far, list, digits, numbers, services, identity_lists, number_lists}
 use Rattle.grammar.specs.Samples as a
 use Rattle.grammar.specs.declared.record.Identities.{Identities}
 use Rattle.grammar.specs.declared.record.Services.{Services}
@@ -28,115 +28,115 @@ abbrev user : Identities
 user = list 1 (far 7 5 ∷ [])
 
 -- range type, SSI, extension present, extension
-abbrev userLaid : Elements
-userLaid = (4, 1) ∷ (24, 5) ∷ (1, 1) ∷ (24, 7) ∷ []
+abbrev user_laid : Elements
+user_laid = (4, 1) ∷ (24, 5) ∷ (1, 1) ∷ (24, 7) ∷ []
 
 -- the services 1 and 3
 abbrev covered : Services
 covered = services (1 ∷ 3 ∷ [])
 
 -- number of services, services
-abbrev coveredLaid : Elements
-coveredLaid = (3, 2) ∷ (3, 1) ∷ (3, 3) ∷ []
+abbrev covered_laid : Elements
+covered_laid = (3, 2) ∷ (3, 1) ∷ (3, 3) ∷ []
 
 -- delivery, acknowledgement, definition type; acknowledgement, definition type
 abbrev pub definition : ℕ → ℕ → ℕ → Elements
 definition delivery acknowledgement type = (1, delivery) ∷ (1, acknowledgement) ∷ (2, type) ∷ []
 
-abbrev pub userDefinition : ℕ → ℕ → Elements
-userDefinition acknowledgement type = (1, acknowledgement) ∷ (2, type) ∷ []
+abbrev pub user_definition : ℕ → ℕ → Elements
+user_definition acknowledgement type = (1, acknowledgement) ∷ (2, type) ∷ []
 
 -- group 500, restricted the range 7/100 to 7/199, exceptions 150 and 8/151
-abbrev identityPart : Lists
-identityPart = identityLists (list 1 (near 500 ∷ [])) (list 9 (far 7 100 ∷ far 7 199 ∷ [])) (list 2 (near 150 ∷ far 8 151 ∷ []))
+abbrev identity_part : Lists
+identity_part = identity_lists (list 1 (near 500 ∷ [])) (list 9 (far 7 100 ∷ far 7 199 ∷ [])) (list 2 (near 150 ∷ far 8 151 ∷ []))
 
-abbrev identityPartLaid : Elements
-identityPartLaid =
+abbrev identity_part_laid : Elements
+identity_part_laid =
     (4, 1) ∷ (24, 500) ∷ (1, 0)
     ∷ (4, 9) ∷ (24, 100) ∷ (1, 1) ∷ (24, 7) ∷ (24, 199) ∷ (1, 1) ∷ (24, 7)
     ∷ (4, 2) ∷ (24, 150) ∷ (1, 0) ∷ (24, 151) ∷ (1, 1) ∷ (24, 8) ∷ []
 
 -- group 500, restricted 112 and *, excepted 9
-abbrev numberPart : Lists
-numberPart = numberLists (list 1 (near 500 ∷ [])) (numbers 2 (digits (1 ∷ 1 ∷ 2 ∷ []) ∷ digits (10 ∷ []) ∷ [])) (numbers 1 (digits (9 ∷ []) ∷ []))
+abbrev number_part : Lists
+number_part = number_lists (list 1 (near 500 ∷ [])) (numbers 2 (digits (1 ∷ 1 ∷ 2 ∷ []) ∷ digits (10 ∷ []) ∷ [])) (numbers 1 (digits (9 ∷ []) ∷ []))
 
-abbrev numberPartLaid : Elements
-numberPartLaid =
+abbrev number_part_laid : Elements
+number_part_laid =
     (4, 1) ∷ (24, 500) ∷ (1, 0)
     ∷ (4, 2) ∷ (5, 3) ∷ (4, 1) ∷ (4, 1) ∷ (4, 2) ∷ (5, 1) ∷ (4, 10)
     ∷ (4, 1) ∷ (5, 1) ∷ (4, 9) ∷ []
 
 -- three range types, and no entry
-abbrev pub emptyPartLaid : Elements
-emptyPartLaid = (4, 0) ∷ (4, 0) ∷ (4, 0) ∷ []
+abbrev pub empty_part_laid : Elements
+empty_part_laid = (4, 0) ∷ (4, 0) ∷ (4, 0) ∷ []
 
 -- ---- table 10: a replacement; an addition has its range types though all lists are empty; a removal has none
 
-replacement-bits : pdu.print (a.define user 1 0 1 covered identityPart)
-    ≡ in_turn (head 5 ++ userLaid ++ definition 1 0 1 ++ coveredLaid ++ identityPartLaid)
+replacement-bits : pdu.print (a.define user 1 0 1 covered identity_part)
+    ≡ in_turn (head 5 ++ user_laid ++ definition 1 0 1 ++ covered_laid ++ identity_part_laid)
 unfolding grammar
 replacement-bits = refl
 
-addition-bits : pdu.print (a.define user 1 1 0 covered zeroLists)
-    ≡ in_turn (head 5 ++ userLaid ++ definition 1 1 0 ++ coveredLaid ++ emptyPartLaid)
+addition-bits : pdu.print (a.define user 1 1 0 covered zero_lists)
+    ≡ in_turn (head 5 ++ user_laid ++ definition 1 1 0 ++ covered_laid ++ empty_part_laid)
 unfolding grammar
 addition-bits = refl
 
-removal-bits : pdu.print (a.define user 0 0 2 covered zeroLists) ≡ in_turn (head 5 ++ userLaid ++ definition 0 0 2 ++ coveredLaid)
+removal-bits : pdu.print (a.define user 0 0 2 covered zero_lists) ≡ in_turn (head 5 ++ user_laid ++ definition 0 0 2 ++ covered_laid)
 unfolding grammar
 removal-bits = refl
 
 -- ---- table 11: the definition result last
 
-define-ack-bits : pdu.print (a.defineAck user 6) ≡ in_turn (head 6 ++ userLaid ++ (3, 6) ∷ [])
+define_ack-bits : pdu.print (a.define_ack user 6) ≡ in_turn (head 6 ++ user_laid ++ (3, 6) ∷ [])
 unfolding grammar
-define-ack-bits = refl
+define_ack-bits = refl
 
 -- ---- table 12
 
-external-replacement-bits : pdu.print (a.defineExternal user 1 0 1 covered numberPart)
-    ≡ in_turn (head 7 ++ userLaid ++ definition 1 0 1 ++ coveredLaid ++ numberPartLaid)
+external_replacement-bits : pdu.print (a.define_external user 1 0 1 covered number_part)
+    ≡ in_turn (head 7 ++ user_laid ++ definition 1 0 1 ++ covered_laid ++ number_part_laid)
 unfolding grammar
-external-replacement-bits = refl
+external_replacement-bits = refl
 
-external-addition-bits : pdu.print (a.defineExternal user 1 1 0 covered zeroLists)
-    ≡ in_turn (head 7 ++ userLaid ++ definition 1 1 0 ++ coveredLaid ++ emptyPartLaid)
+external_addition-bits : pdu.print (a.define_external user 1 1 0 covered zero_lists)
+    ≡ in_turn (head 7 ++ user_laid ++ definition 1 1 0 ++ covered_laid ++ empty_part_laid)
 unfolding grammar
-external-addition-bits = refl
+external_addition-bits = refl
 
-external-removal-bits : pdu.print (a.defineExternal user 0 0 2 covered zeroLists)
-    ≡ in_turn (head 7 ++ userLaid ++ definition 0 0 2 ++ coveredLaid)
+external-removal-bits : pdu.print (a.define_external user 0 0 2 covered zero_lists)
+    ≡ in_turn (head 7 ++ user_laid ++ definition 0 0 2 ++ covered_laid)
 unfolding grammar
 external-removal-bits = refl
 
 -- ---- tables 13 and 15: to the affected user itself, so that it is not named
 
-user-replacement-bits :
-    (pdu.print (a.defineUser 1 1 covered identityPart) ≡ in_turn (head 8 ++ userDefinition 1 1 ++ coveredLaid ++ identityPartLaid))
-    × (pdu.print (a.defineExternalUser 1 1 covered identityPart) ≡ in_turn (head 10 ++ userDefinition 1 1 ++ coveredLaid ++ identityPartLaid))
+user_replacement-bits :
+    (pdu.print (a.define_user 1 1 covered identity_part) ≡ in_turn (head 8 ++ user_definition 1 1 ++ covered_laid ++ identity_part_laid))
+    × (pdu.print (a.define_external_user 1 1 covered identity_part) ≡ in_turn (head 10 ++ user_definition 1 1 ++ covered_laid ++ identity_part_laid))
 unfolding grammar
-user-replacement-bits = (refl, refl)
+user_replacement-bits = (refl, refl)
 
-user-addition-bits :
-    (pdu.print (a.defineUser 1 0 covered zeroLists) ≡ in_turn (head 8 ++ userDefinition 1 0 ++ coveredLaid ++ emptyPartLaid))
-    × (pdu.print (a.defineExternalUser 1 0 covered zeroLists) ≡ in_turn (head 10 ++ userDefinition 1 0 ++ coveredLaid ++ emptyPartLaid))
+user_addition-bits :
+    (pdu.print (a.define_user 1 0 covered zero_lists) ≡ in_turn (head 8 ++ user_definition 1 0 ++ covered_laid ++ empty_part_laid))
+    × (pdu.print (a.define_external_user 1 0 covered zero_lists) ≡ in_turn (head 10 ++ user_definition 1 0 ++ covered_laid ++ empty_part_laid))
 unfolding grammar
-user-addition-bits = (refl, refl)
+user_addition-bits = (refl, refl)
 
-user-removal-bits : (pdu.print (a.defineUser 0 2 covered zeroLists) ≡ in_turn (head 8 ++ userDefinition 0 2 ++ coveredLaid))
-    × (pdu.print (a.defineExternalUser 0 2 covered zeroLists) ≡ in_turn (head 10 ++ userDefinition 0 2 ++ coveredLaid))
+user-removal-bits : (pdu.print (a.define_user 0 2 covered zero_lists) ≡ in_turn (head 8 ++ user_definition 0 2 ++ covered_laid))
+    × (pdu.print (a.define_external_user 0 2 covered zero_lists) ≡ in_turn (head 10 ++ user_definition 0 2 ++ covered_laid))
 unfolding grammar
 user-removal-bits = (refl, refl)
 
 -- ---- tables 14 and 18: the distribution result, the rejection cause
 
-user-ack-bits : pdu.print (a.defineUserAck 7) ≡ in_turn (head 9 ++ (3, 7) ∷ [])
+user-ack-bits : pdu.print (a.define_user_ack 7) ≡ in_turn (head 9 ++ (3, 7) ∷ [])
 unfolding grammar
 user-ack-bits = refl
 
-call-barred-bits : pdu.print (a.callBarred 2) ≡ in_turn (head 13 ++ (2, 2) ∷ [])
+call_barred-bits : pdu.print (a.call_barred 2) ≡ in_turn (head 13 ++ (2, 2) ∷ [])
 unfolding grammar
-call-barred-bits = refl
+call_barred-bits = refl
 
 -- ---- table 16: the interrogation type last
 
@@ -147,12 +147,12 @@ interrogate-bits = refl
 
 -- ---- table 17: interrogation result, delivery status; the lists as the result has them
 
-identity-part-bits : pdu.print (a.interrogateAck user 1 2 covered identityPart)
-    ≡ in_turn (head 12 ++ userLaid ++ (3, 1) ∷ (2, 2) ∷ coveredLaid ++ identityPartLaid)
+identity_part-bits : pdu.print (a.interrogate_ack user 1 2 covered identity_part)
+    ≡ in_turn (head 12 ++ user_laid ++ (3, 1) ∷ (2, 2) ∷ covered_laid ++ identity_part_laid)
 unfolding grammar
-identity-part-bits = refl
+identity_part-bits = refl
 
-number-part-bits : pdu.print (a.interrogateAck user 2 2 covered numberPart)
-    ≡ in_turn (head 12 ++ userLaid ++ (3, 2) ∷ (2, 2) ∷ coveredLaid ++ numberPartLaid)
+number_part-bits : pdu.print (a.interrogate_ack user 2 2 covered number_part)
+    ≡ in_turn (head 12 ++ user_laid ++ (3, 2) ∷ (2, 2) ∷ covered_laid ++ number_part_laid)
 unfolding grammar
-number-part-bits = refl
+number_part-bits = refl

@@ -3,19 +3,19 @@
 use Rattle.std.specs.Prelude.{◌≡◌, refl, [], ◌∷◌, ◌++◌, ℕ, replicate}
 use Rattle.bits.proofs.Table.{values}
 use Rattle.codec.specs.Codec.{Outcome, ok, no}
-use Rattle.codec.specs.Whole.{wholeParse}
+use Rattle.codec.specs.Whole.{whole_parse}
 use Rattle.grammar.specs.Grammar.{pdu, grammar}
-use Rattle.grammar.specs.Zero.{zeroLists}
+use Rattle.grammar.specs.Zero.{zero_lists}
 use Rattle.grammar.specs.Samples.{near, far, list, services}
 use Rattle.grammar.specs.Samples as a
-use Rattle.grammar.specs.Examples.Layouts.{Elements, in_turn, head, definition, userDefinition, emptyPartLaid}
+use Rattle.grammar.specs.Examples.Layouts.{Elements, in_turn, head, definition, user_definition, empty_part_laid}
 use Rattle.grammar.specs.declared.record.Identity.{Identity}
 use Rattle.grammar.specs.declared.record.Identities.{Identities}
 use Rattle.grammar.specs.declared.record.Services.{Services}
 use Rattle.grammar.specs.declared.record.Record.{Record}
 
 abbrev reading : Elements → Outcome Record
-reading l = wholeParse pdu (in_turn l)
+reading l = whole_parse pdu (in_turn l)
 
 -- affected user 5, in the bits 11 to 39; service 2, of one
 abbrev user : Elements
@@ -44,15 +44,15 @@ unfolding grammar
 acknowledged = (refl, refl)
 
 -- in tables 13 and 15 it is free
-acknowledged-freely : (reading (head 8 ++ userDefinition 1 2 ++ service) ≡ ok (a.defineUser 1 2 covered zeroLists) 20 [])
-    × (reading (head 10 ++ userDefinition 1 2 ++ service) ≡ ok (a.defineExternalUser 1 2 covered zeroLists) 20 [])
+acknowledged_freely : (reading (head 8 ++ user_definition 1 2 ++ service) ≡ ok (a.define_user 1 2 covered zero_lists) 20 [])
+    × (reading (head 10 ++ user_definition 1 2 ++ service) ≡ ok (a.define_external_user 1 2 covered zero_lists) 20 [])
 unfolding grammar
-acknowledged-freely = (refl, refl)
+acknowledged_freely = (refl, refl)
 
 reserved-definition : (reading (head 5 ++ user ++ definition 1 0 3 ++ service) ≡ no 3 42)
     × (reading (head 7 ++ user ++ definition 1 0 3 ++ service) ≡ no 3 42)
-    × (reading (head 8 ++ userDefinition 0 3 ++ service) ≡ no 3 12)
-    × (reading (head 10 ++ userDefinition 0 3 ++ service) ≡ no 3 12)
+    × (reading (head 8 ++ user_definition 0 3 ++ service) ≡ no 3 12)
+    × (reading (head 10 ++ user_definition 0 3 ++ service) ≡ no 3 12)
 unfolding grammar
 reserved-definition = (refl, refl, refl, refl)
 
@@ -64,18 +64,18 @@ unfolding grammar
 reserved-outcome = (refl, refl, refl)
 
 -- interrogation type 0; interrogation result 5
-reserved-interrogation : (reading (head 11 ++ user ++ (2, 0) ∷ []) ≡ no 3 40)
+reserved_interrogation : (reading (head 11 ++ user ++ (2, 0) ∷ []) ≡ no 3 40)
     × (reading (head 12 ++ user ++ (3, 5) ∷ (2, 0) ∷ service) ≡ no 3 40)
 unfolding grammar
-reserved-interrogation = (refl, refl)
+reserved_interrogation = (refl, refl)
 
 -- no service; service 4
 reserved-service : (reading (head 7 ++ user ++ definition 0 0 2 ++ (3, 0) ∷ []) ≡ no 3 44)
-    × (reading (head 8 ++ userDefinition 0 2 ++ (3, 0) ∷ []) ≡ no 3 14)
-    × (reading (head 10 ++ userDefinition 0 2 ++ (3, 0) ∷ []) ≡ no 3 14)
+    × (reading (head 8 ++ user_definition 0 2 ++ (3, 0) ∷ []) ≡ no 3 14)
+    × (reading (head 10 ++ user_definition 0 2 ++ (3, 0) ∷ []) ≡ no 3 14)
     × (reading (head 7 ++ user ++ definition 0 0 2 ++ (3, 1) ∷ (3, 4) ∷ []) ≡ no 3 47)
-    × (reading (head 8 ++ userDefinition 0 2 ++ (3, 1) ∷ (3, 4) ∷ []) ≡ no 3 17)
-    × (reading (head 10 ++ userDefinition 0 2 ++ (3, 1) ∷ (3, 4) ∷ []) ≡ no 3 17)
+    × (reading (head 8 ++ user_definition 0 2 ++ (3, 1) ∷ (3, 4) ∷ []) ≡ no 3 17)
+    × (reading (head 10 ++ user_definition 0 2 ++ (3, 1) ∷ (3, 4) ∷ []) ≡ no 3 17)
 unfolding grammar
 reserved-service = (refl, refl, refl, refl, refl, refl)
 
@@ -87,8 +87,8 @@ nobody-affected = (refl, refl)
 
 -- range type 10 for closed user groups
 reserved-range : (reading (head 7 ++ user ++ definition 0 0 0 ++ service ++ (4, 10) ∷ []) ≡ no 3 50)
-    × (reading (head 8 ++ userDefinition 0 0 ++ service ++ (4, 10) ∷ []) ≡ no 3 20)
-    × (reading (head 10 ++ userDefinition 0 0 ++ service ++ (4, 10) ∷ []) ≡ no 3 20)
+    × (reading (head 8 ++ user_definition 0 0 ++ service ++ (4, 10) ∷ []) ≡ no 3 20)
+    × (reading (head 10 ++ user_definition 0 0 ++ service ++ (4, 10) ∷ []) ≡ no 3 20)
 unfolding grammar
 reserved-range = (refl, refl, refl)
 
@@ -110,10 +110,10 @@ number-range = (refl, refl)
 
 -- ---- what is left over: lists under removal; a bit behind a result or a cause
 
-list_left : (reading (head 5 ++ user ++ definition 1 0 2 ++ service ++ emptyPartLaid) ≡ no 5 50)
-    × (reading (head 7 ++ user ++ definition 1 0 2 ++ service ++ emptyPartLaid) ≡ no 5 50)
-    × (reading (head 8 ++ userDefinition 1 2 ++ service ++ emptyPartLaid) ≡ no 5 20)
-    × (reading (head 10 ++ userDefinition 1 2 ++ service ++ emptyPartLaid) ≡ no 5 20)
+list_left : (reading (head 5 ++ user ++ definition 1 0 2 ++ service ++ empty_part_laid) ≡ no 5 50)
+    × (reading (head 7 ++ user ++ definition 1 0 2 ++ service ++ empty_part_laid) ≡ no 5 50)
+    × (reading (head 8 ++ user_definition 1 2 ++ service ++ empty_part_laid) ≡ no 5 20)
+    × (reading (head 10 ++ user_definition 1 2 ++ service ++ empty_part_laid) ≡ no 5 20)
 unfolding grammar
 list_left = (refl, refl, refl, refl)
 
@@ -127,7 +127,7 @@ bit-left = (refl, refl, refl)
 
 -- as affected users of a failed ACK
 abbrev between : Identity → Identity → ℕ
-between first last = pdu.fault (a.interrogateAck (list 9 (first ∷ last ∷ [])) 0 0 covered zeroLists)
+between first last = pdu.fault (a.interrogate_ack (list 9 (first ∷ last ∷ [])) 0 0 covered zero_lists)
 
 -- 199 to 199 is legal, also with the same extension; 200 to 199 gives 4, and so do a missing and another extension
 range-ends : (between (near 199) (near 199) ≡ 0)
@@ -144,7 +144,7 @@ abbrev backwards : Elements
 backwards = (4, 9) ∷ (24, 200) ∷ (1, 0) ∷ (24, 199) ∷ (1, 0) ∷ []
 
 reversed : (reading (head 12 ++ user ++ (3, 1) ∷ (2, 0) ∷ service ++ (4, 0) ∷ backwards ++ (4, 0) ∷ []) ≡ no 4 84)
-    × (reading (head 10 ++ userDefinition 0 0 ++ service ++ (4, 0) ∷ (4, 0) ∷ backwards) ≡ no 4 57)
+    × (reading (head 10 ++ user_definition 0 0 ++ service ++ (4, 0) ∷ (4, 0) ∷ backwards) ≡ no 4 57)
 unfolding grammar
 reversed = (refl, refl)
 
@@ -156,16 +156,16 @@ written r = pdu.fault r
 abbrev one : Identities
 one = list 1 (near 5 ∷ [])
 
-too_wide : (written (a.define one 2 0 2 covered zeroLists) ≡ 3)
-    × (written (a.define one 1 2 2 covered zeroLists) ≡ 3)
-    × (written (a.define one 1 1 4 covered zeroLists) ≡ 3)
-    × (written (a.defineAck one 8) ≡ 3)
-    × (written (a.defineUser 2 2 covered zeroLists) ≡ 3)
-    × (written (a.defineUser 1 4 covered zeroLists) ≡ 3)
-    × (written (a.defineUserAck 8) ≡ 3)
+too_wide : (written (a.define one 2 0 2 covered zero_lists) ≡ 3)
+    × (written (a.define one 1 2 2 covered zero_lists) ≡ 3)
+    × (written (a.define one 1 1 4 covered zero_lists) ≡ 3)
+    × (written (a.define_ack one 8) ≡ 3)
+    × (written (a.define_user 2 2 covered zero_lists) ≡ 3)
+    × (written (a.define_user 1 4 covered zero_lists) ≡ 3)
+    × (written (a.define_user_ack 8) ≡ 3)
     × (written (a.interrogate one 4) ≡ 3)
-    × (written (a.interrogateAck one 8 0 covered zeroLists) ≡ 3)
-    × (written (a.interrogateAck one 0 4 covered zeroLists) ≡ 3)
-    × (written (a.callBarred 4) ≡ 3)
+    × (written (a.interrogate_ack one 8 0 covered zero_lists) ≡ 3)
+    × (written (a.interrogate_ack one 0 4 covered zero_lists) ≡ 3)
+    × (written (a.call_barred 4) ≡ 3)
 unfolding grammar
 too_wide = (refl, refl, refl, refl, refl, refl, refl, refl, refl, refl, refl)

@@ -1,13 +1,13 @@
 -- The part that judges is walked in its place, or the answer is passed on. Assumes nothing.
 use mathlib.Core.Path.{◌≡◌, sym, ◌∙◌}
 use borrow.Author.Rules.{rules}
-use Rattle.barring.specs.Decide.{judgingPart}
+use Rattle.barring.specs.Decide.{judging_part}
 use Rattle.barring.proofs.Decided.{decide-body, part_at, part-answered}
 use Rattle.in_place.proofs.Judged.{judging}
 use Rattle.in_place.proofs.decide.Statement.{statement}
 use Rattle.in_place.proofs.decide.Tie as tie
 
-judged : (c : tie.After-judging-part) → let a = c.before.before.args in judgingPart a.archive.now a.request ≡ c.judging-part.result
+judged : (c : tie.After-judging-part) → let a = c.before.before.args in judging_part a.archive.now a.request ≡ c.judging-part.result
 judged c = sym c.judging-part.ensures
 
 ruling-of-body-requires : tie.Need-ruling-of-body-requires

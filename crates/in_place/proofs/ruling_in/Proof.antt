@@ -12,9 +12,9 @@ use Rattle.codec.specs.Codec.{Codec}
 use Rattle.grammar.specs.Grammar.{services, identities}
 use Rattle.grammar.specs.declared.site.ListKind.TheVariants as of
 use Rattle.reader.specs.Inner.{Read}
-use Rattle.rules.specs.Matching.{identityAmong, numberAmong, covered}
+use Rattle.rules.specs.Matching.{identity_among, number_among, covered}
 use Rattle.rules.specs.Rule.{in_groups}
-use Rattle.barring.specs.Decide.{partFor}
+use Rattle.barring.specs.Decide.{part_for}
 use Rattle.in_place.specs.Inner.{Walkable}
 use Rattle.in_place.specs.declared.Seen.{Seen}
 use Rattle.in_place.proofs.Splits.{says_is, SeenIs, sees-is}
@@ -89,10 +89,10 @@ groups-are c r = sees-is c.groups-at.ensures (rw (← (served (services-of c)).1
 
 lists : (c : tie.After-known-told) → let b = start_of c.before.before.before in
     IdentityLists (bits b.args.s.now) (ack b).lists_at b.pre.found.lists
-unfolding partFor
+unfolding part_for
 lists c =
     let b = start_of c.before.before.before in
-    identity-lists (b.pre.part ∙ ap partFor c.before.destination.given.1) (ack b).listed
+    identity-lists (b.pre.part ∙ ap part_for c.before.destination.given.1) (ack b).listed
 
 groups : (c : tie.After-known-told) → let g = c.before.before.before in let b = start_of g in
     GroupsAre b (lists c).restricted-at
@@ -100,7 +100,7 @@ groups : (c : tie.After-known-told) → let g = c.before.before.before in let b 
 groups c = groups-are c.before.before.before (lists c).groups
 
 restricted : (c : tie.After-identities-at) → let k = c.before in let b = start_of k.before.before.before in
-    SeenIs (λ l. identityAmong b.args.request.user.network l k.before.destination.given.0.0) (λ l. l.code)
+    SeenIs (λ l. identity_among b.args.request.user.network l k.before.destination.given.0.0) (λ l. l.code)
     b.pre.found.lists.restricted (lists k).exceptions-at c.identities-at.result
 restricted c = let k = c.before in sees-is c.identities-at.ensures (rw (← (groups k).ends) at (lists k).restricted)
 
@@ -130,10 +130,10 @@ returns-2 c =
 
 number-parts : (c : tie.After-digits) → let b = start_of c.before.before.before.before in
     NumberLists (bits b.args.s.now) (ack b).lists_at b.pre.found.lists
-unfolding partFor
+unfolding part_for
 number-parts c =
     let d = c.before.before in let b = start_of d.before.before in
-    number-lists (b.pre.part ∙ ap partFor d.destination2.given.1) (ack b).listed
+    number-lists (b.pre.part ∙ ap part_for d.destination2.given.1) (ack b).listed
 
 number-groups : (c : tie.After-digits) → let g = c.before.before.before.before in let b = start_of g in
     GroupsAre b (number-parts c).numbers-at
@@ -144,7 +144,7 @@ numbers-at-requires : tie.Need-numbers-at-requires
 numbers-at-requires c κs = passable (start_of c.before.before.before.before) (number-parts c).numbers (number-groups c).ends
 
 numbers : (c : tie.After-numbers-at) → let k = c.before in let d = k.before.before in let b = start_of d.before.before in
-    SeenIs (λ l. numberAmong l d.destination2.given.0.0.0 b.args.request.digits) (λ l. l.code) b.pre.found.lists.numbers
+    SeenIs (λ l. number_among l d.destination2.given.0.0.0 b.args.request.digits) (λ l. l.code) b.pre.found.lists.numbers
     (number-parts k).excepted-at c.numbers-at.result
 numbers c = let k = c.before in sees-is c.numbers-at.ensures (rw (← (number-groups k).ends) at (number-parts k).numbers)
 

@@ -1,30 +1,30 @@
 -- One test after the other. Assumes nothing.
 use native.Mathlib.Omega.{arith}
 use borrow.Author.Tests.{eq-eqb, ne_eqb, le-leb, lt-leb}
-use Rattle.judging.specs.Judge.{judgedIs}
+use Rattle.judging.specs.Judge.{judged_is}
 use Rattle.judging.proofs.judge.Statement.{statement}
 use Rattle.judging.proofs.judge.Tie as tie
 
 returns : tie.Need-returns
-unfolding judgedIs
+unfolding judged_is
 returns c = let h = c.before.before.args.head in rw (ne_eqb h.kind 12 c.if1.true)
 
 returns-2 : tie.Need-returns-2
-unfolding judgedIs
+unfolding judged_is
 returns-2 c =
     let k = c.before.before in
     let h = k.before.before.args.head in
     rw (eq-eqb h.kind 12 k.if1.false, lt-leb 1 h.result c.if2.true)
 
 returns-3 : tie.Need-returns-3
-unfolding judgedIs
+unfolding judged_is
 returns-3 c =
     let r = c.before.before in let k = r.before.before in
     let h = k.before.before.args.head in
     rw (eq-eqb h.kind 12 k.if1.false, le-leb 1 h.result (omega (arith, r.if2.false)), lt-leb h.result 2 c.if3.true)
 
 returns-4 : tie.Need-returns-4
-unfolding judgedIs
+unfolding judged_is
 returns-4 c =
     let p = c.before.before in let r = p.before.before in let k = r.before.before in
     let h = k.before.before.args.head in
@@ -36,7 +36,7 @@ returns-4 c =
     )
 
 returns-5 : tie.Need-returns-5
-unfolding judgedIs
+unfolding judged_is
 returns-5 c =
     let u = c.before in let p = u.before.before in let r = p.before.before in let k = r.before.before in
     let h = k.before.before.args.head in

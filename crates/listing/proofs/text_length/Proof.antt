@@ -5,12 +5,12 @@ use Prim.Native.Nat.{◌+◌, ◌-◌, ◌*◌, ◌≤◌}
 use native.Mathlib.Omega.{arith}
 use borrow.Author.Rules.{rules}
 use lib.ListN.{length, length-append}
-use Rattle.archive.specs.Model.{headerWidth, entryWidth}
+use Rattle.archive.specs.Model.{header_width, entry_width}
 use Rattle.archive.specs.Reading.{home_of, count_of, reading}
 use Rattle.text.specs.Decimal.{decimal}
 use Rattle.text.proofs.Decimals.{decimal-size}
-use Rattle.listing.specs.Listing.{firstLine, line, listing}
-use Rattle.listing.specs.Inner.{linesOn, linesIn}
+use Rattle.listing.specs.Listing.{first_line, line, listing}
+use Rattle.listing.specs.Inner.{lines_on, lines_in}
 use Rattle.archive.specs.declared.contents.Entry.{Entry}
 use Rattle.archive.proofs.Bytes.Checking.{sound}
 use Rattle.listing.proofs.Lines.{length-first, count-is, lines-all, lines_next, lines-over, listing-read}
@@ -19,8 +19,8 @@ use Rattle.listing.proofs.text_length.Tie as tie
 
 abbrev invariant-loop : tie.invariant-loop
 invariant-loop archive count home size₀ index₀ size index =
-    (count ≡ count_of archive) × (headerWidth + entryWidth * count_of archive ≤ length archive) × (count ≤ 512) × (index ≤ count)
-    × (size ≤ 55 + 119 * index) × (size + length (linesOn archive index) ≡ length (listing (reading archive)))
+    (count ≡ count_of archive) × (header_width + entry_width * count_of archive ≤ length archive) × (count ≤ 512) × (index ≤ count)
+    × (size ≤ 55 + 119 * index) × (size + length (lines_on archive index) ≡ length (listing (reading archive)))
 
 abbrev decreases-loop : tie.decreases-loop
 decreases-loop archive count home size₀ index₀ size index = count - index
@@ -44,12 +44,12 @@ loop-holds c =
     let b = count.before.before.args.archive.now in
     let s = sound b count.before.before.requires in
     let n = count.entry-count.ensures ∙ count-is b (omega (arith, s.whole)) in
-    let first : length (firstLine (home_of b) (count_of b))
+    let first : length (first_line (home_of b) (count_of b))
     ≡ length (decimal home.home.result) + length (decimal count.entry-count.result) + 15 =
-    (λ i. length (firstLine (sym home.home.ensures i) (sym n i))) ∙ length-first home.home.result count.entry-count.result
+    (λ i. length (first_line (sym home.home.ensures i) (sym n i))) ∙ length-first home.home.result count.entry-count.result
     in
-    let whole : length (listing (reading b)) ≡ length (firstLine (home_of b) (count_of b)) + length (linesIn b) =
-    ap length (listing-read b) ∙ length-append (firstLine (home_of b) (count_of b)) (linesIn b)
+    let whole : length (listing (reading b)) ≡ length (first_line (home_of b) (count_of b)) + length (lines_in b) =
+    ap length (listing-read b) ∙ length-append (first_line (home_of b) (count_of b)) (lines_in b)
     in (
       n,
       omega (arith, s.whole),
@@ -67,10 +67,10 @@ loop-again c =
     let l = loop.loop in
     let v = l.invariant in
     let e = entry.nth-entry.result in
-    let next : length (linesOn b l.index) ≡ length (line e) + length (linesOn b (l.index + 1)) =
+    let next : length (lines_on b l.index) ≡ length (line e) + length (lines_on b (l.index + 1)) =
     ap length (lines_next b l.index v.1 (omega (arith, entry.before.loop-test.true, v.0))
-    ∙ ap (λ (x : Entry). line x ++ linesOn b (l.index + 1)) (sym entry.nth-entry.ensures))
-    ∙ length-append (line e) (linesOn b (l.index + 1))
+    ∙ ap (λ (x : Entry). line x ++ lines_on b (l.index + 1)) (sym entry.nth-entry.ensures))
+    ∙ length-append (line e) (lines_on b (l.index + 1))
     in
     let size = c.line-length.ensures in
     (v.0, v.1, v.2, omega (arith, entry.before.loop-test.true), omega (arith, size, v.4), omega (arith, size, next, v.5))

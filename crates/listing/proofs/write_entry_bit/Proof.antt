@@ -7,28 +7,28 @@ use lib.ListN.{length}
 use Rattle.walk.specs.declared.BitPlace.TheVariants as bit
 use Rattle.text.specs.Decimal.{decimal}
 use Rattle.text.proofs.Decimals.{decimal-size}
-use Rattle.listing.specs.Listing.{entryWord, bitWord, faultText}
+use Rattle.listing.specs.Listing.{entry_word, bit_word, fault_text}
 use Rattle.archive.specs.declared.refusal.EntryPlace.TheVariants as entry
 use Rattle.listing.proofs.Lines.{length_two}
 use Rattle.listing.proofs.Within.{too_long, laid-whole}
 use Rattle.listing.proofs.write_entry_bit.Statement.{statement}
 use Rattle.listing.proofs.write_entry_bit.Tie as tie
 
-size : (i p : ℕ) → length (faultText (entry.At i) (bit.At p)) ≡ 12 + length (decimal i) + length (decimal p)
-unfolding faultText
-size i p = omega (arith, length_two entryWord i bitWord p)
+size : (i p : ℕ) → length (fault_text (entry.At i) (bit.At p)) ≡ 12 + length (decimal i) + length (decimal p)
+unfolding fault_text
+size i p = omega (arith, length_two entry_word i bit_word p)
 
 returns : tie.Need-returns
 returns c =
     let second = c.before in
     let first = second.before in
     let a = first.before.before.args in
-    too_long (faultText (entry.At a.index) (bit.At a.bit)) _
+    too_long (fault_text (entry.At a.index) (bit.At a.bit)) _
     (omega (arith, size a.index a.bit, first.digits_of.ensures, second.digits-of2.ensures, c.if1.true))
 
 -- room for the whole
 whole : (c : tie.Else1) → let a = c.before.before.before.before.args in
-    length (faultText (entry.At a.index) (bit.At a.bit)) ≤ length a.out.now
+    length (fault_text (entry.At a.index) (bit.At a.bit)) ≤ length a.out.now
 whole c =
     let second = c.before in
     let first = second.before in
@@ -36,11 +36,11 @@ whole c =
     omega (arith, size a.index a.bit, first.digits_of.ensures, second.digits-of2.ensures, c.if1.false)
 
 write-two-items-requires : tie.Need-write-two-items-requires
-unfolding faultText
+unfolding fault_text
 write-two-items-requires c κs = whole c.before.before.before
 
 returns-2 : tie.Need-returns-2
-unfolding faultText
+unfolding fault_text
 returns-2 c =
     let write = c.before.before in
     laid-whole _ _ (whole write.before.before.before.before) write.write-two-items.ensures

@@ -1,12 +1,12 @@
 -- By entry and place. Assumes nothing.
 use borrow.Author.Rules.{rules}
-use Rattle.listing.specs.Listing.{faultText}
+use Rattle.listing.specs.Listing.{fault_text}
 use Rattle.listing.proofs.Within.{nothing}
 use Rattle.listing.proofs.write_fault.Statement.{statement}
 use Rattle.listing.proofs.write_fault.Tie as tie
 
 returns : tie.Need-returns
-unfolding faultText
+unfolding fault_text
 returns c = rw c.enum_told.given.1 (nothing _)
 
 returns-2 : tie.Need-returns-2

@@ -7,9 +7,9 @@ use borrow.Author.Rules.{rules}
 use lib.ListN.{length}
 use Rattle.bits.specs.Inner.{Laid}
 use Rattle.bits.proofs.Laying.{then, none, first_fits, rest-fits}
-use Rattle.archive.specs.Model.{headerWidth, entryWidth}
+use Rattle.archive.specs.Model.{header_width, entry_width}
 use Rattle.archive.specs.Reading.{count_of}
-use Rattle.listing.specs.Inner.{linesOn, linesIn}
+use Rattle.listing.specs.Inner.{lines_on, lines_in}
 use Rattle.listing.specs.Listing.{line}
 use Rattle.archive.specs.declared.contents.Entry.{Entry}
 use Rattle.listing.proofs.Lines.{count-is, lines-all, lines_next, lines-over}
@@ -18,9 +18,9 @@ use Rattle.listing.proofs.write_lines.Tie as tie
 
 abbrev invariant-loop : tie.invariant-loop
 invariant-loop archive out₀ start count index₀ at₀ out index at =
-    (count ≡ count_of archive) × (headerWidth + entryWidth * count_of archive ≤ length archive) × (length out ≡ length out₀)
-    × (at + length (linesOn archive index) ≤ length out)
-    × ((out' : List ℕ) (end : ℕ) → Laid out at (linesOn archive index) out' end → Laid out₀ start (linesIn archive) out' end)
+    (count ≡ count_of archive) × (header_width + entry_width * count_of archive ≤ length archive) × (length out ≡ length out₀)
+    × (at + length (lines_on archive index) ≤ length out)
+    × ((out' : List ℕ) (end : ℕ) → Laid out at (lines_on archive index) out' end → Laid out₀ start (lines_in archive) out' end)
 
 abbrev decreases-loop : tie.decreases-loop
 decreases-loop archive out₀ start count index₀ at₀ out index at = count - index
@@ -42,10 +42,10 @@ abbrev b-of : tie.At-loop invariant-loop decreases-loop → List ℕ
 b-of c = c.before.before.before.before.args.archive.now
 
 abbrev others : tie.At-loop invariant-loop decreases-loop → List ℕ
-others c = linesOn (b-of c) (c.loop.index + 1)
+others c = lines_on (b-of c) (c.loop.index + 1)
 
 turn : (c : tie.After-nth-entry invariant-loop decreases-loop) →
-    let loop = c.before.before.before in linesOn (b-of loop) loop.loop.index ≡ line c.nth-entry.result ++ others loop
+    let loop = c.before.before.before in lines_on (b-of loop) loop.loop.index ≡ line c.nth-entry.result ++ others loop
 turn c =
     let loop = c.before.before.before in
     lines_next (b-of loop) loop.loop.index loop.loop.invariant.1 (omega (arith, c.before.before.loop-test.true, loop.loop.invariant.0))

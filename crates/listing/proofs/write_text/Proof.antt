@@ -7,8 +7,8 @@ use borrow.Author.Rules.{rules}
 use lib.ListN.{length}
 use Rattle.bits.proofs.Laying.{then, first_fits, rest-fits}
 use Rattle.archive.specs.Reading.{reading}
-use Rattle.listing.specs.Listing.{firstLine, listing}
-use Rattle.listing.specs.Inner.{linesIn}
+use Rattle.listing.specs.Listing.{first_line, listing}
+use Rattle.listing.specs.Inner.{lines_in}
 use Rattle.archive.proofs.Bytes.Checking.{sound}
 use Rattle.listing.proofs.Lines.{count-is, listing-read}
 use Rattle.listing.proofs.write_text.Statement.{statement}
@@ -19,15 +19,15 @@ abbrev b-of : tie.After-entry-count → List ℕ
 b-of c = c.before.before.before.before.before.args.archive.now
 
 abbrev first : tie.After-entry-count → List ℕ
-first c = firstLine c.before.home.result c.entry-count.result
+first c = first_line c.before.home.result c.entry-count.result
 
 abbrev rest : tie.After-entry-count → List ℕ
-rest c = linesIn (b-of c)
+rest c = lines_in (b-of c)
 
 parts : (c : tie.After-entry-count) → listing (reading (b-of c)) ≡ first c ++ rest c
 parts c =
     let s = sound (b-of c) c.before.before.before.before.before.requires.0 in
-    listing-read (b-of c) ∙ (λ i. firstLine (sym c.before.home.ensures i)
+    listing-read (b-of c) ∙ (λ i. first_line (sym c.before.home.ensures i)
     (sym (c.entry-count.ensures ∙ count-is (b-of c) (omega (arith, s.whole))) i) ++ rest c)
 
 room : (c : tie.After-entry-count) → 0 + length (first c ++ rest c) ≤ length c.before.before.before.before.before.args.out.now

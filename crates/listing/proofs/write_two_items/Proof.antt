@@ -7,14 +7,14 @@ use lib.ListN.{length}
 use Rattle.bits.specs.Inner.{Laid}
 use Rattle.bits.proofs.Laying.{then, first_fits, rest-fits}
 use Rattle.text.proofs.Copies.{laid_in}
-use Rattle.listing.specs.Listing.{lineEnd, item, twoItems}
+use Rattle.listing.specs.Listing.{line_end, item, two_items}
 use Rattle.listing.proofs.write_two_items.Statement.{statement}
 use Rattle.listing.proofs.write_two_items.Tie as tie
 
 -- room for the whole, the word laid, and room after it
-whole : (c : tie.Start) → let a = c.args in 0 + length (a.word.now ++ (item a.n a.other.now ++ item a.m lineEnd)) ≤ length
+whole : (c : tie.Start) → let a = c.args in 0 + length (a.word.now ++ (item a.n a.other.now ++ item a.m line_end)) ≤ length
     a.out.now
-unfolding twoItems
+unfolding two_items
 whole c = omega (arith, c.requires)
 
 worded : (c : tie.After-append) →
@@ -22,30 +22,30 @@ worded : (c : tie.After-append) →
 worded c =
     let start = c.before.before.before.before.before in
     let a = start.args in
-    laid_in (first_fits a.word.now (item a.n a.other.now ++ item a.m lineEnd) 0 (whole start)) c.append.ensures
+    laid_in (first_fits a.word.now (item a.n a.other.now ++ item a.m line_end) 0 (whole start)) c.append.ensures
 
 after-word : (c : tie.After-append) →
     let a = c.before.before.before.before.before.args in
-    c.append.result + length (item a.n a.other.now ++ item a.m lineEnd) ≤ length c.append.new.0
+    c.append.result + length (item a.n a.other.now ++ item a.m line_end) ≤ length c.append.new.0
 after-word c =
     let start = c.before.before.before.before.before in
     let a = start.args in
-    rest-fits (item a.n a.other.now ++ item a.m lineEnd) (whole start) (worded c)
+    rest-fits (item a.n a.other.now ++ item a.m line_end) (whole start) (worded c)
 
 write-item-requires : tie.Need-write-item-requires
 write-item-requires c κs =
     let word = c.before.before.before in
     let a = word.before.before.before.before.before.args in
-    first_fits (item a.n a.other.now) (item a.m lineEnd) word.append.result (after-word word)
+    first_fits (item a.n a.other.now) (item a.m line_end) word.append.result (after-word word)
 
 write-item-requires-2 : tie.Need-write-item-requires-2
 write-item-requires-2 c κs =
     let first = c.before.before.before.before in
     let word = first.before.before.before.before in
-    rest-fits (item word.before.before.before.before.before.args.m lineEnd) (after-word word) first.write-item.ensures
+    rest-fits (item word.before.before.before.before.before.args.m line_end) (after-word word) first.write-item.ensures
 
 returns : tie.Need-returns
-unfolding twoItems
+unfolding two_items
 returns c =
     let second = c.before.before in
     let first = second.before.before.before.before.before in

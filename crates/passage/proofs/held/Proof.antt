@@ -1,11 +1,11 @@
 -- The bits that are not used go out at the low end, and zeros come back. Assumes nothing.
 use Rattle.std.proofs.Common.{◌≡◌, ℕ, ◌+◌, ◌-◌, ◌^◌, ◌<◌, subst, arith, shl_exact, shr_lt, rules}
-use Rattle.passage.specs.Passed.{heldIn}
+use Rattle.passage.specs.Passed.{held_in}
 use Rattle.passage.proofs.held.Statement.{statement}
 use Rattle.passage.proofs.held.Tie as tie
 
 returns : tie.Need-returns
-unfolding heldIn
+unfolding held_in
 returns c =
     let a = c.args in
     let front : ℕ = a.skip + a.used in

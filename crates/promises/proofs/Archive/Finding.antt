@@ -12,13 +12,13 @@ use borrow.Author.Tests.{eq-eqb, ne_eqb}
 use Rattle.bits.specs.Bits.{pick}
 use Rattle.bits.proofs.Tests.{never}
 use Rattle.archive.specs.Model.{Held, rank_of, rank, in_range}
-use Rattle.archive.specs.Filing.{bodyAgrees, keepsRules}
-use Rattle.archive.specs.Reading.{reading, isArchive}
+use Rattle.archive.specs.Filing.{body_agrees, keeps_rules}
+use Rattle.archive.specs.Reading.{reading, is_archive}
 use Rattle.archive.specs.Restoring.{lookup}
 use Rattle.archive.proofs.Model.Rules.{AllFit, and-fit, kept, all_fit, archive-formed}
 use Rattle.archive.proofs.Model.Keys as keys
 use Rattle.archive.specs.declared.contents.Key.{Key}
-use Rattle.promises.specs.Held.{one-or-two}
+use Rattle.promises.specs.Held.{one_or-two}
 use Rattle.promises.specs.Archive.{Ranged, HeldFor}
 
 -- ---- a user and part
@@ -26,7 +26,7 @@ use Rattle.promises.specs.Archive.{Ranged, HeldFor}
 pub ranged-says : (k : Key) → in_range k ≡ true → Ranged k
 ranged-says k e =
     let r = keys.ranged k e in
-    record { network = r.network; ssi = r.ssi; part = one-or-two k.part r.low r.high }
+    record { network = r.network; ssi = r.ssi; part = one_or-two k.part r.low r.high }
 
 pub ranged-is : (k : Key) → Ranged k → in_range k ≡ true
 ranged-is k r =
@@ -34,16 +34,16 @@ ranged-is k r =
     (λ e. keys.in-range k r.network r.ssi (omega (arith, e)) (omega (arith, e))) r.part
 
 -- an entry of an archive is above what its entries rise from, and its body agrees with it
-pub among-kept : (home last : ℕ) (h : Held) (hs : List Held) → keepsRules home last hs ≡ true → Memᴰ h hs
-    → (last < rank h) × (bodyAgrees home h ≡ true)
+pub among-kept : (home last : ℕ) (h : Held) (hs : List Held) → keeps_rules home last hs ≡ true → Memᴰ h hs
+    → (last < rank h) × (body_agrees home h ≡ true)
 among-kept home last h [] k m = absurd (Memᴰ.not-nil m)
 among-kept home last h (x ∷ xs) k m =
     let u = kept home last x xs k in
-    ⊎_elim (λ e. (omega (arith, u.rises, ap rank e), subst (λ (y : Held). bodyAgrees home y ≡ true) (sym e) u.agrees))
+    ⊎_elim (λ e. (omega (arith, u.rises, ap rank e), subst (λ (y : Held). body_agrees home y ≡ true) (sym e) u.agrees))
     (λ t. let r = among-kept home (rank x) h xs u.others t in (omega (arith, u.rises, r.0), r.1)) (Memᴰ.cases_cons m)
 
 module _ (k : Key) where
-  look : (home last : ℕ) (h : Held) (hs : List Held) → keepsRules home last hs ≡ true → rank h ≡ rank_of k → Memᴰ h hs → lookup k hs ≡ some h
+  look : (home last : ℕ) (h : Held) (hs : List Held) → keeps_rules home last hs ≡ true → rank h ≡ rank_of k → Memᴰ h hs → lookup k hs ≡ some h
   look home last h [] r e m = absurd (Memᴰ.not-nil m)
   look home last h (x ∷ xs) r e m =
       let u = kept home last x xs r in
@@ -63,11 +63,11 @@ module _ (k : Key) where
           → (lookup k xs ≡ some h → HeldFor xs k h) → HeldFor (x ∷ xs) k h
       go true q s ih =
           let same : x ≡ h = cc in
-          let n = keys.same_key x.entry.key k (sym (keys.rank-names x.entry.key k fx.entry.key (keys.ranged k (ranged-is k r))) ∙ q) in
+          let n = keys.same_key_lem x.entry.key k (sym (keys.rank-names x.entry.key k fx.entry.key (keys.ranged k (ranged-is k r))) ∙ q) in
           record { among = Memᴰ.head (sym same); for = ap (λ (y : Held). y.entry.key) (sym same) ∙ n }
       go false q s ih = let d = ih s in record { among = Memᴰ.tail d.among; for = d.for }
 
-  module _ (b : List ℕ) (ok : isArchive b ≡ true) (r : Ranged k) where
+  module _ (b : List ℕ) (ok : is_archive b ≡ true) (r : Ranged k) where
     pub found : (h : Held) → (lookup k (reading b).held ≡ some h) ↔ HeldFor (reading b).held k h
     found h =
         let f = archive-formed b ok in (

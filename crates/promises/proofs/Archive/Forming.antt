@@ -11,7 +11,7 @@ use borrow.Author.Tests.{ltb-true, ltb-false}
 use Rattle.bits.specs.Lists.{Each}
 use Rattle.grammar.specs.declared.record.Record.{Record}
 use Rattle.archive.specs.Model.{Held, Archive, rank_of, rank, length_of, bytes_of}
-use Rattle.archive.specs.Filing.{bodyAgrees, keepsRules, wellFormed}
+use Rattle.archive.specs.Filing.{body_agrees, keeps_rules, well_formed}
 use Rattle.archive.specs.Inner.{KeyFits}
 use Rattle.archive.specs.declared.contents.Key.{Key}
 use Rattle.archive.proofs.Model.Bodies as bodies
@@ -53,10 +53,10 @@ module _ (home : ℕ) (small : home < 16777216) where
   abbrev Bodies : List Held → Type 0
   Bodies hs = Each (λ h. (r : Record) × Agrees home h r) hs
 
-  key_fits : (h : Held) → bodyAgrees home h ≡ true → KeyFits h.entry.key
+  key_fits : (h : Held) → body_agrees home h ≡ true → KeyFits h.entry.key
   key_fits h a = bodies.key_fits home h small (bodies.agrees-says home h a)
 
-  rises : (last : ℕ) (hs : List Held) → keepsRules home last hs ≡ true → Rising hs
+  rises : (last : ℕ) (hs : List Held) → keeps_rules home last hs ≡ true → Rising hs
   rises last [] k = tt
   rises last (h ∷ []) k = tt
   rises last (h ∷ g ∷ hs) k =
@@ -64,13 +64,13 @@ module _ (home : ℕ) (small : home < 16777216) where
       let v = kept home (rank h) g hs u.others in
       (before h.entry.key g.entry.key (key_fits h u.agrees) (key_fits g v.agrees) v.rises, rises (rank h) (g ∷ hs) u.others)
 
-  each-agrees : (last : ℕ) (hs : List Held) → keepsRules home last hs ≡ true → Bodies hs
+  each-agrees : (last : ℕ) (hs : List Held) → keeps_rules home last hs ≡ true → Bodies hs
   each-agrees last [] k = tt
   each-agrees last (h ∷ hs) k =
       let u = kept home last h hs k in
       (agrees-says home h u.agrees, each-agrees (rank h) hs u.others)
 
-  each-dated : (last : ℕ) (hs : List Held) → keepsRules home last hs ≡ true → Dated hs
+  each-dated : (last : ℕ) (hs : List Held) → keeps_rules home last hs ≡ true → Dated hs
   each-dated last [] k = tt
   each-dated last (h ∷ hs) k = let u = kept home last h hs k in (u.day, each-dated (rank h) hs u.others)
 
@@ -78,8 +78,8 @@ module _ (home : ℕ) (small : home < 16777216) where
   Above last [] = Unit
   Above last (h ∷ hs) = last < rank h
 
-  keeps : (last : ℕ) (hs : List Held) → Rising hs → Dated hs → Bodies hs → Above last hs → keepsRules home last hs ≡ true
-  unfolding keepsRules
+  keeps : (last : ℕ) (hs : List Held) → Rising hs → Dated hs → Bodies hs → Above last hs → keeps_rules home last hs ≡ true
+  unfolding keeps_rules
   keeps last [] r d b a = refl
   keeps last (h ∷ []) r d b a = is-kept home last h [] (record { rises = a; day = d.0; agrees = agrees-is home h b.0; others = refl })
   keeps last (h ∷ g ∷ hs) r d b a =
@@ -107,7 +107,7 @@ length-bytes a f =
     simp length-append
     (omega (arith, writing.length-header a.home (length a.held), writing.length-contents a.held, writing.length-bodies a.held f))
 
-pub formed-says : (a : Archive) → wellFormed a ≡ true → WellFormed a
+pub formed-says : (a : Archive) → well_formed a ≡ true → WellFormed a
 formed-says a w =
     let f = formed a w in
     record {
@@ -119,7 +119,7 @@ formed-says a w =
       small = omega (arith, writing.length-written a w, f.small);
     }
 
-pub formed-is : (a : Archive) → WellFormed a → wellFormed a ≡ true
+pub formed-is : (a : Archive) → WellFormed a → well_formed a ≡ true
 formed-is a f = is-formed a (record {
   home = f.home;
   few = f.few;

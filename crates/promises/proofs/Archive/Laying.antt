@@ -11,10 +11,10 @@ use borrow.Author.Tests.{eq-eqb}
 use Rattle.bits.specs.Bits.{Bytes}
 use Rattle.bits.proofs.Tests.{both}
 use Rattle.archive.specs.Model.{Held, Archive, sizes, length_of, bytes_of}
-use Rattle.archive.specs.Filing.{wellFormed}
-use Rattle.archive.specs.Reading.{count_of, size_at, held_at, heldFrom, bodiesAt, heldIn, reading, isArchive}
+use Rattle.archive.specs.Filing.{well_formed}
+use Rattle.archive.specs.Reading.{count_of, size_at, held_at, held_from, bodies_at, held_in, reading, is_archive}
 use Rattle.archive.proofs.Model.Rules.{formed}
-use Rattle.archive.proofs.Bytes.Walking.{length-heldFrom}
+use Rattle.archive.proofs.Bytes.Walking.{length-held_from}
 use Rattle.archive.proofs.Bytes.Checking.{sound}
 use Rattle.archive.proofs.Bytes.AsWritten as writing
 use Rattle.promises.specs.Archive as archive
@@ -23,8 +23,8 @@ use Rattle.promises.proofs.Archive.Forming.{formed-says, formed-is}
 
 -- ---- the bytes
 
-laid-reads : (b : List ℕ) (at off : ℕ) (hs : List Held) → Laid b at off hs → heldFrom b (length hs) at off ≡ hs
-unfolding heldFrom
+laid-reads : (b : List ℕ) (at off : ℕ) (hs : List Held) → Laid b at off hs → held_from b (length hs) at off ≡ hs
+unfolding held_from
 laid-reads b at off [] l = refl
 laid-reads b at off (h ∷ hs) (e, body, more) =
     let size : size_at b at ≡ (h.entry.bits.0 + 7) / 8 = ap (λ (n : ℕ). (n + 7) / 8) (sym e.bits) in
@@ -37,45 +37,45 @@ laid-reads b at off (h ∷ hs) (e, body, more) =
       body = (ap (λ (n : ℕ). take n (drop off b)) size ∙ sym body) i;
     } in
     let there = laid-reads b (at + 11) (off + (h.entry.bits.0 + 7) / 8) hs more in
-    λ i. here i ∷ (ap (λ (n : ℕ). heldFrom b (length hs) (at + 11) (off + n)) size ∙ there) i
+    λ i. here i ∷ (ap (λ (n : ℕ). held_from b (length hs) (at + 11) (off + n)) size ∙ there) i
 
 pub laid-size : (b : List ℕ) (at off : ℕ) (hs : List Held) → Laid b at off hs → off + sizes hs ≡ length b
 laid-size b at off [] l = omega (arith, l)
 laid-size b at off (h ∷ hs) (e, body, more) = omega (arith, laid-size b (at + 11) (off + (h.entry.bits.0 + 7) / 8) hs more)
 
-pub reads-laid : (b : List ℕ) (n at off : ℕ) → off + sizes (heldFrom b n at off) ≡ length b → Laid b at off (heldFrom b n at off)
-unfolding heldFrom
+pub reads-laid : (b : List ℕ) (n at off : ℕ) → off + sizes (held_from b n at off) ≡ length b → Laid b at off (held_from b n at off)
+unfolding held_from
 reads-laid b zero at off e = omega (arith, e)
 reads-laid b (suc n) at off e =
     (record { network = refl; ssi = refl; part = refl; bits = refl; day = refl }, refl, reads-laid b n (at + 11) (off + size_at b at) (omega (arith, e)))
 
-pub archive-says : (b : List ℕ) → isArchive b ≡ true → IsArchive b
-unfolding isArchive reading
+pub archive-says : (b : List ℕ) → is_archive b ≡ true → IsArchive b
+unfolding is_archive reading
 archive-says b ok =
     let o = sound b ok in
-    let n : length (heldIn b) ≡ count_of b = length-heldFrom b (count_of b) 5 (bodiesAt b) in
+    let n : length (held_in b) ≡ count_of b = length-held_from b (count_of b) 5 (bodies_at b) in
     record {
       archive = reading b;
-      formed = formed-says (reading b) (both (wellFormed (reading b)) (eqb (length_of (reading b)) (length b)) ok).0;
+      formed = formed-says (reading b) (both (well_formed (reading b)) (eqb (length_of (reading b)) (length b)) ok).0;
       home = refl;
       count = n;
-      laid = subst (λ (k : ℕ). Laid b 5 (5 + 11 * k) (heldIn b)) (sym n) (reads-laid b (count_of b) 5 (bodiesAt b) o.whole);
+      laid = subst (λ (k : ℕ). Laid b 5 (5 + 11 * k) (held_in b)) (sym n) (reads-laid b (count_of b) 5 (bodies_at b) o.whole);
     }
 
 -- an archive that is laid so is the one that is read
-pub read_as : (b : List ℕ) (a : Archive) → a.home ≡ archive.threeBytes b 0 → length a.held ≡ archive.twoBytes b 3
+pub read_as : (b : List ℕ) (a : Archive) → a.home ≡ archive.three_bytes b 0 → length a.held ≡ archive.two_bytes b 3
     → Laid b 5 (5 + 11 * length a.held) a.held → a ≡ reading b
 unfolding reading
 read_as b a home count laid =
     let hs = a.held in
-    let e : heldIn b ≡ hs = ap (λ (n : ℕ). heldFrom b n 5 (5 + 11 * n)) (sym count) ∙ laid-reads b 5 (5 + 11 * length hs) hs laid in
+    let e : held_in b ≡ hs = ap (λ (n : ℕ). held_from b n 5 (5 + 11 * n)) (sym count) ∙ laid-reads b 5 (5 + 11 * length hs) hs laid in
     λ i. record { home = home i; held = sym e i }
 
 pub archive-read : (b : List ℕ) (k : IsArchive b) → k.archive ≡ reading b
 archive-read b k = read_as b k.archive k.home k.count k.laid
 
-pub archive-is : (b : List ℕ) → IsArchive b → isArchive b ≡ true
-unfolding isArchive
+pub archive-is : (b : List ℕ) → IsArchive b → is_archive b ≡ true
+unfolding is_archive
 archive-is b k =
     rw (sym (archive-read b k), formed-is k.archive k.formed)
     (eq-eqb _ _ (laid-size b 5 (5 + 11 * length k.archive.held) k.archive.held k.laid))

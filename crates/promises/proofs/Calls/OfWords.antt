@@ -10,15 +10,15 @@ use lib.Dec.{eqb}
 use Rattle.bits.specs.Bits.{pick}
 use Rattle.bits.proofs.Tests.{differ, both, both⁻¹}
 use Rattle.walk.specs.declared.BitPlace.TheVariants.{Nowhere}
-use Rattle.reader.specs.Read.{refusalOf, readIs}
-use Rattle.reader.specs.Words.{readWordsIs}
+use Rattle.reader.specs.Read.{refusal_of, read_is}
+use Rattle.reader.specs.Words.{read_words_is}
 use Rattle.reader.specs.declared.Answer.TheVariants as answer
 use Rattle.archive.specs.Refusals.{plain}
 use Rattle.words.specs.RecordWords.{word}
-use Rattle.words.specs.RequestWords.{areDestination, areGroup, areRequest, isRequest, requestFrom}
-use Rattle.barring.specs.Decide.{decideIs}
+use Rattle.words.specs.RequestWords.{are_destination, are_group, are_request, is_request, request_from}
+use Rattle.barring.specs.Decide.{decide_is}
 use Rattle.barring.specs.declared.Decision.TheVariants.{Refused}
-use Rattle.boc.specs.Calls.{decidedNumber, decideAnswer}
+use Rattle.boc.specs.Calls.{decided_number, decide_answer}
 use Rattle.promises.specs.Answers.{OneOf, Exactly}
 use Rattle.promises.specs.Calls.{Checked, wrong, right, OfDestination, identity, number, OfGroup, given, not-given, OfRequest}
 use Rattle.promises.specs.Demand1.Reading.{told}
@@ -54,8 +54,8 @@ module _ (w : List ℕ) where
   zeros : (i j : ℕ) → eqb (word w i) 0 && eqb (word w j) 0 ≡ true → (word w i ≡ 0) × (word w j ≡ 0)
   zeros i j e = let z = both (eqb (word w i) 0) (eqb (word w j) 0) e in (eqb-true _ 0 z.0, eqb-true _ 0 z.1)
 
-  destination-of : areDestination w ≡ true → OfDestination w
-  unfolding areDestination
+  destination-of : are_destination w ≡ true → OfDestination w
+  unfolding are_destination
   destination-of e =
       one_of (eqb (word w 3) 1 && eqb (word w 6) 0) (eqb (word w 3) 2 && (eqb (word w 4) 0 && eqb (word w 5) 0)) e
       (λ p. let k = both (eqb (word w 3) 1) (eqb (word w 6) 0) p in identity (eqb-true _ 1 k.0) (eqb-true _ 0 k.1))
@@ -63,52 +63,52 @@ module _ (w : List ℕ) where
       let z = zeros 4 5 k.1 in
       number (eqb-true _ 2 k.0) z.0 z.1)
 
-  of-destination : OfDestination w → areDestination w ≡ true
-  unfolding areDestination
+  of-destination : OfDestination w → are_destination w ≡ true
+  unfolding are_destination
   of-destination (identity k u) = rw (k, u)
   of-destination (number k n s) = rw (k, n, s)
 
-  group_of : areGroup w ≡ true → OfGroup w
-  unfolding areGroup
+  group_of : are_group w ≡ true → OfGroup w
+  unfolding are_group
   group_of e =
       one_of (eqb (word w 31) 1) (eqb (word w 31) 0 && (eqb (word w 32) 0 && eqb (word w 33) 0)) e (λ p. given (eqb-true _ 1 p))
       (λ p. let k = both (eqb (word w 31) 0) (eqb (word w 32) 0 && eqb (word w 33) 0) p in
       let z = zeros 32 33 k.1 in
       not-given (eqb-true _ 0 k.0) z.0 z.1)
 
-  of-group : OfGroup w → areGroup w ≡ true
-  unfolding areGroup
+  of-group : OfGroup w → are_group w ≡ true
+  unfolding are_group
   of-group (given g) = rw g
   of-group (not-given g n s) = rw (g, n, s)
 
-  pub request-of : isRequest w ≡ true → OfRequest w
-  unfolding areRequest
+  pub request-of : is_request w ≡ true → OfRequest w
+  unfolding are_request
   request-of e =
-      let k = both (eqb (length w) 34) (areDestination w && areGroup w) e in
-      let d = both (areDestination w) (areGroup w) k.1 in
+      let k = both (eqb (length w) 34) (are_destination w && are_group w) e in
+      let d = both (are_destination w) (are_group w) k.1 in
       record { count = eqb-true _ 34 k.0; destination = destination-of d.0; group = group_of d.1 }
 
-  pub of-request : OfRequest w → isRequest w ≡ true
-  unfolding areRequest
-  of-request r = both⁻¹ (eq-eqb (length w) 34 r.count) (both⁻¹ (of-destination r.destination) (of-group r.group))
+  pub of_request : OfRequest w → is_request w ≡ true
+  unfolding are_request
+  of_request r = both⁻¹ (eq-eqb (length w) 34 r.count) (both⁻¹ (of-destination r.destination) (of-group r.group))
 
 -- what is read goes to a record's words
-pub given-record : (s : List ℕ) (n words : ℕ) → (refusalOf (readWordsIs s n words)).number ≡ 0
-    → (eqb words 520 ≡ true) × ((refusalOf (readIs s n).answer).number ≡ 0)
-unfolding readWordsIs
+pub given-record : (s : List ℕ) (n words : ℕ) → (refusal_of (read_words_is s n words)).number ≡ 0
+    → (eqb words 520 ≡ true) × ((refusal_of (read_is s n).answer).number ≡ 0)
+unfolding read_words_is
 given-record s n words = go (eqb words 520) refl
   where
-    go : (t : Bool) → eqb words 520 ≡ t → (refusalOf (pick t (readIs s n).answer (answer.Refused (told 9 Nowhere)))).number ≡ 0
-        → (eqb words 520 ≡ true) × ((refusalOf (readIs s n).answer).number ≡ 0)
+    go : (t : Bool) → eqb words 520 ≡ t → (refusal_of (pick t (read_is s n).answer (answer.Refused (told 9 Nowhere)))).number ≡ 0
+        → (eqb words 520 ≡ true) × ((refusal_of (read_is s n).answer).number ≡ 0)
     go true f e = (f, e)
     go false f e = absurd (omega (arith, e))
 
 -- what is decided are a request's words
-pub asked : (b w : List ℕ) → decidedNumber (decideAnswer b w) ≡ 0 → (isRequest w ≡ true) × (decidedNumber (decideIs b (requestFrom w)) ≡ 0)
-unfolding decideAnswer
-asked b w = go (isRequest w) refl
+pub asked : (b w : List ℕ) → decided_number (decide_answer b w) ≡ 0 → (is_request w ≡ true) × (decided_number (decide_is b (request_from w)) ≡ 0)
+unfolding decide_answer
+asked b w = go (is_request w) refl
   where
-    go : (t : Bool) → isRequest w ≡ t → decidedNumber (pick t (decideIs b (requestFrom w)) (Refused (plain 9))) ≡ 0
-        → (isRequest w ≡ true) × (decidedNumber (decideIs b (requestFrom w)) ≡ 0)
+    go : (t : Bool) → is_request w ≡ t → decided_number (pick t (decide_is b (request_from w)) (Refused (plain 9))) ≡ 0
+        → (is_request w ≡ true) × (decided_number (decide_is b (request_from w)) ≡ 0)
     go true f e = (f, e)
     go false f e = absurd (omega (arith, e))

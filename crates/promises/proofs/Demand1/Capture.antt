@@ -10,21 +10,21 @@ use lib.Dec.{ltb, leb, eqb}
 use borrow.Author.Tests.{eqb-true, eq-eqb, leb-true, leb-false, ltb-true, ltb-false, lt-ltb, le-ltb}
 use Rattle.bits.specs.Bits.{pick}
 use Rattle.bits.proofs.Tests.{never, differ, false-unless, both, both⁻¹}
-use Rattle.reader.specs.Read.{refusalOf, readIs}
+use Rattle.reader.specs.Read.{refusal_of, read_is}
 use Rattle.reader.specs.declared.Answer.{Answer}
 use Rattle.reader.specs.declared.Answer.TheVariants as reader
-use Rattle.judging.specs.Judge.{mayHold}
+use Rattle.judging.specs.Judge.{may_hold}
 use Rattle.archive.specs.Model.{Held, Archive, length_of}
-use Rattle.archive.specs.Filing.{filedKey, bodyAgrees, keepsRules}
-use Rattle.archive.specs.Reading.{reading, isArchive}
-use Rattle.archive.specs.Refusals.{plain, ofPdu}
-use Rattle.archive.specs.Checking.{checkIs}
+use Rattle.archive.specs.Filing.{filed_key, body_agrees, keeps_rules}
+use Rattle.archive.specs.Reading.{reading, is_archive}
+use Rattle.archive.specs.Refusals.{plain, of_pdu}
+use Rattle.archive.specs.Checking.{check_is}
 use Rattle.walk.specs.declared.BitPlace.{BitPlace}
 use Rattle.walk.specs.declared.Refusal as pdu
 use Rattle.archive.specs.declared.refusal.Refusal.{Refusal}
 use Rattle.archive.specs.declared.checking.Checked.{Checked}
 use Rattle.archive.specs.declared.checking.Checked.TheVariants as checked
-use Rattle.archive.specs.Keeping.{storedRefusal, heldFor, captured, captureIs}
+use Rattle.archive.specs.Keeping.{stored_refusal, held_for, captured, capture_is}
 use Rattle.archive.specs.Restoring.{lookup}
 use Rattle.archive.specs.declared.contents.Key.{Key}
 use Rattle.archive.specs.declared.Stored.TheVariants.{Bytes, Refused}
@@ -32,9 +32,9 @@ use Rattle.archive.proofs.Model.Bodies as bodies
 use Rattle.archive.proofs.Model.Rules.{all_fit, archive-formed}
 use Rattle.archive.proofs.Model.Put.{is_none, rules-put}
 use Rattle.archive.proofs.Calls.Capture.{offered-agrees, no-day, no-archive, capture-leaves}
-use Rattle.archive.proofs.Calls.Limits.{fullFor, eight}
+use Rattle.archive.proofs.Calls.Limits.{full_for, eight}
 use Rattle.promises.specs.Answers.{OneOf}
-use Rattle.promises.specs.Held.{may-be-held}
+use Rattle.promises.specs.Held.{may_be-held}
 use Rattle.promises.specs.Archive as said
 use Rattle.promises.specs.Archive.{Agrees, IsArchive, Ranged, HeldFor}
 use Rattle.promises.specs.Demand1.Reading as read
@@ -58,13 +58,13 @@ broken = broken-kept.promise
 -- ---- a PDU that is not filed
 
 module _ (b s : List ℕ) (n day room : ℕ) (dated : day < 65536) where
-  pdu-refused : {f : pdu.Refusal} → IsArchive b → (readIs s n).answer ≡ reader.Refused f → captureIs b s n day room ≡ Refused (ofPdu f)
-  unfolding captureIs
+  pdu-refused : {f : pdu.Refusal} → IsArchive b → (read_is s n).answer ≡ reader.Refused f → capture_is b s n day room ≡ Refused (of_pdu f)
+  unfolding capture_is
   pdu-refused k f = rw (lt-ltb _ _ dated, (broken.passes b).1 k, f)
 
-  may-not : IsArchive b → (readIs s n).answer ≡ reader.Accepted → mayHold (readIs s n).found ≡ false
-      → captureIs b s n day room ≡ Refused (plain 6)
-  unfolding captureIs
+  may-not : IsArchive b → (read_is s n).answer ≡ reader.Accepted → may_hold (read_is s n).found ≡ false
+      → capture_is b s n day room ≡ Refused (plain 6)
+  unfolding capture_is
   may-not k f g = rw (lt-ltb _ _ dated, (broken.passes b).1 k, f, g)
 
 is-none : (l : Option Held) → is_none l ≡ true → l ≡ none
@@ -77,31 +77,31 @@ module _ (b s : List ℕ) (n day room : ℕ) where
 
   -- what the PDU is held as
   abbrev filed : Held
-  filed = heldFor (reading b).home s n day
+  filed = held_for (reading b).home s n day
 
-  abbrev isFull : Bool
-  isFull = fullFor b filed
+  abbrev is_full : Bool
+  is_full = full_for b filed
 
   abbrev Both : Refusal → Type 0
   Both f = Given b s n day room f × OneOf (read.numbers ++ (9 ∷ 7 ∷ 6 ∷ 8 ∷ [])) f.number
 
-  archive : IsArchive b → isArchive b ≡ true
+  archive : IsArchive b → is_archive b ≡ true
   archive k = (archives.is-archive b).1 k
 
   -- ---- a PDU that is offered is filed under one entry, in its range
 
   module _ (o : Offered b s n day) where
-    may : mayHold (readIs s n).found ≡ true
-    may = (may-be-held (readIs s n).found).1 o.may
+    may : may_hold (read_is s n).found ≡ true
+    may = (may_be-held (read_is s n).found).1 o.may
 
-    agrees : bodyAgrees (reading b).home filed ≡ true
+    agrees : body_agrees (reading b).home filed ≡ true
     agrees = bodies.agrees-is (reading b).home filed (offered-agrees (reading b).home s n day o.accepted may)
 
-    rules : keepsRules (reading b).home 0 (captured b s n day).held ≡ true
+    rules : keeps_rules (reading b).home 0 (captured b s n day).held ≡ true
     unfolding captured
     rules =
         let f = archive-formed b (archive o.archive) in
-        let p = bodies.part-is (readIs s n).found may in
+        let p = bodies.part-is (read_is s n).found may in
         rules-put (reading b).home 0 filed (reading b).held o.dated agrees (omega (arith, p.0)) f.rules
 
     -- the result's length is header, contents and bodies
@@ -117,7 +117,7 @@ module _ (b s : List ℕ) (n day room : ℕ) where
         let e = bodies.key_fits (reading b).home filed f.home (offered-agrees (reading b).home s n day o.accepted may) in
         record { network = e.network; ssi = e.ssi; part = o.may.result }
 
-    is-full : isFull ≡ true → Full b s n o.archive
+    is-full : is_full ≡ true → Full b s n o.archive
     is-full e =
         let x = both (is_none (lookup filed.entry.key (reading b).held)) (eqb (length (reading b).held) 512) e in
         let y = filed.entry in
@@ -126,31 +126,31 @@ module _ (b s : List ℕ) (n day room : ℕ) where
         record {
           entry = y;
           bits = refl;
-          agrees = subst (λ (a : Archive). Agrees a.home filed (readIs s n).found) same (filed-agrees (reading b).home s n day o.accepted o.may);
+          agrees = subst (λ (a : Archive). Agrees a.home filed (read_is s n).found) same (filed-agrees (reading b).home s n day o.accepted o.may);
           new = subst (λ (a : Archive). (h : Held) → HeldFor a.held y.key h → ⊥) same no_one;
           count = subst (λ (a : Archive). length a.held ≡ 512) same (eqb-true _ _ x.1);
         }
 
-    full_is : Full b s n o.archive → isFull ≡ true
+    full_is : Full b s n o.archive → is_full ≡ true
     full_is f =
         let same = archives.one-reading b o.archive in
         let e : f.entry.key ≡ filed.entry.key =
-        agreed-key o.archive.archive.home (record { entry = f.entry; body = s }) (readIs s n).found f.agrees
-        ∙ ap (λ (a : Archive). filedKey a.home (readIs s n).found) same in
+        agreed-key o.archive.archive.home (record { entry = f.entry; body = s }) (read_is s n).found f.agrees
+        ∙ ap (λ (a : Archive). filed_key a.home (read_is s n).found) same in
         let no_one = subst (λ (a : Archive). (h : Held) → HeldFor a.held f.entry.key h → ⊥) same f.new in
         let new = subst (λ (k : Key). (h : Held) → HeldFor (reading b).held k h → ⊥) e no_one in
         let y = filed.entry in
         both⁻¹ (ap is_none ((archives.not_found b (archive o.archive) y.key ranged).1 new))
         (eq-eqb _ _ (subst (λ (a : Archive). length a.held ≡ 512) same f.count))
 
-    placed : captureIs b s n day room ≡ pick (isFull || (ltb 65536 size || ltb room size)) (Refused (plain 8)) (Bytes size)
+    placed : capture_is b s n day room ≡ pick (is_full || (ltb 65536 size || ltb room size)) (Refused (plain 8)) (Bytes size)
     placed = eight b s n day room o.dated (archive o.archive) o.accepted may
 
     offered : Both (answer b s n day room)
-    offered = subst Both (sym (ap storedRefusal placed)) (go isFull refl (ltb 65536 size) refl (ltb room size) refl)
+    offered = subst Both (sym (ap stored_refusal placed)) (go is_full refl (ltb 65536 size) refl (ltb room size) refl)
       where
-        go : (p : Bool) → isFull ≡ p → (q : Bool) → ltb 65536 size ≡ q → (t : Bool) → ltb room size ≡ t
-            → Both (storedRefusal (pick (p || (q || t)) (Refused (plain 8)) (Bytes size)))
+        go : (p : Bool) → is_full ≡ p → (q : Bool) → ltb 65536 size ≡ q → (t : Bool) → ltb room size ≡ t
+            → Both (stored_refusal (pick (p || (q || t)) (Refused (plain 8)) (Bytes size)))
         go true e q f t g = (full o (is-full e), refl)
         go false e true f t g = (too_long o (omega (arith, long, ltb-true 65536 size f)), refl)
         go false e false f true g = (no_room o (omega (arith, long, ltb-true room size g)), refl)
@@ -159,12 +159,12 @@ module _ (b s : List ℕ) (n day room : ℕ) where
             let h : length (result b s n day) ≤ room = omega (arith, long, ltb-false room size g) in
             (success o (λ x. differ (sym (full_is x) ∙ e)) l h, refl)
 
-    over : isFull || (ltb 65536 size || ltb room size) ≡ true → answer b s n day room ≡ plain 8
-    over e = ap storedRefusal (placed ∙ ap (λ (t : Bool). pick t (Refused (plain 8)) (Bytes size)) e)
+    over : is_full || (ltb 65536 size || ltb room size) ≡ true → answer b s n day room ≡ plain 8
+    over e = ap stored_refusal (placed ∙ ap (λ (t : Bool). pick t (Refused (plain 8)) (Bytes size)) e)
 
-    fits : (Full b s n o.archive → ⊥) → length (result b s n day) ≤ 65536 → length (result b s n day) ≤ room → captureIs b s n day room ≡ Bytes size
+    fits : (Full b s n o.archive → ⊥) → length (result b s n day) ≤ 65536 → length (result b s n day) ≤ room → capture_is b s n day room ≡ Bytes size
     fits f l h =
-        let none = false-unless isFull (λ t. f (is-full t)) in
+        let none = false-unless is_full (λ t. f (is-full t)) in
         let short = le-ltb 65536 size (omega (arith, long, l)) in
         let room_for = le-ltb room size (omega (arith, long, h)) in
         placed ∙ (λ i. pick (none i || (short i || room_for i)) (Refused (plain 8)) (Bytes size))
@@ -172,24 +172,24 @@ module _ (b s : List ℕ) (n day room : ℕ) where
   -- ---- the table
 
   -- no PDU is refused with 0
-  accepted-not : {p : BitPlace} → (readIs s n).answer ≡ reader.Refused (read.told 0 p) → ⊥
+  accepted-not : {p : BitPlace} → (read_is s n).answer ≡ reader.Refused (read.told 0 p) → ⊥
   accepted-not f =
-      let a : (readIs s n).answer ≡ reader.Accepted = ((reading-kept.promise).success s n (ap (λ (x : Answer). (refusalOf x).number) f)).0 in
+      let a : (read_is s n).answer ≡ reader.Accepted = ((reading-kept.promise).success s n (ap (λ (x : Answer). (refusal_of x).number) f)).0 in
       never cc
 
   dated-row : day < 65536 → Both (answer b s n day room)
-  dated-row dated = go (checkIs b) refl (readIs s n).answer refl (mayHold (readIs s n).found) refl
+  dated-row dated = go (check_is b) refl (read_is s n).answer refl (may_hold (read_is s n).found) refl
     where
-      to : {f : Refusal} → captureIs b s n day room ≡ Refused f → Both f → Both (answer b s n day room)
-      to e h = subst Both (sym (ap storedRefusal e)) h
+      to : {f : Refusal} → capture_is b s n day room ≡ Refused f → Both f → Both (answer b s n day room)
+      to e h = subst Both (sym (ap stored_refusal e)) h
 
-      unread-row : IsArchive b → (k : ℕ) (p : BitPlace) → (readIs s n).answer ≡ reader.Refused (read.told k p) → Both (answer b s n day room)
+      unread-row : IsArchive b → (k : ℕ) (p : BitPlace) → (read_is s n).answer ≡ reader.Refused (read.told k p) → Both (answer b s n day room)
       unread-row a zero p f = absurd (accepted-not f)
       unread-row a (suc k) p f =
-          let listed = subst (λ (x : Answer). OneOf read.numbers (refusalOf x).number) f ((reading-kept.promise).table s n).listed in
+          let listed = subst (λ (x : Answer). OneOf read.numbers (refusal_of x).number) f ((reading-kept.promise).table s n).listed in
           to (pdu-refused b s n day room dated a f) (unread k p dated a f, wider read.numbers (9 ∷ 7 ∷ 6 ∷ 8 ∷ []) (suc k) listed)
 
-      go : (c : Checked) → checkIs b ≡ c → (a : Answer) → (readIs s n).answer ≡ a → (q : Bool) → mayHold (readIs s n).found ≡ q
+      go : (c : Checked) → check_is b ≡ c → (a : Answer) → (read_is s n).answer ≡ a → (q : Bool) → may_hold (read_is s n).found ≡ q
           → Both (answer b s n day room)
       go (checked.Refused x) e a f q g =
           let k = (broken.refuses b x).0 e in
@@ -197,9 +197,9 @@ module _ (b s : List ℕ) (n day room : ℕ) where
       go checked.Archive e (reader.Refused x) f q g = unread-row ((broken.passes b).0 e) x.number x.place f
       go checked.Archive e reader.Accepted f false g =
           let k = (broken.passes b).0 e in
-          to (may-not b s n day room dated k f g) (not-kept dated k f (λ m. differ (sym ((may-be-held (readIs s n).found).1 m) ∙ g)), refl)
+          to (may-not b s n day room dated k f g) (not-kept dated k f (λ m. differ (sym ((may_be-held (read_is s n).found).1 m) ∙ g)), refl)
       go checked.Archive e reader.Accepted f true g =
-          offered (record { dated = dated; archive = (broken.passes b).0 e; accepted = f; may = (may-be-held (readIs s n).found).0 g })
+          offered (record { dated = dated; archive = (broken.passes b).0 e; accepted = f; may = (may_be-held (read_is s n).found).0 g })
 
   row : Both (answer b s n day room)
   row = go (leb day 65535) refl
@@ -208,24 +208,24 @@ module _ (b s : List ℕ) (n day room : ℕ) where
       go true e = dated-row (omega (arith, leb-true day 65535 e))
       go false e =
           let late = leb-false day 65535 e in
-          subst Both (sym (ap storedRefusal (no-day b s n day room late))) (undated late, refl)
+          subst Both (sym (ap stored_refusal (no-day b s n day room late))) (undated late, refl)
 
   or-true : (p : Bool) {q : Bool} → q ≡ true → p || q ≡ true
   or-true true e = refl
   or-true false e = e
 
   back : (x : Refusal) → Given b s n day room x → answer b s n day room ≡ x
-  back x (success o f l h) = ap storedRefusal (fits o f l h)
-  back x (undated late) = ap storedRefusal (no-day b s n day room late)
-  back x (damaged y d k) = ap storedRefusal (no-archive b s n day room d ((broken.refuses b y).1 k))
-  back x (unread m p d e f) = ap storedRefusal (pdu-refused b s n day room d e f)
+  back x (success o f l h) = ap stored_refusal (fits o f l h)
+  back x (undated late) = ap stored_refusal (no-day b s n day room late)
+  back x (damaged y d k) = ap stored_refusal (no-archive b s n day room d ((broken.refuses b y).1 k))
+  back x (unread m p d e f) = ap stored_refusal (pdu-refused b s n day room d e f)
   back x (not-kept d e f g) =
-      ap storedRefusal (may-not b s n day room d e f (false-unless _ (λ t. g ((may-be-held (readIs s n).found).0 t))))
+      ap stored_refusal (may-not b s n day room d e f (false-unless _ (λ t. g ((may_be-held (read_is s n).found).0 t))))
   back x (full o f) = over o (ap (λ (p : Bool). p || (ltb 65536 size || ltb room size)) (full_is o f))
-  back x (too_long o h) = over o (or-true isFull (ap (λ (q : Bool). q || ltb room size) (lt-ltb 65536 size (omega (arith, long o, h)))))
-  back x (no_room o h) = over o (or-true isFull (or-true (ltb 65536 size) (lt-ltb room size (omega (arith, long o, h)))))
+  back x (too_long o h) = over o (or-true is_full (ap (λ (q : Bool). q || ltb room size) (lt-ltb 65536 size (omega (arith, long o, h)))))
+  back x (no_room o h) = over o (or-true is_full (or-true (ltb 65536 size) (lt-ltb room size (omega (arith, long o, h)))))
 
-  written : (x : Refusal) → Given b s n day room x → x.number ≡ 0 → (captureIs b s n day room ≡ Bytes size) × (length (result b s n day) ≡ size)
+  written : (x : Refusal) → Given b s n day room x → x.number ≡ 0 → (capture_is b s n day room ≡ Bytes size) × (length (result b s n day) ≡ size)
   written x (success o f l h) z = (fits o f l h, long o)
   written x (undated late) z = absurd (omega arith)
   written x (damaged y d k) z = absurd (omega (arith, seven k, z))

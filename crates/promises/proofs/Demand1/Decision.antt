@@ -9,21 +9,21 @@ use lib.Dec.{eqb}
 use Rattle.bits.specs.Bits.{pick}
 use Rattle.bits.proofs.Tests.{differ, false-unless}
 use Rattle.grammar.specs.declared.record.Record.{Record}
-use Rattle.reader.specs.Read.{readIs}
-use Rattle.rules.specs.Request.{requestRefusal}
-use Rattle.rules.specs.Rule.{missingIn, ruling, sixRules, isExcepted, isRestricted, isOutside, bothEmpty}
+use Rattle.reader.specs.Read.{read_is}
+use Rattle.rules.specs.Request.{request_refusal}
+use Rattle.rules.specs.Rule.{missing_in, ruling, six_rules, is_excepted, is_restricted, is_outside, both_empty}
 use Rattle.rules.specs.Matching.{covered}
 use Rattle.rules.specs.declared.request.Request.{Request}
 use Rattle.rules.specs.declared.Ruling.TheVariants.{Allowed, Barred}
 use Rattle.archive.specs.Model.{Held}
 use Rattle.archive.specs.Reading.{reading}
 use Rattle.archive.specs.Refusals.{plain}
-use Rattle.archive.specs.Checking.{checkIs, ifArchive}
+use Rattle.archive.specs.Checking.{check_is, if_archive}
 use Rattle.archive.specs.declared.refusal.Refusal.{Refusal}
 use Rattle.archive.specs.declared.checking.Checked.{Checked}
 use Rattle.archive.specs.declared.checking.Checked.TheVariants as checked
-use Rattle.barring.specs.Decide.{judgedBy, partIn, decideIs}
-use Rattle.barring.specs.Decision.{decisionOf, decidedRefusal, verdictOf}
+use Rattle.barring.specs.Decide.{judged_by, part_in, decide_is}
+use Rattle.barring.specs.Decision.{decision_of, decided_refusal, verdict_of}
 use Rattle.barring.specs.declared.Decision.{Decision}
 use Rattle.barring.specs.declared.Decision.TheVariants.{Refused}
 use Rattle.promises.specs.Answers.{OneOf}
@@ -40,9 +40,9 @@ broken = broken-kept.promise
 
 -- a decision, with its number
 abbrev Decided : Decision → Type 0
-Decided d = Verdict (verdictOf d) d
+Decided d = Verdict (verdict_of d) d
 
-verdict-number : {n : ℕ} {d : Decision} → Verdict n d → decidedRefusal d ≡ plain 0
+verdict-number : {n : ℕ} {d : Decision} → Verdict n d → decided_refusal d ≡ plain 0
 verdict-number outside-group = refl
 verdict-number restricted-service = refl
 verdict-number restricted-address = refl
@@ -52,16 +52,16 @@ verdict-number not-held = refl
 module _ (q : Request) where
   -- ---- the verdict
 
-  by-rule : (home : ℕ) (r : Record) → Decided (decisionOf (ruling home r q))
-  unfolding ruling sixRules
-  by-rule home r =
-      let missing = missingIn home r in
-      go (not (covered r.services q.service)) (isExcepted missing r.lists q.destination q.digits)
-      (isRestricted missing r.lists q.destination q.digits)
-      (isOutside missing r.lists.groups q.group) (bothEmpty r.lists q.destination)
+  by_rule : (home : ℕ) (r : Record) → Decided (decision_of (ruling home r q))
+  unfolding ruling six_rules
+  by_rule home r =
+      let missing = missing_in home r in
+      go (not (covered r.services q.service)) (is_excepted missing r.lists q.destination q.digits)
+      (is_restricted missing r.lists q.destination q.digits)
+      (is_outside missing r.lists.groups q.group) (both_empty r.lists q.destination)
     where
       go : (v w x y z : Bool)
-          → Decided (decisionOf (pick v Allowed (pick w Allowed (pick x (Barred 2) (pick y (Barred 0) (pick z (Barred 1) Allowed))))))
+          → Decided (decision_of (pick v Allowed (pick w Allowed (pick x (Barred 2) (pick y (Barred 0) (pick z (Barred 1) Allowed))))))
       go true w x y z = allowed
       go false true x y z = allowed
       go false false true y z = restricted-address
@@ -69,53 +69,53 @@ module _ (q : Request) where
       go false false false false true = restricted-service
       go false false false false false = allowed
 
-  judged : (home : ℕ) (l : Option Held) → Decided (judgedBy home q l)
+  judged : (home : ℕ) (l : Option Held) → Decided (judged_by home q l)
   judged home none = not-held
-  judged home (some h) = by-rule home (readIs h.body h.entry.bits.0).found
+  judged home (some h) = by_rule home (read_is h.body h.entry.bits.0).found
 
   -- ---- the answer
 
   module _ (b : List ℕ) where
-    abbrev answerBy : Bool → Checked → Decision
-    answerBy ranged c =
-        pick (eqb (pick ranged 0 9) 0) (ifArchive c Refused (judgedBy (reading b).home q (partIn b q))) (Refused (plain (pick ranged 0 9)))
+    abbrev answer_by : Bool → Checked → Decision
+    answer_by ranged c =
+        pick (eqb (pick ranged 0 9) 0) (if_archive c Refused (judged_by (reading b).home q (part_in b q))) (Refused (plain (pick ranged 0 9)))
 
-    by : (t : Bool) (c : Checked) → test q ≡ t → checkIs b ≡ c → decideIs b q ≡ answerBy t c
-    unfolding decideIs requestRefusal
+    by : (t : Bool) (c : Checked) → test q ≡ t → check_is b ≡ c → decide_is b q ≡ answer_by t c
+    unfolding decide_is request_refusal
     by t c e f = rw (e, f)
 
-    decided : Decided (answerBy true checked.Archive)
-    decided = judged (reading b).home (partIn b q)
+    decided : Decided (answer_by true checked.Archive)
+    decided = judged (reading b).home (part_in b q)
 
     abbrev Both : Refusal → Type 0
     Both f = Given b q f × OneOf (0 ∷ 9 ∷ 7 ∷ []) f.number
 
     row : Both (answer b q)
-    row = go (test q) refl (checkIs b) refl
+    row = go (test q) refl (check_is b) refl
       where
         to : {f : Refusal} → answer b q ≡ f → Both f → Both (answer b q)
         to e h = subst Both (sym e) h
 
-        go : (t : Bool) → test q ≡ t → (c : Checked) → checkIs b ≡ c → Both (answer b q)
-        go false e c f = to (ap decidedRefusal (by false c e f)) (unranged (λ r. differ (sym (passes q r) ∙ e)), refl)
+        go : (t : Bool) → test q ≡ t → (c : Checked) → check_is b ≡ c → Both (answer b q)
+        go false e c f = to (ap decided_refusal (by false c e f)) (unranged (λ r. differ (sym (passes q r) ∙ e)), refl)
         go true e (checked.Refused x) f =
             let k = (broken.refuses b x).0 f in
-            to (ap decidedRefusal (by true (checked.Refused x) e f)) (damaged x (in-range q e) k, subst (OneOf (0 ∷ 9 ∷ 7 ∷ [])) (sym (seven k)) refl)
+            to (ap decided_refusal (by true (checked.Refused x) e f)) (damaged x (in-range q e) k, subst (OneOf (0 ∷ 9 ∷ 7 ∷ [])) (sym (seven k)) refl)
         go true e checked.Archive f =
-            to (ap decidedRefusal (by true checked.Archive e f) ∙ verdict-number decided) (success (in-range q e) ((broken.passes b).0 f), refl)
+            to (ap decided_refusal (by true checked.Archive e f) ∙ verdict-number decided) (success (in-range q e) ((broken.passes b).0 f), refl)
 
     back : (f : Refusal) → Given b q f → answer b q ≡ f
-    back f (success r a) = ap decidedRefusal (by true checked.Archive (passes q r) ((broken.passes b).1 a)) ∙ verdict-number decided
-    back f (unranged r) = ap decidedRefusal (by false (checkIs b) (false-unless (test q) (λ e. r (in-range q e))) refl)
-    back f (damaged x r k) = ap decidedRefusal (by true (checked.Refused x) (passes q r) ((broken.refuses b x).1 k))
+    back f (success r a) = ap decided_refusal (by true checked.Archive (passes q r) ((broken.passes b).1 a)) ∙ verdict-number decided
+    back f (unranged r) = ap decided_refusal (by false (check_is b) (false-unless (test q) (λ e. r (in-range q e))) refl)
+    back f (damaged x r k) = ap decided_refusal (by true (checked.Refused x) (passes q r) ((broken.refuses b x).1 k))
 
     -- what is decided is in its range, and from an archive
-    pub accepted : (f : Refusal) → Given b q f → f.number ≡ 0 → Ranged q × (checkIs b ≡ checked.Archive)
+    pub accepted : (f : Refusal) → Given b q f → f.number ≡ 0 → Ranged q × (check_is b ≡ checked.Archive)
     accepted f (success r a) z = (r, (broken.passes b).1 a)
     accepted f (unranged r) z = absurd (omega arith)
     accepted f (damaged x r k) z = absurd (omega (arith, seven k, z))
 
-    succeeds : (answer b q).number ≡ 0 → Decided (decideIs b q)
+    succeeds : (answer b q).number ≡ 0 → Decided (decide_is b q)
     succeeds e = let s = accepted (answer b q) row.0 e in subst Decided (sym (by true checked.Archive (passes q s.0) s.1)) decided
 
 pub promise : Promise

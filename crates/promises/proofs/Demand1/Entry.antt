@@ -7,8 +7,8 @@ use native.Mathlib.Omega.{arith}
 use lib.ListN.{length}
 use Rattle.archive.specs.Model.{Held, Archive}
 use Rattle.archive.specs.Reading.{reading}
-use Rattle.archive.specs.Checking.{checkIs}
-use Rattle.archive.specs.Restoring.{heldNth, listedAs, listedRefusal, entryIs}
+use Rattle.archive.specs.Checking.{check_is}
+use Rattle.archive.specs.Restoring.{held_nth, listed_as, listed_refusal, entry_is}
 use Rattle.archive.specs.declared.refusal.Refusal.{Refusal}
 use Rattle.archive.specs.declared.checking.Checked.{Checked}
 use Rattle.archive.specs.declared.checking.Checked.TheVariants as checked
@@ -22,7 +22,7 @@ use Rattle.promises.specs.Broken as breaking
 use Rattle.promises.specs.Demand1.Entry.{answer, Given, success, damaged, beyond, Promise}
 use Rattle.promises.proofs.Tables.{exactly}
 use Rattle.promises.proofs.Archive as archive-kept
-use Rattle.promises.proofs.Archive.Indexing.{stands-ranged, stands-among, nth-stands, stands-nth, nth-none, none-nth}
+use Rattle.promises.proofs.Archive.Indexing.{stands-ranged, stands-among, nth-stands, stands_nth, nth-none, none_nth}
 use Rattle.promises.proofs.Broken as broken-kept
 use Rattle.promises.proofs.Broken.{seven}
 use Rattle.promises.proofs.Demand1.Restore.{restored-held}
@@ -38,46 +38,46 @@ module _ (b : List ℕ) (index : ℕ) where
   Both f = Given b index f × OneOf (0 ∷ 7 ∷ 11 ∷ []) f.number
 
   -- what the call reads is the archive of the promise
-  asked : IsArchive b → {o : Option Held} → heldNth (reading b).held index ≡ o → entryIs b index ≡ listedAs o
-  unfolding entryIs
-  asked k e = rw ((broken.passes b).1 k) (ap listedAs e)
+  asked : IsArchive b → {o : Option Held} → held_nth (reading b).held index ≡ o → entry_is b index ≡ listed_as o
+  unfolding entry_is
+  asked k e = rw ((broken.passes b).1 k) (ap listed_as e)
 
-  no-archive : {f : Refusal} → checkIs b ≡ checked.Refused f → entryIs b index ≡ Refused f
-  unfolding entryIs
+  no-archive : {f : Refusal} → check_is b ≡ checked.Refused f → entry_is b index ≡ Refused f
+  unfolding entry_is
   no-archive e = rw e
 
-  read-so : (k : IsArchive b) → reading b ≡ k.archive
-  read-so k = sym (archives.one-reading b k)
+  read_so : (k : IsArchive b) → reading b ≡ k.archive
+  read_so k = sym (archives.one-reading b k)
 
   row : Both (answer b index)
-  row = go (checkIs b) refl (heldNth (reading b).held index) refl
+  row = go (check_is b) refl (held_nth (reading b).held index) refl
     where
-      to : {r : Listed} → entryIs b index ≡ r → Both (listedRefusal r) → Both (answer b index)
-      to e h = subst Both (sym (ap listedRefusal e)) h
+      to : {r : Listed} → entry_is b index ≡ r → Both (listed_refusal r) → Both (answer b index)
+      to e h = subst Both (sym (ap listed_refusal e)) h
 
-      go : (c : Checked) → checkIs b ≡ c → (o : Option Held) → heldNth (reading b).held index ≡ o → Both (answer b index)
+      go : (c : Checked) → check_is b ≡ c → (o : Option Held) → held_nth (reading b).held index ≡ o → Both (answer b index)
       go (checked.Refused x) e o f =
           let k = (broken.refuses b x).0 e in
           to (no-archive e) (damaged x k, subst (OneOf (0 ∷ 7 ∷ 11 ∷ [])) (sym (seven k)) refl)
       go checked.Archive e none f =
           let k = (broken.passes b).0 e in
-          to (asked k f) (beyond k (subst (λ (a : Archive). length a.held ≤ index) (read-so k) (nth-none (reading b).held index f)), refl)
+          to (asked k f) (beyond k (subst (λ (a : Archive). length a.held ≤ index) (read_so k) (nth-none (reading b).held index f)), refl)
       go checked.Archive e (some h) f =
           let k = (broken.passes b).0 e in
-          to (asked k f) (success k h (subst (λ (a : Archive). StandsAt a.held index h) (read-so k) (nth-stands (reading b).held index f)), refl)
+          to (asked k f) (success k h (subst (λ (a : Archive). StandsAt a.held index h) (read_so k) (nth-stands (reading b).held index f)), refl)
 
   stood : (k : IsArchive b) {h : Held} → StandsAt k.archive.held index h → StandsAt (reading b).held index h
   stood k {h} s = subst (λ (a : Archive). StandsAt a.held index h) (archives.one-reading b k) s
 
   back : (f : Refusal) → Given b index f → answer b index ≡ f
-  back f (success k h s) = ap listedRefusal (asked k (stands-nth (stood k s)))
-  back f (damaged x k) = ap listedRefusal (no-archive ((broken.refuses b x).1 k))
+  back f (success k h s) = ap listed_refusal (asked k (stands_nth (stood k s)))
+  back f (damaged x k) = ap listed_refusal (no-archive ((broken.refuses b x).1 k))
   back f (beyond k l) =
-      ap listedRefusal (asked k (none-nth (reading b).held index (subst (λ (a : Archive). length a.held ≤ index) (archives.one-reading b k) l)))
+      ap listed_refusal (asked k (none_nth (reading b).held index (subst (λ (a : Archive). length a.held ≤ index) (archives.one-reading b k) l)))
 
   succeeds : (f : Refusal) → Given b index f → f.number ≡ 0
-      → (k : IsArchive b) × (h : Held) × StandsAt k.archive.held index h × (entryIs b index ≡ Entry h.entry)
-  succeeds f (success k h s) z = (k, h, s, asked k (stands-nth (stood k s)))
+      → (k : IsArchive b) × (h : Held) × StandsAt k.archive.held index h × (entry_is b index ≡ Entry h.entry)
+  succeeds f (success k h s) z = (k, h, s, asked k (stands_nth (stood k s)))
   succeeds f (damaged x k) z = absurd (omega (arith, seven k, z))
   succeeds f (beyond k l) z = absurd (omega arith)
 

@@ -10,9 +10,9 @@ use borrow.Author.Tests.{leb-true, leb-false, le-leb, lt-leb}
 use Rattle.bits.specs.Bits.{pick}
 use Rattle.archive.specs.Reading.{reading}
 use Rattle.archive.specs.Refusals.{plain}
-use Rattle.archive.specs.Checking.{checkIs, ifArchive}
-use Rattle.archive.specs.Keeping.{leaves, over, storedRefusal}
-use Rattle.archive.specs.Listing.{listing, listIs, listOut}
+use Rattle.archive.specs.Checking.{check_is, if_archive}
+use Rattle.archive.specs.Keeping.{leaves, over, stored_refusal}
+use Rattle.archive.specs.Listing.{listing, list_is, list_out}
 use Rattle.archive.specs.declared.refusal.Refusal.{Refusal}
 use Rattle.archive.specs.declared.checking.Checked.{Checked}
 use Rattle.archive.specs.declared.checking.Checked.TheVariants as checked
@@ -39,11 +39,11 @@ module _ (b : List ℕ) where
   abbrev text : List ℕ
   text = listing (reading b)
 
-  list-leaves : (out : List ℕ) {r : Stored} → listIs b (length out) ≡ r → listOut b out ≡ leaves r text out
-  unfolding listOut
+  list-leaves : (out : List ℕ) {r : Stored} → list_is b (length out) ≡ r → list_out b out ≡ leaves r text out
+  unfolding list_out
   list-leaves out e = ap (λ (r : Stored). leaves r text out) e
 
-  archive : IsArchive b → checkIs b ≡ checked.Archive
+  archive : IsArchive b → check_is b ≡ checked.Archive
   archive k = (broken.passes b).1 k
 
   -- the archive that the bytes are is the one that they say
@@ -54,17 +54,17 @@ module _ (b : List ℕ) where
   same_length k = ap length (same k)
 
   module _ (room : ℕ) where
-    abbrev answerBy : Checked → Bool → Stored
-    answerBy c fits = ifArchive c Refused (pick fits (Bytes (length text)) (Refused (plain 8)))
+    abbrev answer_by : Checked → Bool → Stored
+    answer_by c fits = if_archive c Refused (pick fits (Bytes (length text)) (Refused (plain 8)))
 
     abbrev Both : Refusal → Type 0
     Both f = Given b room f × OneOf (0 ∷ 7 ∷ 8 ∷ []) f.number
 
     row : Both (answer b room)
-    unfolding listIs
-    row = go (checkIs b) refl (leb (length text) room) refl
+    unfolding list_is
+    row = go (check_is b) refl (leb (length text) room) refl
       where
-        go : (c : Checked) → checkIs b ≡ c → (q : Bool) → leb (length text) room ≡ q → Both (storedRefusal (answerBy c q))
+        go : (c : Checked) → check_is b ≡ c → (q : Bool) → leb (length text) room ≡ q → Both (stored_refusal (answer_by c q))
         go (checked.Refused x) e q f =
             let k = (broken.refuses b x).0 e in
             (damaged x k, subst (OneOf (0 ∷ 7 ∷ 8 ∷ [])) (sym (seven k)) refl)
@@ -75,18 +75,18 @@ module _ (b : List ℕ) where
             let k = (broken.passes b).0 e in
             (no_room k (omega (arith, same_length k, leb-false (length text) room f)), refl)
 
-    fits : (k : IsArchive b) → length (listing k.archive) ≤ room → listIs b room ≡ Bytes (length text)
-    unfolding listIs
+    fits : (k : IsArchive b) → length (listing k.archive) ≤ room → list_is b room ≡ Bytes (length text)
+    unfolding list_is
     fits k h = rw (archive k, le-leb (length text) room (omega (arith, same_length k, h)))
 
     back : (f : Refusal) → Given b room f → answer b room ≡ f
-    unfolding listIs
-    back n (success k h) = ap storedRefusal (fits k h)
+    unfolding list_is
+    back n (success k h) = ap stored_refusal (fits k h)
     back n (damaged x k) = rw ((broken.refuses b x).1 k)
     back n (no_room k h) = rw (archive k, lt-leb (length text) room (omega (arith, same_length k, h)))
 
   succeeds : (out : List ℕ) (n : Refusal) → Given b (length out) n → n.number ≡ 0 → (k : IsArchive b)
-      × (listIs b (length out) ≡ Bytes (length (listing k.archive))) × (listOut b out ≡ over (listing k.archive) out)
+      × (list_is b (length out) ≡ Bytes (length (listing k.archive))) × (list_out b out ≡ over (listing k.archive) out)
   succeeds out n (success k h) z =
       let x = fits (length out) k h in
       (k, x ∙ ap Bytes (sym (same_length k)), list-leaves out x ∙ ap (λ (w : List ℕ). over w out) (sym (same k)))

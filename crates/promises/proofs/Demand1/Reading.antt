@@ -7,12 +7,12 @@ use lib.ListN.{length}
 use native.Mathlib.Nat.{zero-add}
 use native.Mathlib.Omega.{arith}
 use Rattle.bits.specs.Bits.{pick}
-use Rattle.bits.specs.Frame.{bitsIn, framed, Framed}
+use Rattle.bits.specs.Frame.{bits_in, framed, Framed}
 use Rattle.bits.proofs.Frames.{framed-says, framed_is}
 use Rattle.bits.proofs.Tests.{never, differ, false-unless}
 use Rattle.codec.specs.Codec.{Outcome, ok, no, and_then, Faithful, Legal}
-use Rattle.codec.specs.Places.{isNil}
-use Rattle.codec.specs.Whole.{wholeParse}
+use Rattle.codec.specs.Places.{is_nil}
+use Rattle.codec.specs.Whole.{whole_parse}
 use Rattle.codec.specs.Stops.{Stops}
 use Rattle.codec.proofs.Whole.{whole-reads}
 use Rattle.codec.proofs.Stopping.{stops-refused, ReadingCode, two, of_test, Stopped, Stopping, stopping}
@@ -21,10 +21,10 @@ use Rattle.grammar.proofs.Parts.{of-pdu}
 use Rattle.grammar.specs.declared.record.Record.{Record}
 use Rattle.walk.specs.declared.BitPlace.TheVariants.{At, Nowhere}
 use Rattle.walk.specs.declared.Refusal.{Refusal}
-use Rattle.reader.specs.Read.{refusalOf, answered, refusing, readIs}
+use Rattle.reader.specs.Read.{refusal_of, answered, refusing, read_is}
 use Rattle.reader.specs.declared.Answer.TheVariants.{Accepted, Refused}
 use Rattle.reader.specs.declared.Reading.{Reading}
-use Rattle.pdu.specs.Accepted.{acceptedAs}
+use Rattle.pdu.specs.Accepted.{accepted_as}
 use Rattle.promises.specs.Answers.{OneOf}
 use Rattle.promises.specs.Demand1.Reading.{told, answer, Given, accepted, unframed, stopped, left_over, numbers, Promise}
 use Rattle.promises.proofs.Tables.{exactly}
@@ -36,47 +36,47 @@ data Code : ℕ → Type 0 where
   four : Code 4
 
 -- what is answered to what was read from the first bit on
-abbrev answerTo : Outcome Record → Reading
-answerTo o = answered (and_then o (λ a at r. pick (isNil r) (ok a at r) (no 5 at)))
+abbrev answer_to : Outcome Record → Reading
+answer_to o = answered (and_then o (λ a at r. pick (is_nil r) (ok a at r) (no 5 at)))
 
 abbrev answer_in : Reading → Refusal
-answer_in x = refusalOf x.answer
+answer_in x = refusal_of x.answer
 
 module _ (s : List ℕ) (n : ℕ) where
   abbrev Both : Refusal → Type 1
   Both f = Given s n f × OneOf numbers f.number
 
-  at-fault : (k p : ℕ) → Framed s n → Stops Record pdu (bitsIn n s) k p → ReadingCode Code k → Both (told k (At p))
-  at-fault k p f h two = (stopped 1 p f h, refl)
-  at-fault k p f h (of_test three) = (stopped 2 p f h, refl)
-  at-fault k p f h (of_test four) = (stopped 3 p f h, refl)
+  at_fault : (k p : ℕ) → Framed s n → Stops Record pdu (bits_in n s) k p → ReadingCode Code k → Both (told k (At p))
+  at_fault k p f h two = (stopped 1 p f h, refl)
+  at_fault k p f h (of_test three) = (stopped 2 p f h, refl)
+  at_fault k p f h (of_test four) = (stopped 3 p f h, refl)
 
-  from_first : Framed s n → (o : Outcome Record) → Faithful pdu.clean pdu.fault pdu.print 0 (bitsIn n s) o
-      → Stopped Code Record pdu 0 (bitsIn n s) o → Both (answer_in (answerTo o))
+  from_first : Framed s n → (o : Outcome Record) → Faithful pdu.clean pdu.fault pdu.print 0 (bits_in n s) o
+      → Stopped Code Record pdu 0 (bits_in n s) o → Both (answer_in (answer_to o))
   from_first f (ok a at []) h x = (accepted a f (record { clean = h.0; faultless = h.1 }) (h.2 ∙ append-nil (pdu.print a)), refl)
   from_first f (ok a at (b ∷ r)) h x =
       let end : length (pdu.print a) ≡ at = omega (arith, h.3) in
       subst (λ (p : ℕ). Both (told 5 (At p))) end (left_over a b r f (record { clean = h.0; faultless = h.1 }) h.2, refl)
   from_first f (no k p) h x =
       let here : x.before ≡ p = omega (arith, x.place) in
-      subst (λ (q : ℕ). Both (told k (At q))) here (at-fault k x.before f x.stops x.code)
+      subst (λ (q : ℕ). Both (told k (At q))) here (at_fault k x.before f x.stops x.code)
 
   row : Both (answer s n)
-  unfolding readIs
+  unfolding read_is
   row = go (framed s n) refl
     where
-      go : (t : Bool) → framed s n ≡ t → Both (answer_in (pick t (answered (wholeParse pdu (bitsIn n s))) (refusing 1 Nowhere)))
+      go : (t : Bool) → framed s n ≡ t → Both (answer_in (pick t (answered (whole_parse pdu (bits_in n s))) (refusing 1 Nowhere)))
       go true e =
-          from_first (framed-says s n e) (pdu.parse 0 (bitsIn n s)) (pdu.sound 0 (bitsIn n s))
-          (of-pdu Code passed three four (Stopping Code) (stopping Code) 0 (bitsIn n s))
+          from_first (framed-says s n e) (pdu.parse 0 (bits_in n s)) (pdu.sound 0 (bits_in n s))
+          (of-pdu Code passed three four (Stopping Code) (stopping Code) 0 (bits_in n s))
       go false e = (unframed (λ f. differ (sym (framed_is s n f) ∙ e)), refl)
 
-  whole : Framed s n → readIs s n ≡ answerTo (pdu.parse 0 (bitsIn n s))
-  unfolding readIs
+  whole : Framed s n → read_is s n ≡ answer_to (pdu.parse 0 (bits_in n s))
+  unfolding read_is
   whole f = rw (framed_is s n f)
 
   not-framed : (Framed s n → ⊥) → answer s n ≡ told 1 Nowhere
-  unfolding readIs
+  unfolding read_is
   not-framed f = rw (false-unless (framed s n) (λ t. f (framed-says s n t)))
 
   back : (k : Refusal) → Given s n k → answer s n ≡ k
@@ -86,17 +86,17 @@ module _ (s : List ℕ) (n : ℕ) where
   back k (left_over r b more f l e) = ap answer_in (whole f) ∙ rw (e, pdu.reads r l.clean l.faultless 0 (b ∷ more), zero-add (length (pdu.print r)))
 
   succeeds : (k : Refusal) → Given s n k → k.number ≡ 0
-      → ((readIs s n).answer ≡ Accepted) × Legal pdu (readIs s n).found × (bitsIn n s ≡ pdu.print (readIs s n).found)
+      → ((read_is s n).answer ≡ Accepted) × Legal pdu (read_is s n).found × (bits_in n s ≡ pdu.print (read_is s n).found)
   succeeds k (accepted r f l e) z =
-      let x : readIs s n ≡ acceptedAs r = whole f ∙ rw (e, whole-reads pdu r l) in
+      let x : read_is s n ≡ accepted_as r = whole f ∙ rw (e, whole-reads pdu r l) in
       rw x (refl, l, e)
   succeeds k (unframed f) z = absurd (omega arith)
   succeeds k (stopped m p f h) z = absurd (omega arith)
   succeeds k (left_over r b more f l e) z = absurd (omega arith)
 
-  refused : (f : Refusal) → (readIs s n).answer ≡ Refused f → readIs s n ≡ refusing f.number f.place
-  unfolding readIs
-  refused f = go (framed s n) (wholeParse pdu (bitsIn n s))
+  refused : (f : Refusal) → (read_is s n).answer ≡ Refused f → read_is s n ≡ refusing f.number f.place
+  unfolding read_is
+  refused f = go (framed s n) (whole_parse pdu (bits_in n s))
     where
       same : (g : Refusal) → Refused g ≡ Refused f → refusing g.number g.place ≡ refusing f.number f.place
       same g e = let x : g ≡ f = cc e in ap (λ (y : Refusal). refusing y.number y.place) x

@@ -9,16 +9,16 @@ use lib.ListN.{length}
 use lib.Dec.{leb}
 use borrow.Author.Tests.{leb-true, leb-false}
 use Rattle.bits.proofs.Tests.{differ, false-unless, both, both⁻¹}
-use Rattle.bits.specs.Frame.{bytesFor, pack}
+use Rattle.bits.specs.Frame.{bytes_for, pack}
 use Rattle.codec.specs.Codec.{Legal}
 use Rattle.grammar.specs.Grammar.{pdu}
-use Rattle.writer.specs.Write.{length_of, writtenNumber, writeIs}
+use Rattle.writer.specs.Write.{length_of, written_number, write_is}
 use Rattle.writer.specs.declared.Written.{Written}
 use Rattle.writer.specs.declared.Written.TheVariants as written
 use Rattle.archive.specs.Model.{Held, Archive, in_range}
 use Rattle.archive.specs.Reading.{reading}
 use Rattle.archive.specs.Refusals.{plain}
-use Rattle.archive.specs.Checking.{checkIs}
+use Rattle.archive.specs.Checking.{check_is}
 use Rattle.archive.specs.Keeping.{over}
 use Rattle.archive.specs.Restoring.{lookup}
 use Rattle.archive.specs.declared.contents.Key.{Key}
@@ -26,8 +26,8 @@ use Rattle.archive.specs.declared.refusal.Refusal.{Refusal}
 use Rattle.archive.specs.declared.checking.Checked.{Checked}
 use Rattle.archive.specs.declared.checking.Checked.TheVariants as checked
 use Rattle.reload.specs.declared.Reloaded.TheVariants.{Bits, Refused}
-use Rattle.reload.specs.Define.{isDefinition, stands}
-use Rattle.reload.specs.Reload.{reloadedRefusal, recordOf, asWritten, reloaded, reloadIs, defineBytes, reloadOut}
+use Rattle.reload.specs.Define.{is_definition, stands}
+use Rattle.reload.specs.Reload.{reloaded_refusal, record_of, as_written, reloaded, reload_is, define_bytes, reload_out}
 use Rattle.reload.specs.declared.Definition.{Definition}
 use Rattle.reload.specs.declared.Target.{Target}
 use Rattle.reload.proofs.Reloading.{out_of_range, no-archive, reload-held, reload-leaves}
@@ -58,7 +58,7 @@ abbrev numbers : List ℕ
 numbers = 0 ∷ 9 ∷ 7 ∷ 11 ∷ 12 ∷ 8 ∷ []
 
 -- the refusal of what writing answers
-as_number : (w : Written) → reloadedRefusal (asWritten w) ≡ plain (writtenNumber w)
+as_number : (w : Written) → reloaded_refusal (as_written w) ≡ plain (written_number w)
 as_number (written.Bits n) = refl
 as_number (written.Refused k) = refl
 
@@ -66,12 +66,12 @@ module _ (t : Target) (b : List ℕ) (key : Key) (d : Definition) (out : List �
   abbrev Both : Refusal → Type 0
   Both f = Given t b key d (length out) f × OneOf numbers f.number
 
-  tests : Ranged key → Asked d → in_range key && isDefinition d ≡ true
+  tests : Ranged key → Asked d → in_range key && is_definition d ≡ true
   tests r a = both⁻¹ (ranged b key r) (asked_is d a)
 
   -- the part is held
   module _ (r : Ranged key) (a : Asked d) (k : IsArchive b) where
-    pub found : (l : Option Held) → lookup key (reading b).held ≡ l → reloadIs t b key d out ≡ reloaded t d l out
+    pub found : (l : Option Held) → lookup key (reading b).held ≡ l → reload_is t b key d out ≡ reloaded t d l out
     found l e =
         reload-held t b key d out (ranged b key r) (asked_is d a) ((archives.is-archive b).1 k) ∙ ap (λ (x : Option Held). reloaded t d x out) e
 
@@ -80,26 +80,26 @@ module _ (t : Target) (b : List ℕ) (key : Key) (d : Definition) (out : List �
       is_held = holds b key r k h x
 
       pub legal : Standing t b key d h → Legal pdu (defined t b key d h)
-      legal s = held-defined b ((archives.is-archive b).1 k) key is_held t d (asked_is d a) (stands-is t d.definition (recordOf h).lists a.definition s)
+      legal s = held-defined b ((archives.is-archive b).1 k) key is_held t d (asked_is d a) (stands-is t d.definition (record_of h).lists a.definition s)
 
       -- its lists stand, and writing says the rest
-      wrote : Standing t b key d h → reloadIs t b key d out ≡ asWritten (writeIs (defined t b key d h) out)
-      wrote s = found (some h) is_held ∙ rw (stands-is t d.definition (recordOf h).lists a.definition s)
+      wrote : Standing t b key d h → reload_is t b key d out ≡ as_written (write_is (defined t b key d h) out)
+      wrote s = found (some h) is_held ∙ rw (stands-is t d.definition (record_of h).lists a.definition s)
 
       pub wrote-number : Standing t b key d h → answer t b key d out ≡ plain (writes.number (defined t b key d h) out)
-      wrote-number s = ap reloadedRefusal (wrote s) ∙ as_number (writeIs (defined t b key d h) out)
+      wrote-number s = ap reloaded_refusal (wrote s) ∙ as_number (write_is (defined t b key d h) out)
 
-      fits : Standing t b key d h → bytesFor (length_of (defined t b key d h)) ≤ length out → writes.number (defined t b key d h) out ≡ 0
+      fits : Standing t b key d h → bytes_for (length_of (defined t b key d h)) ≤ length out → writes.number (defined t b key d h) out ≡ 0
       fits s l = (((writing.promise).table (defined t b key d h) out).exactly 0).1 (writes.success (legal s) l)
 
   row : Both (answer t b key d out)
-  row = go (in_range key) refl (isDefinition d) refl (checkIs b) refl (lookup key (reading b).held) refl
+  row = go (in_range key) refl (is_definition d) refl (check_is b) refl (lookup key (reading b).held) refl
     where
       to : {f : Refusal} → answer t b key d out ≡ f → Both f → Both (answer t b key d out)
       to e h = subst Both (sym e) h
 
-      by : (r : Ranged key) (a : Asked d) (k : IsArchive b) (h : Held) → Holds b key k h → (f : Bool) → stands t d.definition (recordOf h).lists ≡ f
-          → (u : Bool) → leb (bytesFor (length_of (defined t b key d h))) (length out) ≡ u → Both (answer t b key d out)
+      by : (r : Ranged key) (a : Asked d) (k : IsArchive b) (h : Held) → Holds b key k h → (f : Bool) → stands t d.definition (record_of h).lists ≡ f
+          → (u : Bool) → leb (bytes_for (length_of (defined t b key d h))) (length out) ≡ u → Both (answer t b key d out)
       by r a k h x true e true f =
           let s = is-standing t _ _ e in
           to (wrote-number r a k h x s ∙ ap plain (fits r a k h x s (leb-true _ _ f))) (success r a k h x s (leb-true _ _ f), refl)
@@ -108,37 +108,37 @@ module _ (t : Target) (b : List ℕ) (key : Key) (d : Definition) (out : List �
           let full = (((writing.promise).table (defined t b key d h) out).exactly 8).1 (writes.no_room (legal r a k h x s) (leb-false _ _ f)) in
           to (wrote-number r a k h x s ∙ ap plain full) (no_room r a k h x s (leb-false _ _ f), refl)
       by r a k h x false e u f =
-          to (ap reloadedRefusal (found r a k (some h) (is_held r a k h x)) ∙ rw e)
+          to (ap reloaded_refusal (found r a k (some h) (is_held r a k h x)) ∙ rw e)
           (lost r a k h x (λ s. differ (sym (stands-is t _ _ a.definition s) ∙ e)), refl)
 
-      go : (p : Bool) → in_range key ≡ p → (q : Bool) → isDefinition d ≡ q → (c : Checked) → checkIs b ≡ c
+      go : (p : Bool) → in_range key ≡ p → (q : Bool) → is_definition d ≡ q → (c : Checked) → check_is b ≡ c
           → (l : Option Held) → lookup key (reading b).held ≡ l → Both (answer t b key d out)
       go false e q f c g l i =
-          to (ap reloadedRefusal (out_of_range t b key d out (rw e refl))) (unranged (λ x. differ (sym (ranged b key x.0) ∙ e)), refl)
+          to (ap reloaded_refusal (out_of_range t b key d out (rw e refl))) (unranged (λ x. differ (sym (ranged b key x.0) ∙ e)), refl)
       go true e false f c g l i =
-          to (ap reloadedRefusal (out_of_range t b key d out (rw (e, f) refl))) (unranged (λ x. differ (sym (asked_is d x.1) ∙ f)), refl)
+          to (ap reloaded_refusal (out_of_range t b key d out (rw (e, f) refl))) (unranged (λ x. differ (sym (asked_is d x.1) ∙ f)), refl)
       go true e true f (checked.Refused x) g l i =
           let k = (broken.refuses b x).0 g in
-          to (ap reloadedRefusal (no-archive t b key d out e f g))
+          to (ap reloaded_refusal (no-archive t b key d out e f g))
           (damaged x ((archives.in-range key).0 e) (is-asked d f) k, subst (OneOf numbers) (sym (seven k)) refl)
       go true e true f checked.Archive g none i =
           let r = (archives.in-range key).0 e in
           let k = (broken.passes b).0 g in
-          to (ap reloadedRefusal (found r (is-asked d f) k none i)) (not-held r (is-asked d f) k (none-by b key r k i), refl)
+          to (ap reloaded_refusal (found r (is-asked d f) k none i)) (not-held r (is-asked d f) k (none-by b key r k i), refl)
       go true e true f checked.Archive g (some h) i =
           let r = (archives.in-range key).0 e in
           let k = (broken.passes b).0 g in
-          by r (is-asked d f) k h (held_by b key r k h i) (stands t d.definition (recordOf h).lists) refl _ refl
+          by r (is-asked d f) k h (held_by b key r k h i) (stands t d.definition (record_of h).lists) refl _ refl
 
   back : (f : Refusal) → Given t b key d (length out) f → answer t b key d out ≡ f
   back f (success r a k h x s l) = wrote-number r a k h x s ∙ ap plain (fits r a k h x s l)
   back f (unranged r) =
-      ap reloadedRefusal (out_of_range t b key d out
-      (false-unless _ (λ e. let p = both (in_range key) (isDefinition d) e in r ((archives.in-range key).0 p.0, is-asked d p.1))))
-  back f (damaged x r a k) = ap reloadedRefusal (no-archive t b key d out (ranged b key r) (asked_is d a) ((broken.refuses b x).1 k))
-  back f (not-held r a k x) = ap reloadedRefusal (found r a k none (holds-none b key r k x))
+      ap reloaded_refusal (out_of_range t b key d out
+      (false-unless _ (λ e. let p = both (in_range key) (is_definition d) e in r ((archives.in-range key).0 p.0, is-asked d p.1))))
+  back f (damaged x r a k) = ap reloaded_refusal (no-archive t b key d out (ranged b key r) (asked_is d a) ((broken.refuses b x).1 k))
+  back f (not-held r a k x) = ap reloaded_refusal (found r a k none (holds-none b key r k x))
   back f (lost r a k h x s) =
-      ap reloadedRefusal (found r a k (some h) (is_held r a k h x)) ∙ rw (false-unless (stands t d.definition (recordOf h).lists) (λ e. s (is-standing t _ _ e)))
+      ap reloaded_refusal (found r a k (some h) (is_held r a k h x)) ∙ rw (false-unless (stands t d.definition (record_of h).lists) (λ e. s (is-standing t _ _ e)))
   back f (no_room r a k h x s l) =
       wrote-number r a k h x s
       ∙ ap plain ((((writing.promise).table (defined t b key d h) out).exactly 8).1 (writes.no_room (legal r a k h x s) l))
@@ -151,14 +151,14 @@ module _ (t : Target) (b : List ℕ) (key : Key) (d : Definition) (out : List �
     pub held : Held
     pub holds : Holds b key archive held
     pub stand : Standing t b key d held
-    pub wrote : writeIs (defined t b key d held) out ≡ written.Bits (record { 0 = length_of (defined t b key d held) })
-    pub is : reloadIs t b key d out ≡ Bits (record { 0 = length_of (defined t b key d held) })
-    pub left : reloadOut t b key d out ≡ over (pack (pdu.print (defined t b key d held))) out
+    pub wrote : write_is (defined t b key d held) out ≡ written.Bits (record { 0 = length_of (defined t b key d held) })
+    pub is : reload_is t b key d out ≡ Bits (record { 0 = length_of (defined t b key d held) })
+    pub left : reload_out t b key d out ≡ over (pack (pdu.print (defined t b key d held))) out
 
   succeeds : (f : Refusal) → Given t b key d (length out) f → f.number ≡ 0 → Success
   succeeds f (success r a k h x s l) z =
       let w = ((writing.promise).success (defined t b key d h) out (fits r a k h x s l)).0 in
-      let e : reloadIs t b key d out ≡ Bits (record { 0 = length_of (defined t b key d h) }) = wrote r a k h x s ∙ ap asWritten w in
+      let e : reload_is t b key d out ≡ Bits (record { 0 = length_of (defined t b key d h) }) = wrote r a k h x s ∙ ap as_written w in
       record {
         ranged = r;
         asked = a;
@@ -168,7 +168,7 @@ module _ (t : Target) (b : List ℕ) (key : Key) (d : Definition) (out : List �
         stand = s;
         wrote = w;
         is = e;
-        left = reload-leaves t b key d out e ∙ ap (λ (y : Option Held). over (defineBytes t d y) out) (is_held r a k h x);
+        left = reload-leaves t b key d out e ∙ ap (λ (y : Option Held). over (define_bytes t d y) out) (is_held r a k h x);
       }
   succeeds f (unranged r) z = absurd (omega arith)
   succeeds f (damaged x r a k) z = absurd (omega (arith, seven k, z))

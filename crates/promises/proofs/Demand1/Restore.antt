@@ -10,12 +10,12 @@ use lib.Dec.{leb}
 use borrow.Author.Tests.{leb-true, leb-false, le-leb, lt-leb}
 use Rattle.bits.specs.Bits.{pick}
 use Rattle.bits.proofs.Tests.{differ, false-unless}
-use Rattle.archive.specs.Model.{Held, Archive, bodySize, in_range}
+use Rattle.archive.specs.Model.{Held, Archive, body_size, in_range}
 use Rattle.archive.specs.Reading.{reading}
 use Rattle.archive.specs.Refusals.{plain}
-use Rattle.archive.specs.Checking.{checkIs}
+use Rattle.archive.specs.Checking.{check_is}
 use Rattle.archive.specs.Keeping.{over}
-use Rattle.archive.specs.Restoring.{restoredRefusal, lookup, delivered, body_of, restoreIs, restoreOut}
+use Rattle.archive.specs.Restoring.{restored_refusal, lookup, delivered, body_of, restore_is, restore_out}
 use Rattle.archive.specs.declared.contents.Key.{Key}
 use Rattle.archive.specs.declared.refusal.Refusal.{Refusal}
 use Rattle.archive.specs.declared.checking.Checked.{Checked}
@@ -72,21 +72,21 @@ module _ (b : List ℕ) (key : Key) where
     abbrev Both : Refusal → Type 0
     Both f = Given b key room f × OneOf (0 ∷ 9 ∷ 7 ∷ 11 ∷ 8 ∷ []) f.number
 
-    asked : Ranged key → IsArchive b → (l : Option Held) → held ≡ l → restoreIs b key room ≡ delivered l room
+    asked : Ranged key → IsArchive b → (l : Option Held) → held ≡ l → restore_is b key room ≡ delivered l room
     asked r k l e = as-delivered b key room (ranged r) ((archives.is-archive b).1 k) ∙ ap (λ (x : Option Held). delivered x room) e
 
     row : Both (answer b key room)
-    row = go (in_range key) refl (checkIs b) refl held refl
+    row = go (in_range key) refl (check_is b) refl held refl
       where
-        to : {r : Restored} → restoreIs b key room ≡ r → Both (restoredRefusal r) → Both (answer b key room)
-        to e h = subst Both (sym (ap restoredRefusal e)) h
+        to : {r : Restored} → restore_is b key room ≡ r → Both (restored_refusal r) → Both (answer b key room)
+        to e h = subst Both (sym (ap restored_refusal e)) h
 
-        by : (h : Held) → Ranged key → (k : IsArchive b) → Holds b key k h → (t : Bool) → leb (bodySize h) room ≡ t
-            → Both (restoredRefusal (pick t (Bits h.entry.bits h.entry.day) (Refused (plain 8))))
+        by : (h : Held) → Ranged key → (k : IsArchive b) → Holds b key k h → (t : Bool) → leb (body_size h) room ≡ t
+            → Both (restored_refusal (pick t (Bits h.entry.bits h.entry.day) (Refused (plain 8))))
         by h r k d true f = (success r k h d (leb-true _ _ f), refl)
         by h r k d false f = (no_room r k h d (leb-false _ _ f), refl)
 
-        go : (p : Bool) → in_range key ≡ p → (c : Checked) → checkIs b ≡ c → (l : Option Held) → held ≡ l → Both (answer b key room)
+        go : (p : Bool) → in_range key ≡ p → (c : Checked) → check_is b ≡ c → (l : Option Held) → held ≡ l → Both (answer b key room)
         go false e c f l g = to (out_of_range b key room e) (unranged (λ r. differ (sym (ranged r) ∙ e)), refl)
         go true e (checked.Refused x) f l g =
             let k = (broken.refuses b x).0 f in
@@ -99,28 +99,28 @@ module _ (b : List ℕ) (key : Key) where
         go true e checked.Archive f (some h) g =
             let r = (archives.in-range key).0 e in
             let k = (broken.passes b).0 f in
-            to (asked r k (some h) g) (by h r k (held_by r k h g) (leb (bodySize h) room) refl)
+            to (asked r k (some h) g) (by h r k (held_by r k h g) (leb (body_size h) room) refl)
 
     back : (f : Refusal) → Given b key room f → answer b key room ≡ f
-    back f (success r k h d l) = ap restoredRefusal (asked r k (some h) (holds r k h d)) ∙ rw (le-leb _ _ l)
-    back f (unranged r) = ap restoredRefusal (out_of_range b key room (false-unless _ (λ e. r ((archives.in-range key).0 e))))
-    back f (damaged x r k) = ap restoredRefusal (no-archive b key room (ranged r) ((broken.refuses b x).1 k))
-    back f (not-held r k d) = ap restoredRefusal (asked r k none (holds-none r k d))
-    back f (no_room r k h d l) = ap restoredRefusal (asked r k (some h) (holds r k h d)) ∙ rw (lt-leb _ _ l)
+    back f (success r k h d l) = ap restored_refusal (asked r k (some h) (holds r k h d)) ∙ rw (le-leb _ _ l)
+    back f (unranged r) = ap restored_refusal (out_of_range b key room (false-unless _ (λ e. r ((archives.in-range key).0 e))))
+    back f (damaged x r k) = ap restored_refusal (no-archive b key room (ranged r) ((broken.refuses b x).1 k))
+    back f (not-held r k d) = ap restored_refusal (asked r k none (holds-none r k d))
+    back f (no_room r k h d l) = ap restored_refusal (asked r k (some h) (holds r k h d)) ∙ rw (lt-leb _ _ l)
 
   -- what is held is given back
-  pub restored-held : (out : List ℕ) → Ranged key → (k : IsArchive b) (h : Held) → Holds b key k h → bodySize h ≤ length out
-      → (restoreIs b key (length out) ≡ Bits h.entry.bits h.entry.day) × (restoreOut b key out ≡ over h.body out)
+  pub restored-held : (out : List ℕ) → Ranged key → (k : IsArchive b) (h : Held) → Holds b key k h → body_size h ≤ length out
+      → (restore_is b key (length out) ≡ Bits h.entry.bits h.entry.day) × (restore_out b key out ≡ over h.body out)
   restored-held out r k h d l =
       let e = holds r k h d in
-      let x : restoreIs b key (length out) ≡ Bits h.entry.bits h.entry.day =
+      let x : restore_is b key (length out) ≡ Bits h.entry.bits h.entry.day =
       asked (length out) r k (some h) e ∙ ap (λ (t : Bool). pick t (Bits h.entry.bits h.entry.day) (Refused (plain 8))) (le-leb _ _ l)
       in
       (x, restore-leaves b key out x ∙ ap (λ (y : Option Held). over (body_of y) out) e)
 
   succeeds : (out : List ℕ) (n : Refusal) → Given b key (length out) n → n.number ≡ 0
       → (k : IsArchive b) × (h : Held) × Holds b key k h
-      × (restoreIs b key (length out) ≡ Bits h.entry.bits h.entry.day) × (restoreOut b key out ≡ over h.body out)
+      × (restore_is b key (length out) ≡ Bits h.entry.bits h.entry.day) × (restore_out b key out ≡ over h.body out)
   succeeds out n (success r k h d l) z = let x = restored-held out r k h d l in (k, h, d, x.0, x.1)
   succeeds out n (unranged r) z = absurd (omega arith)
   succeeds out n (damaged f r k) z = absurd (omega (arith, seven k, z))

@@ -8,63 +8,63 @@ use borrow.Author.Tests.{ltb-true, ltb-false, eq-eqb, eqb-true, le-leb, leb-true
 use lib.ListN.{length, get_or}
 use lib.Dec.{eqb, leb, ltb}
 use Rattle.bits.proofs.Tests.{both, both⁻¹, never, false-unless}
-use Rattle.terminals.specs.Layers.{layerAt, places, nowhere}
-use Rattle.terminals.specs.Profiles.{areProfiles, isTable, namesThird, names}
+use Rattle.terminals.specs.Layers.{layer_at, places, nowhere}
+use Rattle.terminals.specs.Profiles.{are_profiles, is_table, names_third, names}
 use Rattle.terminals.specs.declared.layers.Third.{Third}
 use Rattle.terminals.specs.declared.layers.Third.TheVariants.{Given, Missing}
 use Rattle.terminals.specs.declared.lines.Fields.{Fields}
 use Rattle.terminals.proofs.Places.{place_at}
 use Rattle.promises.specs.Terminals as says
-use Rattle.promises.specs.Terminals.{IsTable, Place, in-cc, in-mm, in-sds, in-sds-tl, in-packet-data, Names}
+use Rattle.promises.specs.Terminals.{IsTable, Place, in_cc, in_mm, in_sds, in_sds_tl, in-packet-data, Names}
 
 -- ---- tables
 
-profiles-are : (t : List ℕ) → areProfiles t ≡ true → (i : ℕ) → get_or t i 0 ≤ 3
-unfolding areProfiles
-profiles-are [] e i = omega arith
-profiles-are (v ∷ t) e zero = leb-true v 3 (both (leb v 3) (areProfiles t) e).0
-profiles-are (v ∷ t) e (suc i) = profiles-are t (both (leb v 3) (areProfiles t) e).1 i
+profiles_are : (t : List ℕ) → are_profiles t ≡ true → (i : ℕ) → get_or t i 0 ≤ 3
+unfolding are_profiles
+profiles_are [] e i = omega arith
+profiles_are (v ∷ t) e zero = leb-true v 3 (both (leb v 3) (are_profiles t) e).0
+profiles_are (v ∷ t) e (suc i) = profiles_are t (both (leb v 3) (are_profiles t) e).1 i
 
-are-profiles : (t : List ℕ) → ((i : ℕ) → get_or t i 0 ≤ 3) → areProfiles t ≡ true
-unfolding areProfiles
+are-profiles : (t : List ℕ) → ((i : ℕ) → get_or t i 0 ≤ 3) → are_profiles t ≡ true
+unfolding are_profiles
 are-profiles [] h = refl
 are-profiles (v ∷ t) h = both⁻¹ (le-leb v 3 (h 0)) (are-profiles t (λ i. h (suc i)))
 
-pub table_is : (t : List ℕ) → isTable t ≡ true → IsTable t
-unfolding isTable
+pub table_is : (t : List ℕ) → is_table t ≡ true → IsTable t
+unfolding is_table
 table_is t e =
-    let k = both (eqb (length t) 269) (areProfiles t) e in
-    record { whole = eqb-true (length t) 269 k.0; profiles = profiles-are t k.1 }
+    let k = both (eqb (length t) 269) (are_profiles t) e in
+    record { whole = eqb-true (length t) 269 k.0; profiles = profiles_are t k.1 }
 
-pub is-table : (t : List ℕ) → IsTable t → isTable t ≡ true
-unfolding isTable
+pub is-table : (t : List ℕ) → IsTable t → is_table t ≡ true
+unfolding is_table
 is-table t h = both⁻¹ (eq-eqb (length t) 269 h.whole) (are-profiles t h.profiles)
 
-pub no_table : (t : List ℕ) → (IsTable t → ⊥) → isTable t ≡ false
-no_table t h = false-unless (isTable t) (λ e. h (table_is t e))
+pub no_table : (t : List ℕ) → (IsTable t → ⊥) → is_table t ≡ false
+no_table t h = false-unless (is_table t) (λ e. h (table_is t e))
 
 -- ---- places
 
 pub inside : {i l : ℕ} {third : Third} → Place i l third → i < 269
-inside (in-cc x h) = omega arith
-inside (in-mm x h) = omega arith
-inside (in-sds x h) = omega arith
-inside (in-sds-tl x h) = omega arith
+inside (in_cc x h) = omega arith
+inside (in_mm x h) = omega arith
+inside (in_sds x h) = omega arith
+inside (in_sds_tl x h) = omega arith
 inside in-packet-data = omega arith
 
 -- the place that stands there
 pub place_is : {i l : ℕ} {third : Third} → Place i l third → get_or places i nowhere ≡ record { layer = l; third = third }
-unfolding layerAt
-place_is (in-cc x h) =
+unfolding layer_at
+place_is (in_cc x h) =
     place_at 0 x (record { known = omega arith; from = omega arith; before = omega arith })
     ∙ ap (λ (y : ℕ). record { layer = 0; third = Given y }) (omega arith)
-place_is (in-mm x h) =
+place_is (in_mm x h) =
     place_at 1 (2 + x) (record { known = omega arith; from = omega arith; before = omega arith })
     ∙ ap (λ (y : ℕ). record { layer = 1; third = Given y }) (omega arith)
-place_is (in-sds x h) =
+place_is (in_sds x h) =
     place_at 2 (7 + x) (record { known = omega arith; from = omega arith; before = omega arith })
     ∙ ap (λ (y : ℕ). record { layer = 2; third = Given y }) (omega arith)
-place_is (in-sds-tl x h) =
+place_is (in_sds_tl x h) =
     place_at 3 (12 + x) (record { known = omega arith; from = omega arith; before = omega arith })
     ∙ ap (λ (y : ℕ). record { layer = 3; third = Given y }) (omega arith)
 place_is in-packet-data = place_at 4 268 (record { known = omega arith; from = omega arith; before = omega arith })
@@ -79,19 +79,19 @@ pub every : (i : ℕ) → i < 269 → Placed i
 every i h = go (ltb i 2) refl (ltb i 7) refl (ltb i 12) refl (ltb i 268) refl
   where
     go : (a : Bool) → ltb i 2 ≡ a → (b : Bool) → ltb i 7 ≡ b → (c : Bool) → ltb i 12 ≡ c → (d : Bool) → ltb i 268 ≡ d → Placed i
-    go true a b' b c' c d' d = (0, Given i, in-cc i (ltb-true i 2 a))
+    go true a b' b c' c d' d = (0, Given i, in_cc i (ltb-true i 2 a))
     go false a true b c' c d' d =
         let k = ltb-false i 2 a in
         let m = ltb-true i 7 b in
-        moved {i = 2 + (i - 2)} (omega arith) (1, Given (10 + (i - 2)), in-mm (i - 2) (omega arith))
+        moved {i = 2 + (i - 2)} (omega arith) (1, Given (10 + (i - 2)), in_mm (i - 2) (omega arith))
     go false a false b true c d' d =
         let k = ltb-false i 7 b in
         let m = ltb-true i 12 c in
-        moved {i = 7 + (i - 7)} (omega arith) (2, Given (20 + (i - 7)), in-sds (i - 7) (omega arith))
+        moved {i = 7 + (i - 7)} (omega arith) (2, Given (20 + (i - 7)), in_sds (i - 7) (omega arith))
     go false a false b false c true d =
         let k = ltb-false i 12 c in
         let m = ltb-true i 268 d in
-        moved {i = 12 + (i - 12)} (omega arith) (3, Given (i - 12), in-sds-tl (i - 12) (omega arith))
+        moved {i = 12 + (i - 12)} (omega arith) (3, Given (i - 12), in_sds_tl (i - 12) (omega arith))
     go false a false b false c false d =
         let k = ltb-false i 268 d in
         moved {i = 268} (omega arith) (4, Missing, in-packet-data)
@@ -99,29 +99,29 @@ every i h = go (ltb i 2) refl (ltb i 7) refl (ltb i 12) refl (ltb i 268) refl
 -- a place by its layer and third field
 abbrev index_of : ℕ → Third → ℕ
 index_of l Missing = 268
-index_of l (Given x) = (layerAt l).start + (x - (layerAt l).first)
+index_of l (Given x) = (layer_at l).start + (x - (layer_at l).first)
 
 index_is : {i l : ℕ} {third : Third} → Place i l third → i ≡ index_of l third
-unfolding layerAt
-index_is (in-cc x h) = omega arith
-index_is (in-mm x h) = omega arith
-index_is (in-sds x h) = omega arith
-index_is (in-sds-tl x h) = omega arith
+unfolding layer_at
+index_is (in_cc x h) = omega arith
+index_is (in_mm x h) = omega arith
+index_is (in_sds x h) = omega arith
+index_is (in_sds_tl x h) = omega arith
 index_is in-packet-data = refl
 
 pub one_place : {i j l : ℕ} {third : Third} → Place i l third → Place j l third → i ≡ j
 one_place p q = index_is p ∙ sym (index_is q)
 
 pub last-place : {i l : ℕ} {third : Third} → Place i l third → l ≡ 4 → i ≡ 268
-last-place (in-cc x h) e = absurd (omega arith)
-last-place (in-mm x h) e = absurd (omega arith)
-last-place (in-sds x h) e = absurd (omega arith)
-last-place (in-sds-tl x h) e = absurd (omega arith)
+last-place (in_cc x h) e = absurd (omega arith)
+last-place (in_mm x h) e = absurd (omega arith)
+last-place (in_sds x h) e = absurd (omega arith)
+last-place (in_sds_tl x h) e = absurd (omega arith)
 last-place in-packet-data e = refl
 
 -- ---- the places that a set line names
 
-names-says : (f : Fields) (l : ℕ) (third : Third) (own : Third) → f.third ≡ own → f.layer ≡ l → namesThird own third ≡ true → Names f l third
+names-says : (f : Fields) (l : ℕ) (third : Third) (own : Third) → f.third ≡ own → f.layer ≡ l → names_third own third ≡ true → Names f l third
 names-says f l third Missing e k h = subst (λ (m : ℕ). Names f m third) k (says.all third e)
 names-says f l (Given y) (Given x) e k h =
     subst (λ (m : ℕ). Names f m (Given y)) k (says.one y (e ∙ ap (λ (z : ℕ). Given z) (eqb-true x y h)))
@@ -130,14 +130,14 @@ names-says f l Missing (Given x) e k h = never cc
 pub named : (f : Fields) (l : ℕ) (third : Third) → names f (record { layer = l; third = third }) ≡ true → Names f l third
 unfolding names
 named f l third e =
-    let k = both (eqb f.layer l) (namesThird f.third third) e in
+    let k = both (eqb f.layer l) (names_third f.third third) e in
     names-says f l third f.third refl (eqb-true f.layer l k.0) k.1
 
-pub names-it : (f : Fields) {l : ℕ} {third : Third} → Names f l third → names f (record { layer = l; third = third }) ≡ true
+pub names_it : (f : Fields) {l : ℕ} {third : Third} → Names f l third → names f (record { layer = l; third = third }) ≡ true
 unfolding names
-names-it f (says.all third e) = both⁻¹ (eq-eqb f.layer f.layer refl) (ap (λ (x : Third). namesThird x third) e)
-names-it f (says.one x e) =
-    both⁻¹ (eq-eqb f.layer f.layer refl) (ap (λ (y : Third). namesThird y (Given x)) e ∙ eq-eqb x x refl)
+names_it f (says.all third e) = both⁻¹ (eq-eqb f.layer f.layer refl) (ap (λ (x : Third). names_third x third) e)
+names_it f (says.one x e) =
+    both⁻¹ (eq-eqb f.layer f.layer refl) (ap (λ (y : Third). names_third y (Given x)) e ∙ eq-eqb x x refl)
 
 pub names-not : (f : Fields) (l : ℕ) (third : Third) → (Names f l third → ⊥) → names f (record { layer = l; third = third }) ≡ false
 names-not f l third h = false-unless (names f (record { layer = l; third = third })) (λ e. h (named f l third e))

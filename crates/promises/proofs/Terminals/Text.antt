@@ -13,14 +13,14 @@ use lib.Dec.{eqb, leb, ltb}
 use Rattle.bits.specs.Bits.{pick}
 use Rattle.bits.proofs.Tests.{both, both⁻¹, never}
 use Rattle.text.specs.Decimal.{digits, decimal}
-use Rattle.text.specs.Field.{isDigit}
+use Rattle.text.specs.Field.{is_digit}
 use Rattle.text.proofs.Decimals.{decimal-one}
 use Rattle.text.proofs.Fields.{digit-is}
-use Rattle.terminals.specs.Layers.{layerAt, values, places, nowhere}
-use Rattle.terminals.specs.Lines.{setWord, areDigits, fields_of, Says, two, three}
-use Rattle.terminals.specs.Profiles.{areProfiles, isTable, names, setIn, resetOut}
-use Rattle.terminals.specs.Reading.{comma, lineEnd, item, placeText, lineText, linesText, led, text_of}
-use Rattle.terminals.specs.Answers.{tableAfter}
+use Rattle.terminals.specs.Layers.{layer_at, values, places, nowhere}
+use Rattle.terminals.specs.Lines.{set_word, are_digits, fields_of, Says, two, three}
+use Rattle.terminals.specs.Profiles.{are_profiles, is_table, names, set_in, reset_out}
+use Rattle.terminals.specs.Reading.{comma, line_end, item, place_text, line_text, lines_text, led, text_of}
+use Rattle.terminals.specs.Answers.{table_after}
 use Rattle.terminals.specs.declared.layers.Place as layers
 use Rattle.terminals.specs.declared.layers.Third.{Third}
 use Rattle.terminals.specs.declared.layers.Third.TheVariants.{Given, Missing}
@@ -29,8 +29,8 @@ use Rattle.terminals.specs.declared.lines.Line.TheVariants.{Set}
 use Rattle.terminals.proofs.Grammar.{decimal-field}
 use Rattle.terminals.proofs.Texts.{lines_next, lines-over, no_line, off-line, length-off}
 use Rattle.promises.specs.Terminals as says
-use Rattle.promises.specs.Terminals.{IsTable, Place, Names, afterAll, thirdText, Line-of, spelt, Lines-from, first, pieces, asSetLines}
-use Rattle.promises.specs.Terminals.{setLines}
+use Rattle.promises.specs.Terminals.{IsTable, Place, Names, after_all, third_text, Line-of, spelt, Lines-from, first, pieces, as_set_lines}
+use Rattle.promises.specs.Terminals.{set_lines}
 use Rattle.promises.proofs.Terminals.Places as place
 use Rattle.promises.proofs.Terminals.OnLine.{set_at, reset-kept}
 use Rattle.promises.proofs.Terminals.Layer.{fine, stays-table, leaves}
@@ -39,32 +39,32 @@ use Rattle.promises.proofs.Terminals.Layer.{fine, stays-table, leaves}
 
 -- the line of a place off "both", spelt out
 line-is : (v l : ℕ) (third : Third) → (v ≡ 2 → ⊥)
-    → lineText v (record { layer = l; third = third }) ≡ decimal v ++ (44 ∷ decimal l ++ (thirdText third ++ (13 ∷ 10 ∷ [])))
-unfolding item placeText thirdText
-line-is v l Missing h = off-line v (record { layer = l; third = Missing }) h ∙ append_assoc (decimal v) comma (decimal l ++ lineEnd)
+    → line_text v (record { layer = l; third = third }) ≡ decimal v ++ (44 ∷ decimal l ++ (third_text third ++ (13 ∷ 10 ∷ [])))
+unfolding item place_text third_text
+line-is v l Missing h = off-line v (record { layer = l; third = Missing }) h ∙ append_assoc (decimal v) comma (decimal l ++ line_end)
 line-is v l (Given x) h =
     off-line v (record { layer = l; third = Given x }) h
-    ∙ append_assoc (decimal v) comma ((decimal l ++ comma) ++ (decimal x ++ lineEnd))
-    ∙ ap (λ (s : List ℕ). decimal v ++ (44 ∷ s)) (append_assoc (decimal l) comma (decimal x ++ lineEnd))
+    ∙ append_assoc (decimal v) comma ((decimal l ++ comma) ++ (decimal x ++ line_end))
+    ∙ ap (λ (s : List ℕ). decimal v ++ (44 ∷ s)) (append_assoc (decimal l) comma (decimal x ++ line_end))
 
 -- ---- the lines from an index on
 
 module _ (t : List ℕ) (h : IsTable t) where
   abbrev from : ℕ → List ℕ
-  from i = linesText (drop i places) (drop i t)
+  from i = lines_text (drop i places) (drop i t)
 
-  step : (i : ℕ) → i < 269 → from i ≡ lineText (get_or t i 0) (get_or places i nowhere) ++ from (i + 1)
+  step : (i : ℕ) → i < 269 → from i ≡ line_text (get_or t i 0) (get_or places i nowhere) ++ from (i + 1)
   step i k = lines_next t i h.whole k
 
   at_default : (i : ℕ) → i < 269 → get_or t i 0 ≡ 2 → from i ≡ from (i + 1)
   at_default i k e = step i k ∙ ap (λ (s : List ℕ). s ++ from (i + 1)) (no_line (get_or t i 0) (get_or places i nowhere) e)
 
   at_off : (i l : ℕ) (third : Third) → Place i l third → (get_or t i 0 ≡ 2 → ⊥)
-      → from i ≡ (decimal (get_or t i 0) ++ (44 ∷ decimal l ++ (thirdText third ++ (13 ∷ 10 ∷ [])))) ++ from (i + 1)
+      → from i ≡ (decimal (get_or t i 0) ++ (44 ∷ decimal l ++ (third_text third ++ (13 ∷ 10 ∷ [])))) ++ from (i + 1)
   at_off i l third q e =
       step i (place.inside q)
       ∙ ap (λ (s : List ℕ). s ++ from (i + 1))
-      (ap (lineText (get_or t i 0)) (place.place_is q) ∙ line-is (get_or t i 0) l third e)
+      (ap (line_text (get_or t i 0)) (place.place_is q) ∙ line-is (get_or t i 0) l third e)
 
   lines_from : (n i : ℕ) → i + n ≡ 269 → Lines-from t i (from i)
   lines_from zero i e =
@@ -87,7 +87,7 @@ led-first (b ∷ s) = refl
 
 pub text-kept : (t : List ℕ) → IsTable t → (s : List ℕ) × Lines-from t 0 s × (text_of t ≡ first s)
 unfolding text_of
-text-kept t h = (linesText places t, lines_from t h 269 0 (omega arith), led-first (linesText places t))
+text-kept t h = (lines_text places t, lines_from t h 269 0 (omega arith), led-first (lines_text places t))
 
 -- ---- nothing
 
@@ -97,8 +97,8 @@ some-line {t} {i} s (spelt l third q) e =
     omega (
       arith,
       ap length e,
-      length-append (decimal (get_or t i 0) ++ (44 ∷ decimal l ++ (thirdText third ++ (13 ∷ 10 ∷ [])))) s,
-      length-append (decimal (get_or t i 0)) (44 ∷ decimal l ++ (thirdText third ++ (13 ∷ 10 ∷ []))),
+      length-append (decimal (get_or t i 0) ++ (44 ∷ decimal l ++ (third_text third ++ (13 ∷ 10 ∷ [])))) s,
+      length-append (decimal (get_or t i 0)) (44 ∷ decimal l ++ (third_text third ++ (13 ∷ 10 ∷ []))),
     )
 
 later : (i j : ℕ) → i ≤ j → (i ≡ j → ⊥) → i + 1 ≤ j
@@ -136,10 +136,10 @@ nothing-kept t h =
 -- ---- how long it is
 
 -- every profile off "both" has one digit
-no-longer-line : (v : ℕ) (p : layers.Place) → v ≤ 3 → length (lineText v p) ≤ length (lineText 3 p)
-no-longer-line v p h = go (eqb v 2) refl
+no_longer-line : (v : ℕ) (p : layers.Place) → v ≤ 3 → length (line_text v p) ≤ length (line_text 3 p)
+no_longer-line v p h = go (eqb v 2) refl
   where
-    go : (b : Bool) → eqb v 2 ≡ b → length (lineText v p) ≤ length (lineText 3 p)
+    go : (b : Bool) → eqb v 2 ≡ b → length (line_text v p) ≤ length (line_text 3 p)
     go true e = omega (arith, ap length (no_line v p (eqb-true v 2 e)))
     go false e =
         omega (
@@ -150,115 +150,115 @@ no-longer-line v p h = go (eqb v 2) refl
           ap length (decimal-one 3 (omega arith)),
         )
 
-no_longer : (ps : List layers.Place) (t : List ℕ) → areProfiles t ≡ true → length (linesText ps t) ≤ length (linesText ps (replicate (length ps) 3))
-unfolding linesText areProfiles
+no_longer : (ps : List layers.Place) (t : List ℕ) → are_profiles t ≡ true → length (lines_text ps t) ≤ length (lines_text ps (replicate (length ps) 3))
+unfolding lines_text are_profiles
 no_longer [] t e = omega arith
 no_longer (p ∷ ps) [] e = omega arith
 no_longer (p ∷ ps) (v ∷ t) e =
-    let k = both (leb v 3) (areProfiles t) e in
+    let k = both (leb v 3) (are_profiles t) e in
     omega (
       arith,
-      length-append (lineText v p) (linesText ps t),
-      length-append (lineText 3 p) (linesText ps (replicate (length ps) 3)),
-      no-longer-line v p (leb-true v 3 k.0),
+      length-append (line_text v p) (lines_text ps t),
+      length-append (line_text 3 p) (lines_text ps (replicate (length ps) 3)),
+      no_longer-line v p (leb-true v 3 k.0),
       no_longer ps t k.1,
     )
 
-longest : length (linesText places (replicate (length places) 3)) ≡ 2293
-unfolding places layerAt values linesText lineText placeText item decimal digits
+longest : length (lines_text places (replicate (length places) 3)) ≡ 2293
+unfolding places layer_at values lines_text line_text place_text item decimal digits
 longest = refl
 
-led-longer : (s : List ℕ) → length (led s) ≤ 7 + length s
-led-longer [] = omega arith
-led-longer (b ∷ s) = omega arith
+led_longer : (s : List ℕ) → length (led s) ≤ 7 + length s
+led_longer [] = omega arith
+led_longer (b ∷ s) = omega arith
 
 pub short-kept : (t : List ℕ) → IsTable t → length (text_of t) ≤ 2300
-unfolding text_of isTable
+unfolding text_of is_table
 short-kept t h =
-    let k = both (eqb (length t) 269) (areProfiles t) (place.is-table t h) in
-    omega (arith, led-longer (linesText places t), no_longer places t k.1, longest)
+    let k = both (eqb (length t) 269) (are_profiles t) (place.is-table t h) in
+    omega (arith, led_longer (lines_text places t), no_longer places t k.1, longest)
 
 -- ---- cut at each LF
 
-unfoldable noLf : List ℕ → Bool
-noLf [] = true
-noLf (b ∷ s) = not (eqb b 10) && noLf s
+unfoldable no_lf : List ℕ → Bool
+no_lf [] = true
+no_lf (b ∷ s) = not (eqb b 10) && no_lf s
 
-cut : (before w s : List ℕ) → noLf w ≡ true → pieces before (w ++ (10 ∷ s)) ≡ (before ++ w) ∷ pieces [] s
-unfolding pieces noLf
+cut : (before w s : List ℕ) → no_lf w ≡ true → pieces before (w ++ (10 ∷ s)) ≡ (before ++ w) ∷ pieces [] s
+unfolding pieces no_lf
 cut before [] s e = ap (λ (x : List ℕ). x ∷ pieces [] s) (sym (append-nil before))
 cut before (b ∷ w) s e =
-    let k = both (not (eqb b 10)) (noLf w) e in
+    let k = both (not (eqb b 10)) (no_lf w) e in
     rw (not-true (eqb b 10) k.0)
     (cut (before ++ (b ∷ [])) w s k.1 ∙ ap (λ (x : List ℕ). x ∷ pieces [] s) (append_assoc before (b ∷ []) w))
 
-noLf-append : (v w : List ℕ) → noLf v ≡ true → noLf w ≡ true → noLf (v ++ w) ≡ true
-unfolding noLf
-noLf-append [] w e f = f
-noLf-append (b ∷ v) w e f =
-    let k = both (not (eqb b 10)) (noLf v) e in
-    both⁻¹ k.0 (noLf-append v w k.1 f)
+no_lf_append : (v w : List ℕ) → no_lf v ≡ true → no_lf w ≡ true → no_lf (v ++ w) ≡ true
+unfolding no_lf
+no_lf_append [] w e f = f
+no_lf_append (b ∷ v) w e f =
+    let k = both (not (eqb b 10)) (no_lf v) e in
+    both⁻¹ k.0 (no_lf_append v w k.1 f)
 
-noLf-digits : (d : List ℕ) → areDigits d ≡ true → noLf d ≡ true
-unfolding noLf areDigits
-noLf-digits [] e = refl
-noLf-digits (b ∷ d) e =
-    let k = both (isDigit b) (areDigits d) e in
+no_lf-digits : (d : List ℕ) → are_digits d ≡ true → no_lf d ≡ true
+unfolding no_lf are_digits
+no_lf-digits [] e = refl
+no_lf-digits (b ∷ d) e =
+    let k = both (is_digit b) (are_digits d) e in
     let n = digit-is b k.0 in
-    both⁻¹ (ap not (ne_eqb b 10 (λ x. omega (arith, n.0)))) (noLf-digits d k.1)
+    both⁻¹ (ap not (ne_eqb b 10 (λ x. omega (arith, n.0)))) (no_lf-digits d k.1)
 
 -- ---- a line of the text as a set line
 
 -- layers and third fields are short
 small : {i l : ℕ} {third : Third} → Place i l third → (l ≤ 4) × ((x : ℕ) → third ≡ Given x → (l ≤ 3) × (x < 1000))
-small (says.in-cc x h) = (omega arith, λ y e. (omega arith, let k : x ≡ y = cc in omega arith))
-small (says.in-mm x h) = (omega arith, λ y e. (omega arith, let k : 10 + x ≡ y = cc in omega arith))
-small (says.in-sds x h) = (omega arith, λ y e. (omega arith, let k : 20 + x ≡ y = cc in omega arith))
-small (says.in-sds-tl x h) = (omega arith, λ y e. (omega arith, let k : x ≡ y = cc in omega arith))
+small (says.in_cc x h) = (omega arith, λ y e. (omega arith, let k : x ≡ y = cc in omega arith))
+small (says.in_mm x h) = (omega arith, λ y e. (omega arith, let k : 10 + x ≡ y = cc in omega arith))
+small (says.in_sds x h) = (omega arith, λ y e. (omega arith, let k : 20 + x ≡ y = cc in omega arith))
+small (says.in_sds_tl x h) = (omega arith, λ y e. (omega arith, let k : x ≡ y = cc in omega arith))
 small says.in-packet-data = (omega arith, λ y e. never cc)
 
 -- without its LF
 abbrev body : ℕ → ℕ → Third → List ℕ
-body v l third = decimal v ++ (44 ∷ decimal l ++ (thirdText third ++ (13 ∷ [])))
+body v l third = decimal v ++ (44 ∷ decimal l ++ (third_text third ++ (13 ∷ [])))
 
-noLf-third : (third : Third) → ((x : ℕ) → third ≡ Given x → x < 1000) → noLf (thirdText third ++ (13 ∷ [])) ≡ true
-unfolding noLf thirdText
-noLf-third Missing h = refl
-noLf-third (Given x) h = noLf-append (decimal x) (13 ∷ []) (noLf-digits (decimal x) (decimal-field x (h x refl)).0.digits) refl
+no_lf-third : (third : Third) → ((x : ℕ) → third ≡ Given x → x < 1000) → no_lf (third_text third ++ (13 ∷ [])) ≡ true
+unfolding no_lf third_text
+no_lf-third Missing h = refl
+no_lf-third (Given x) h = no_lf_append (decimal x) (13 ∷ []) (no_lf-digits (decimal x) (decimal-field x (h x refl)).0.digits) refl
 
-noLf-body : (v l : ℕ) (third : Third) → v < 1000 → l < 1000 → ((x : ℕ) → third ≡ Given x → x < 1000) → noLf (body v l third) ≡ true
-unfolding noLf
-noLf-body v l third a b c =
-    noLf-append (decimal v) (44 ∷ decimal l ++ (thirdText third ++ (13 ∷ []))) (noLf-digits (decimal v) (decimal-field v a).0.digits)
-    (noLf-append (decimal l) (thirdText third ++ (13 ∷ [])) (noLf-digits (decimal l) (decimal-field l b).0.digits) (noLf-third third c))
+no_lf-body : (v l : ℕ) (third : Third) → v < 1000 → l < 1000 → ((x : ℕ) → third ≡ Given x → x < 1000) → no_lf (body v l third) ≡ true
+unfolding no_lf
+no_lf-body v l third a b c =
+    no_lf_append (decimal v) (44 ∷ decimal l ++ (third_text third ++ (13 ∷ []))) (no_lf-digits (decimal v) (decimal-field v a).0.digits)
+    (no_lf_append (decimal l) (third_text third ++ (13 ∷ [])) (no_lf-digits (decimal l) (decimal-field l b).0.digits) (no_lf-third third c))
 
 body-says : (v l : ℕ) (third : Third) → v < 1000 → l < 1000 → ((x : ℕ) → third ≡ Given x → x < 1000)
-    → Says (setWord ++ body v l third) (Set (fields_of v l third false))
-unfolding thirdText
+    → Says (set_word ++ body v l third) (Set (fields_of v l third false))
+unfolding third_text
 body-says v l Missing a b c =
     let f = decimal-field v a in
     let g = decimal-field l b in
-    subst (λ (x : Fields). Says (setWord ++ body v l Missing) (Set x)) (λ i. fields_of (f.1 i) (g.1 i) Missing false)
+    subst (λ (x : Fields). Says (set_word ++ body v l Missing) (Set x)) (λ i. fields_of (f.1 i) (g.1 i) Missing false)
     (two (decimal v) (decimal l) f.0 g.0)
 body-says v l (Given x) a b c =
     let f = decimal-field v a in
     let g = decimal-field l b in
     let k = decimal-field x (c x refl) in
-    subst (λ (y : Fields). Says (setWord ++ body v l (Given x)) (Set y)) (λ i. fields_of (f.1 i) (g.1 i) (Given (k.1 i)) false)
+    subst (λ (y : Fields). Says (set_word ++ body v l (Given x)) (Set y)) (λ i. fields_of (f.1 i) (g.1 i) (Given (k.1 i)) false)
     (three (decimal v) (decimal l) (decimal x) f.0 g.0 k.0)
 
 -- the line with its LF, before others
-with-lf : (v l : ℕ) (third : Third) (rest : List ℕ)
-    → (decimal v ++ (44 ∷ decimal l ++ (thirdText third ++ (13 ∷ 10 ∷ [])))) ++ rest ≡ body v l third ++ (10 ∷ rest)
-with-lf v l third rest = simp append_assoc
+with_lf : (v l : ℕ) (third : Third) (rest : List ℕ)
+    → (decimal v ++ (44 ∷ decimal l ++ (third_text third ++ (13 ∷ 10 ∷ [])))) ++ rest ≡ body v l third ++ (10 ∷ rest)
+with_lf v l third rest = simp append_assoc
 
 -- ---- put back
 
 no_third : {i l : ℕ} {third : Third} → Place i l third → third ≡ Missing → l ≡ 4
-no_third (says.in-cc x h) e = never cc
-no_third (says.in-mm x h) e = never cc
-no_third (says.in-sds x h) e = never cc
-no_third (says.in-sds-tl x h) e = never cc
+no_third (says.in_cc x h) e = never cc
+no_third (says.in_mm x h) e = never cc
+no_third (says.in_sds x h) e = never cc
+no_third (says.in_sds_tl x h) e = never cc
 no_third says.in-packet-data e = refl
 
 -- a line for a place names no other
@@ -267,7 +267,7 @@ names-only v p q (says.all other e) = place.last-place p (no_third p e) ∙ sym 
 names-only {i} {l = l} v p q (says.one x e) = place.one_place (subst (Place i l) e p) q
 
 fresh : IsTable (replicate 269 2)
-unfolding isTable areProfiles
+unfolding is_table are_profiles
 fresh = place.table_is (replicate 269 2) refl
 
 -- a line for a place names it
@@ -280,19 +280,19 @@ module _ (t : List ℕ) (h : IsTable t) where
   v i = get_or t i 0
 
   -- the set lines of the text from an index on
-  abbrev setsFrom : ℕ → List (List ℕ)
-  setsFrom i = asSetLines (pieces [] (from t h i))
+  abbrev sets_from : ℕ → List (List ℕ)
+  sets_from i = as_set_lines (pieces [] (from t h i))
 
-  sets-none : (i : ℕ) → 269 ≤ i → setsFrom i ≡ []
-  unfolding asSetLines pieces
-  sets-none i k = ap (λ (s : List ℕ). asSetLines (pieces [] s)) (lines-over t i h.whole k)
+  sets-none : (i : ℕ) → 269 ≤ i → sets_from i ≡ []
+  unfolding as_set_lines pieces
+  sets-none i k = ap (λ (s : List ℕ). as_set_lines (pieces [] s)) (lines-over t i h.whole k)
 
   module _ (i l : ℕ) (third : Third) (p : Place i l third) where
     abbrev fields : Fields
     fields = fields_of (v i) l third false
 
     abbrev line : List ℕ
-    line = setWord ++ body (v i) l third
+    line = set_word ++ body (v i) l third
 
     values-short : (x : ℕ) → third ≡ Given x → x < 1000
     values-short x e = ((small p).1 x e).1
@@ -300,30 +300,30 @@ module _ (t : List ℕ) (h : IsTable t) where
     line-says : Says line (Set fields)
     line-says = body-says (v i) l third (omega (arith, h.profiles i)) (omega (arith, (small p).0)) values-short
 
-    sets-one : (v i ≡ 2 → ⊥) → setsFrom i ≡ line ∷ setsFrom (i + 1)
-    unfolding asSetLines
+    sets-one : (v i ≡ 2 → ⊥) → sets_from i ≡ line ∷ sets_from (i + 1)
+    unfolding as_set_lines
     sets-one d =
-        ap asSetLines
-        (ap (pieces []) (at_off t h i l third p d ∙ with-lf (v i) l third (from t h (i + 1)))
+        ap as_set_lines
+        (ap (pieces []) (at_off t h i l third p d ∙ with_lf (v i) l third (from t h (i + 1)))
         ∙ cut [] (body (v i) l third) (from t h (i + 1))
-        (noLf-body (v i) l third (omega (arith, h.profiles i)) (omega (arith, (small p).0)) values-short))
+        (no_lf-body (v i) l third (omega (arith, h.profiles i)) (omega (arith, (small p).0)) values-short))
 
     module _ (u : List ℕ) (k : IsTable u) where
-      line-leaves : tableAfter line u ≡ setIn fields places u
+      line-leaves : table_after line u ≡ set_in fields places u
       line-leaves =
           leaves line u fields k line-says
           (fine (v i) l third (h.profiles i) (small p).0 (λ x e. (((small p).1 x e).0, i, subst (Place i l) e p)))
 
-      still : IsTable (tableAfter line u)
+      still : IsTable (table_after line u)
       still = subst IsTable (sym line-leaves) (stays-table fields u (h.profiles i) k)
 
-      own : get_or (tableAfter line u) i 0 ≡ v i
+      own : get_or (table_after line u) i 0 ≡ v i
       own =
           ap (λ (x : List ℕ). get_or x i 0) line-leaves
           ∙ set_at fields u k.whole p
-          ∙ ap (λ (b : Bool). pick b (v i) (get_or u i 0)) (place.names-it fields (names-own (v i) l third))
+          ∙ ap (λ (b : Bool). pick b (v i) (get_or u i 0)) (place.names_it fields (names-own (v i) l third))
 
-      other : (j : ℕ) → j < 269 → (i ≡ j → ⊥) → get_or (tableAfter line u) j 0 ≡ get_or u j 0
+      other : (j : ℕ) → j < 269 → (i ≡ j → ⊥) → get_or (table_after line u) j 0 ≡ get_or u j 0
       other j n d =
           let q = place.every j n in
           ap (λ (x : List ℕ). get_or x j 0) line-leaves
@@ -333,45 +333,45 @@ module _ (t : List ℕ) (h : IsTable t) where
   -- the set lines from an index on set the places from there on
   abbrev SetsRest : ℕ → Type 0
   SetsRest i = (u : List ℕ) → IsTable u → ((j : ℕ) → j < i → get_or u j 0 ≡ v j) → ((j : ℕ) → i ≤ j → j < 269 → get_or u j 0 ≡ 2)
-      → afterAll (setsFrom i) u ≡ t
+      → after_all (sets_from i) u ≡ t
 
   one_line : (i : ℕ) → i < 269 → (v i ≡ 2 → ⊥) → SetsRest (i + 1) → SetsRest i
-  unfolding afterAll
+  unfolding after_all
   one_line i n d rest u k done left =
       let q = place.every i n in
-      let w = tableAfter (line i q.0 q.1 q.2) u in
+      let w = table_after (line i q.0 q.1 q.2) u in
       let before : (j : ℕ) → j < i → get_or w j 0 ≡ v j = λ j m. other i q.0 q.1 q.2 u k j (omega arith) (λ e. omega arith) ∙ done j m in
-      ap (λ (ss : List (List ℕ)). afterAll ss u) (sets-one i q.0 q.1 q.2 d)
+      ap (λ (ss : List (List ℕ)). after_all ss u) (sets-one i q.0 q.1 q.2 d)
       ∙ rest w (still i q.0 q.1 q.2 u k) (below_more (λ j. get_or w j 0 ≡ v j) i before (own i q.0 q.1 q.2 u k))
       (λ j a b. other i q.0 q.1 q.2 u k j b (λ e. omega arith) ∙ left j (omega arith) b)
 
-  no-line-here : (i : ℕ) → i < 269 → v i ≡ 2 → SetsRest (i + 1) → SetsRest i
-  no-line-here i n d rest u k done left =
-      ap (λ (s : List ℕ). afterAll (asSetLines (pieces [] s)) u) (at_default t h i n d)
+  no_line-here : (i : ℕ) → i < 269 → v i ≡ 2 → SetsRest (i + 1) → SetsRest i
+  no_line-here i n d rest u k done left =
+      ap (λ (s : List ℕ). after_all (as_set_lines (pieces [] s)) u) (at_default t h i n d)
       ∙ rest u k (below_more (λ j. get_or u j 0 ≡ v j) i done (left i (omega arith) n ∙ sym d)) (λ j a b. left j (omega arith) b)
 
   sets-rest : (n i : ℕ) → i + n ≡ 269 → SetsRest i
-  unfolding afterAll
+  unfolding after_all
   sets-rest zero i e = λ u k done left.
-      ap (λ (ss : List (List ℕ)). afterAll ss u) (sets-none i (omega arith))
+      ap (λ (ss : List (List ℕ)). after_all ss u) (sets-none i (omega arith))
       ∙ ext_get_or 0 u t (k.whole ∙ sym h.whole) (λ j m. done j (omega (arith, k.whole)))
   sets-rest (suc n) i e = go (eqb (v i) 2) refl (sets-rest n (i + 1) (omega arith))
     where
       go : (b : Bool) → eqb (v i) 2 ≡ b → SetsRest (i + 1) → SetsRest i
-      go true c rest = no-line-here i (omega arith) (eqb-true (v i) 2 c) rest
+      go true c rest = no_line-here i (omega arith) (eqb-true (v i) 2 c) rest
       go false c rest = one_line i (omega arith) (eqb-false (v i) 2 c) rest
 
-  text-lines : setLines (text_of t) ≡ setsFrom 0
+  text-lines : set_lines (text_of t) ≡ sets_from 0
   unfolding text_of
-  text-lines = go (linesText places t)
+  text-lines = go (lines_text places t)
     where
-      go : (s : List ℕ) → asSetLines (pieces [] (drop 7 (led s))) ≡ asSetLines (pieces [] s)
+      go : (s : List ℕ) → as_set_lines (pieces [] (drop 7 (led s))) ≡ as_set_lines (pieces [] s)
       go [] = refl
       go (b ∷ s) = refl
 
-  pub put-back-kept : (lent : List ℕ) → length lent ≡ 269 → afterAll (setLines (text_of t)) (resetOut lent) ≡ t
-  put-back-kept lent k =
+  pub put_back-kept : (lent : List ℕ) → length lent ≡ 269 → after_all (set_lines (text_of t)) (reset_out lent) ≡ t
+  put_back-kept lent k =
       let r = ((reset-kept lent).taken k).1 in
-      ap (afterAll (setLines (text_of t))) r
-      ∙ ap (λ (ss : List (List ℕ)). afterAll ss (replicate 269 2)) text-lines
+      ap (after_all (set_lines (text_of t))) r
+      ∙ ap (λ (ss : List (List ℕ)). after_all ss (replicate 269 2)) text-lines
       ∙ sets-rest 269 0 (omega arith) (replicate 269 2) fresh (λ j m. absurd (omega arith)) (λ j a b. get_or-replicate 269 j 2 0 b)

@@ -7,63 +7,63 @@ use borrow.Author.Tests.{leb-true, leb-false, le-leb, lt-ltb, ltb-true}
 use lib.Dec.{leb, ltb}
 use Rattle.bits.specs.Bits.{guard}
 use Rattle.bits.proofs.Tests.{both, both⁻¹, never, differ}
-use Rattle.terminals.specs.Layers.{layerAt}
-use Rattle.terminals.specs.Profiles.{is_value, takes, fieldsRefusal}
+use Rattle.terminals.specs.Layers.{layer_at}
+use Rattle.terminals.specs.Profiles.{is_value, takes, fields_refusal}
 use Rattle.terminals.specs.declared.layers.Third.{Third}
 use Rattle.terminals.specs.declared.layers.Third.TheVariants.{Given, Missing}
 use Rattle.terminals.specs.declared.lines.Fields.{Fields}
 use Rattle.terminals.proofs.Places.{each}
 use Rattle.promises.specs.Terminals as says
-use Rattle.promises.specs.Terminals.{Place, in-cc, in-mm, in-sds, in-sds-tl, in-packet-data, BadValue, BadCount}
+use Rattle.promises.specs.Terminals.{Place, in_cc, in_mm, in_sds, in_sds_tl, in-packet-data, BadValue, BadCount}
 
 -- ---- values of a layer
 
-place-value : {i l : ℕ} {third : Third} → Place i l third → is_value (layerAt l) third ≡ true
-unfolding layerAt
-place-value (in-cc x h) = both⁻¹ (le-leb 0 x (omega arith)) (lt-ltb x 2 h)
-place-value (in-mm x h) = both⁻¹ (le-leb 10 (10 + x) (omega arith)) (lt-ltb (10 + x) 15 (omega arith))
-place-value (in-sds x h) = both⁻¹ (le-leb 20 (20 + x) (omega arith)) (lt-ltb (20 + x) 25 (omega arith))
-place-value (in-sds-tl x h) = both⁻¹ (le-leb 0 x (omega arith)) (lt-ltb x 256 h)
+place-value : {i l : ℕ} {third : Third} → Place i l third → is_value (layer_at l) third ≡ true
+unfolding layer_at
+place-value (in_cc x h) = both⁻¹ (le-leb 0 x (omega arith)) (lt-ltb x 2 h)
+place-value (in_mm x h) = both⁻¹ (le-leb 10 (10 + x) (omega arith)) (lt-ltb (10 + x) 15 (omega arith))
+place-value (in_sds x h) = both⁻¹ (le-leb 20 (20 + x) (omega arith)) (lt-ltb (20 + x) 25 (omega arith))
+place-value (in_sds_tl x h) = both⁻¹ (le-leb 0 x (omega arith)) (lt-ltb x 256 h)
 place-value in-packet-data = refl
 
 -- a value of a layer that takes one has its place
 abbrev HasPlace : ℕ → Type 0
-HasPlace l = (x : ℕ) → is_value (layerAt l) (Given x) ≡ true → l ≤ 3 → (i : ℕ) × Place i l (Given x)
+HasPlace l = (x : ℕ) → is_value (layer_at l) (Given x) ≡ true → l ≤ 3 → (i : ℕ) × Place i l (Given x)
 
 shifted : {l x y : ℕ} → y ≡ x → (i : ℕ) × Place i l (Given y) → (i : ℕ) × Place i l (Given x)
 shifted {l} e p = subst (λ (z : ℕ). (i : ℕ) × Place i l (Given z)) e p
 
 pub has-place : (l : ℕ) → l ≤ 4 → HasPlace l
-unfolding layerAt
+unfolding layer_at
 has-place =
     each HasPlace
-    (λ x e h. let k = both (leb 0 x) (ltb x 2) e in (x, in-cc x (ltb-true x 2 k.1)))
+    (λ x e h. let k = both (leb 0 x) (ltb x 2) e in (x, in_cc x (ltb-true x 2 k.1)))
     (λ x e h.
     let k = both (leb 10 x) (ltb x 15) e in
     let m = leb-true 10 x k.0 in
     let n = ltb-true x 15 k.1 in
-    shifted {y = 10 + (x - 10)} (omega arith) (2 + (x - 10), in-mm (x - 10) (omega arith)))
+    shifted {y = 10 + (x - 10)} (omega arith) (2 + (x - 10), in_mm (x - 10) (omega arith)))
     (λ x e h.
     let k = both (leb 20 x) (ltb x 25) e in
     let m = leb-true 20 x k.0 in
     let n = ltb-true x 25 k.1 in
-    shifted {y = 20 + (x - 20)} (omega arith) (7 + (x - 20), in-sds (x - 20) (omega arith)))
-    (λ x e h. let k = both (leb 0 x) (ltb x 256) e in (12 + x, in-sds-tl x (ltb-true x 256 k.1)))
+    shifted {y = 20 + (x - 20)} (omega arith) (7 + (x - 20), in_sds (x - 20) (omega arith)))
+    (λ x e h. let k = both (leb 0 x) (ltb x 256) e in (12 + x, in_sds_tl x (ltb-true x 256 k.1)))
     (λ x e h. absurd (omega arith))
 
 -- the layers that take a third field are 0 to 3
 abbrev TakesIt : ℕ → Type 0
-TakesIt l = ((layerAt l).named ≡ true → l ≤ 3) × ((layerAt l).named ≡ false → l ≡ 4)
+TakesIt l = ((layer_at l).named ≡ true → l ≤ 3) × ((layer_at l).named ≡ false → l ≡ 4)
 
 named-layer : (l : ℕ) → l ≤ 4 → TakesIt l
-unfolding layerAt
+unfolding layer_at
 named-layer =
     each TakesIt (λ e. omega arith, λ e. never cc) (λ e. omega arith, λ e. never cc) (λ e. omega arith, λ e. never cc)
     (λ e. omega arith, λ e. never cc)
     (λ e. never cc, λ e. refl)
 
-not_named : (layerAt 4).named ≡ false
-unfolding layerAt
+not_named : (layer_at 4).named ≡ false
+unfolding layer_at
 not_named = refl
 
 -- ---- what is wrong with the fields
@@ -75,50 +75,50 @@ pub data Judged (f : Fields) : ℕ → Type 0 where
 
 module _ (f : Fields) where
   -- a third field that is no value
-  no_value : (third : Third) → f.third ≡ third → f.layer ≤ 4 → is_value (layerAt f.layer) third ≡ false → BadValue f
+  no_value : (third : Third) → f.third ≡ third → f.layer ≤ 4 → is_value (layer_at f.layer) third ≡ false → BadValue f
   no_value Missing e h v = never cc
-  no_value (Given x) e h v = go (layerAt f.layer).named refl
+  no_value (Given x) e h v = go (layer_at f.layer).named refl
     where
-      unnamed : (layerAt f.layer).named ≡ false → is_value (layerAt f.layer) (Given x) ≡ true
+      unnamed : (layer_at f.layer).named ≡ false → is_value (layer_at f.layer) (Given x) ≡ true
       unnamed n =
           ap
-          (λ (b : Bool). not b || (leb (layerAt f.layer).first x && ltb x ((layerAt f.layer).first + (layerAt f.layer).count)))
+          (λ (b : Bool). not b || (leb (layer_at f.layer).first x && ltb x ((layer_at f.layer).first + (layer_at f.layer).count)))
           n
 
-      taken : (layerAt f.layer).named ≡ true → BadValue f
+      taken : (layer_at f.layer).named ≡ true → BadValue f
       taken n =
           says.third x ((named-layer f.layer h).0 n) e
           (λ i p. differ (sym (place-value p) ∙ v))
 
-      go : (b : Bool) → (layerAt f.layer).named ≡ b → BadValue f
+      go : (b : Bool) → (layer_at f.layer).named ≡ b → BadValue f
       go true n = taken n
       go false n = differ (sym (unnamed n) ∙ v)
 
-  values-good : f.profile ≤ 3 → f.layer ≤ 4 → is_value (layerAt f.layer) f.third ≡ true → BadValue f → ⊥
+  values-good : f.profile ≤ 3 → f.layer ≤ 4 → is_value (layer_at f.layer) f.third ≡ true → BadValue f → ⊥
   values-good p h v (says.profile k) = omega arith
   values-good p h v (says.layer k) = omega arith
   values-good p h v (says.third x k e none) =
-      let q = has-place f.layer h x (ap (is_value (layerAt f.layer)) (sym e) ∙ v) k in
+      let q = has-place f.layer h x (ap (is_value (layer_at f.layer)) (sym e) ∙ v) k in
       none q.0 q.1
 
-  not_taken : (third : Third) → f.third ≡ third → f.layer ≤ 4 → takes (layerAt f.layer) third ≡ false → BadCount f
+  not_taken : (third : Third) → f.third ≡ third → f.layer ≤ 4 → takes (layer_at f.layer) third ≡ false → BadCount f
   not_taken Missing e h v = never cc
   not_taken (Given x) e h v = says.third x ((named-layer f.layer h).1 v) e
 
-  counts-good : takes (layerAt f.layer) f.third ≡ true → f.fourth ≡ false → BadCount f → ⊥
+  counts-good : takes (layer_at f.layer) f.third ≡ true → f.fourth ≡ false → BadCount f → ⊥
   counts-good v o (says.third x l e) =
       differ
-      (sym v ∙ ap (takes (layerAt f.layer)) e ∙ ap (λ (k : ℕ). (layerAt k).named) l ∙ not_named)
+      (sym v ∙ ap (takes (layer_at f.layer)) e ∙ ap (λ (k : ℕ). (layer_at k).named) l ∙ not_named)
   counts-good v o (says.fourth k) = differ (sym k ∙ o)
 
-  pub judged : Judged f (fieldsRefusal f)
-  unfolding fieldsRefusal
+  pub judged : Judged f (fields_refusal f)
+  unfolding fields_refusal
   judged =
-      go (leb f.profile 3) refl (leb f.layer 4) refl (is_value (layerAt f.layer) f.third) refl
-      (takes (layerAt f.layer) f.third) refl f.fourth refl
+      go (leb f.profile 3) refl (leb f.layer 4) refl (is_value (layer_at f.layer) f.third) refl
+      (takes (layer_at f.layer) f.third) refl f.fourth refl
     where
-      go : (p : Bool) → leb f.profile 3 ≡ p → (l : Bool) → leb f.layer 4 ≡ l → (v : Bool) → is_value (layerAt f.layer) f.third ≡ v
-          → (t : Bool) → takes (layerAt f.layer) f.third ≡ t → (o : Bool) → f.fourth ≡ o
+      go : (p : Bool) → leb f.profile 3 ≡ p → (l : Bool) → leb f.layer 4 ≡ l → (v : Bool) → is_value (layer_at f.layer) f.third ≡ v
+          → (t : Bool) → takes (layer_at f.layer) f.third ≡ t → (o : Bool) → f.fourth ≡ o
           → Judged f (guard p 16 (guard l 16 (guard v 16 (guard t 17 (guard (not o) 17 0)))))
       go false p l' l v' v t' t o' o = bad-value (says.profile (leb-false f.profile 3 p))
       go true p false l v' v t' t o' o = bad-value (says.layer (leb-false f.layer 4 l))

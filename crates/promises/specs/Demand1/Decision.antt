@@ -1,7 +1,7 @@
 -- Demand 1, the decision: "9, 7. Each is given exactly then." With 7 its entry and place. It is lent nothing to change.
 use Rattle.std.specs.Prelude.{◌≡◌, refl, ◌↔◌, List, [], ◌∷◌, ℕ, ◌≤◌, ◌<◌, take, drop, replicate}
 use Rattle.bits.specs.Lists.{Each}
-use Rattle.rules.specs.Request.{requestRefusal, requests}
+use Rattle.rules.specs.Request.{request_refusal, requests}
 use Rattle.rules.specs.ProfileCalls.{speech}
 use Rattle.rules.specs.declared.request.User.{User}
 use Rattle.rules.specs.declared.request.Destination.{Destination}
@@ -12,8 +12,8 @@ use Rattle.rules.specs.declared.request.Request.{Request}
 use Rattle.archive.specs.Refusals.{plain}
 use Rattle.archive.specs.Examples.{calls}
 use Rattle.archive.specs.declared.refusal.Refusal.{Refusal}
-use Rattle.barring.specs.Decide.{decideIs}
-use Rattle.barring.specs.Decision.{decidedRefusal, verdictOf}
+use Rattle.barring.specs.Decide.{decide_is}
+use Rattle.barring.specs.Decision.{decided_refusal, verdict_of}
 use Rattle.barring.specs.declared.Decision.{Decision}
 use Rattle.barring.specs.declared.Decision.TheVariants.{Allowed, Barred, NotHeld}
 use Rattle.promises.specs.Answers.{Exactly}
@@ -21,7 +21,7 @@ use Rattle.promises.specs.Archive.{IsArchive}
 use Rattle.promises.specs.Broken.{number_of, Broken}
 
 abbrev pub answer : List ℕ → Request → Refusal
-answer b q = decidedRefusal (decideIs b q)
+answer b q = decided_refusal (decide_is b q)
 
 -- ---- a request in its range
 
@@ -65,7 +65,7 @@ pub data Given (b : List ℕ) (q : Request) : Refusal → Type 0 where
 
 -- each is met
 met : (answer (replicate 5 0) (speech 1 100 NoGroup) ≡ plain 0) × (answer [] (speech 16777216 100 NoGroup) ≡ plain 9) × (answer [] (speech 1 100 NoGroup) ≡ plain 7)
-unfolding calls requests decideIs
+unfolding calls requests decide_is
 met = (refl, refl, refl)
 
 -- the number of a decision: 0 to 2 barred with that cause of table 38, 3 allowed, 4 not held
@@ -79,7 +79,7 @@ pub data Verdict : ℕ → Decision → Type 0 where
 -- Proved in proofs/Demand1/Decision.antt.
 pub record Promise : Type 0 where
   -- a request is not refused exactly if it is in its range
-  pub ranged : (q : Request) → (requestRefusal q ≡ 0) ↔ Ranged q
+  pub ranged : (q : Request) → (request_refusal q ≡ 0) ↔ Ranged q
   pub table : (b : List ℕ) (q : Request) → Exactly number_of (answer b q) (0 ∷ 9 ∷ 7 ∷ []) (Given b q)
   -- "Success returns the decision."
-  pub success : (b : List ℕ) (q : Request) → (answer b q).number ≡ 0 → Verdict (verdictOf (decideIs b q)) (decideIs b q)
+  pub success : (b : List ℕ) (q : Request) → (answer b q).number ≡ 0 → Verdict (verdict_of (decide_is b q)) (decide_is b q)

@@ -1,12 +1,12 @@
 -- Demand 1, the empty archive: "9, 8. Each is given exactly then."
 use Rattle.std.specs.Prelude.{◌≡◌, refl, List, [], ◌∷◌, ℕ, ◌/◌, ◌%◌, ◌≤◌, ◌<◌, length}
-use Rattle.archive.specs.Keeping.{storedRefusal, over, emptyIs, emptyOut}
+use Rattle.archive.specs.Keeping.{stored_refusal, over, empty_is, empty_out}
 use Rattle.archive.specs.declared.refusal.Refusal.{Refusal}
 use Rattle.archive.specs.declared.Stored.TheVariants.{Bytes, Refused}
 use Rattle.promises.specs.Answers.{Exactly}
 
 abbrev pub number : ℕ → ℕ → ℕ
-number home room = (storedRefusal (emptyIs home room)).number
+number home room = (stored_refusal (empty_is home room)).number
 
 -- the home network in three bytes, the most significant first, and the entry count 0 in two
 abbrev pub header : ℕ → List ℕ
@@ -22,7 +22,7 @@ pub data Given (home room : ℕ) : ℕ → Type 0 where
 
 -- each number is met, and of two the first in order is given
 met : (number 1 5 ≡ 0) × (number 16777216 5 ≡ 9) × (number 1 4 ≡ 8) × (number 16777216 4 ≡ 9)
-unfolding emptyIs
+unfolding empty_is
 met = (refl, refl, refl, refl)
 
 -- Proved in proofs/Demand1/Empty.antt.
@@ -30,6 +30,6 @@ pub record Promise : Type 0 where
   pub table : (home room : ℕ) → Exactly (λ k. k) (number home room) (0 ∷ 9 ∷ 8 ∷ []) (Given home room)
   -- "Success returns the length written; output bytes after those that hold that length stay."
   pub success : (home : ℕ) (out : List ℕ) → number home (length out) ≡ 0
-      → (emptyIs home (length out) ≡ Bytes 5) × (emptyOut home out ≡ over (header home) out)
+      → (empty_is home (length out) ≡ Bytes 5) × (empty_out home out ≡ over (header home) out)
   -- "A refusal returns its number only and changes no byte."
-  pub refusal : (home : ℕ) (out : List ℕ) (f : Refusal) → emptyIs home (length out) ≡ Refused f → emptyOut home out ≡ out
+  pub refusal : (home : ℕ) (out : List ℕ) (f : Refusal) → empty_is home (length out) ≡ Refused f → empty_out home out ≡ out

@@ -1,7 +1,7 @@
 -- Demand 1, the listing that `contents` prints: 7, then 8. Each is given exactly then, with 7 its entry and place.
 use Rattle.std.specs.Prelude.{◌≡◌, refl, List, [], ◌∷◌, ℕ, ◌≤◌, ◌<◌, length, replicate}
-use Rattle.archive.specs.Keeping.{over, storedRefusal}
-use Rattle.archive.specs.Listing.{digits, decimal, item, twoItems, firstLine, lines, listing, listIs, listOut}
+use Rattle.archive.specs.Keeping.{over, stored_refusal}
+use Rattle.archive.specs.Listing.{digits, decimal, item, two_items, first_line, lines, listing, list_is, list_out}
 use Rattle.archive.specs.Refusals.{plain}
 use Rattle.archive.specs.Examples.{calls}
 use Rattle.archive.specs.declared.refusal.Refusal.{Refusal}
@@ -11,7 +11,7 @@ use Rattle.promises.specs.Archive.{IsArchive}
 use Rattle.promises.specs.Broken.{number_of, Broken}
 
 abbrev pub answer : List ℕ → ℕ → Refusal
-answer b room = storedRefusal (listIs b room)
+answer b room = stored_refusal (list_is b room)
 
 -- the table of refusals, as far as the listing goes
 pub data Given (b : List ℕ) (room : ℕ) : Refusal → Type 0 where
@@ -23,7 +23,7 @@ pub data Given (b : List ℕ) (room : ℕ) : Refusal → Type 0 where
 
 -- each is met, and of two the first in order is given
 met : (answer (replicate 5 0) 17 ≡ plain 0) × (answer [] 17 ≡ plain 7) × (answer (replicate 5 0) 16 ≡ plain 8) × (answer [] 16 ≡ plain 7)
-unfolding calls listIs listing twoItems firstLine lines item decimal digits
+unfolding calls list_is listing two_items first_line lines item decimal digits
 met = (refl, refl, refl, refl)
 
 -- Proved in proofs/Demand1/Listing.antt.
@@ -31,6 +31,6 @@ pub record Promise : Type 0 where
   pub table : (b : List ℕ) (room : ℕ) → Exactly number_of (answer b room) (0 ∷ 7 ∷ 8 ∷ []) (Given b room)
   -- "Success returns the length written; output bytes after those that hold that length stay."
   pub success : (b out : List ℕ) → (answer b (length out)).number ≡ 0 → (k : IsArchive b)
-      × (listIs b (length out) ≡ Bytes (length (listing k.archive))) × (listOut b out ≡ over (listing k.archive) out)
+      × (list_is b (length out) ≡ Bytes (length (listing k.archive))) × (list_out b out ≡ over (listing k.archive) out)
   -- a refusal changes no byte
-  pub refusal : (b out : List ℕ) (f : Refusal) → listIs b (length out) ≡ Refused f → listOut b out ≡ out
+  pub refusal : (b out : List ℕ) (f : Refusal) → list_is b (length out) ≡ Refused f → list_out b out ≡ out

@@ -2,16 +2,16 @@
 -- With each but 1 the bit place of the first bit of the element that caused it (document 02, 2026-03).
 use Rattle.std.specs.Prelude.{◌≡◌, refl, Bool, List, [], ◌∷◌, ◌++◌, ℕ, suc, length}
 use Rattle.bits.specs.Bits.{bits}
-use Rattle.bits.specs.Frame.{bitsIn, framed, Framed}
+use Rattle.bits.specs.Frame.{bits_in, framed, Framed}
 use Rattle.codec.specs.Codec.{Legal}
 use Rattle.codec.specs.Stops.{Stops}
 use Rattle.grammar.specs.Grammar.{pdu, grammar}
-use Rattle.grammar.specs.Zero.{zeroRecord}
+use Rattle.grammar.specs.Zero.{zero_record}
 use Rattle.grammar.specs.declared.record.Record.{Record}
 use Rattle.walk.specs.declared.BitPlace.{BitPlace}
 use Rattle.walk.specs.declared.BitPlace.TheVariants.{At, Nowhere}
 use Rattle.walk.specs.declared.Refusal.{Refusal}
-use Rattle.reader.specs.Read.{refusalOf, refusing, readIs}
+use Rattle.reader.specs.Read.{refusal_of, refusing, read_is}
 use Rattle.reader.specs.declared.Answer.TheVariants.{Accepted, Refused}
 use Rattle.promises.specs.Answers.{Exactly}
 
@@ -24,19 +24,19 @@ number_of f = f.number
 
 -- the refusal, with the number 0 and no place for an accepted PDU
 abbrev pub answer : List ℕ → ℕ → Refusal
-answer s n = refusalOf (readIs s n).answer
+answer s n = refusal_of (read_is s n).answer
 
 -- the table of refusals, as far as reading goes
 pub data Given (s : List ℕ) (n : ℕ) : Refusal → Type 1 where
   -- the PDU is the writing of a legal record
-  accepted : (r : Record) → Framed s n → Legal pdu r → bitsIn n s ≡ pdu.print r → Given s n (told 0 Nowhere)
+  accepted : (r : Record) → Framed s n → Legal pdu r → bits_in n s ≡ pdu.print r → Given s n (told 0 Nowhere)
   -- 1: over 4,096 bits, wrong byte count, or a nonzero unused bit
   unframed : (Framed s n → ⊥) → Given s n (told 1 Nowhere)
   -- 2: the PDU ends inside an element, or just before one that is due; 3: an element's value is refused; 4: range ends disagree or are reversed;
   -- p bits stand before the element, for 4 before the second end's SSI
-  stopped : (k p : ℕ) → Framed s n → Stops Record pdu (bitsIn n s) (suc k) p → Given s n (told (suc k) (At p))
+  stopped : (k p : ℕ) → Framed s n → Stops Record pdu (bits_in n s) (suc k) p → Given s n (told (suc k) (At p))
   -- 5: bits left after the last element, from where its writing ends
-  left_over : (r : Record) (b : Bool) (more : List Bool) → Framed s n → Legal pdu r → bitsIn n s ≡ pdu.print r ++ (b ∷ more)
+  left_over : (r : Record) (b : Bool) (more : List Bool) → Framed s n → Legal pdu r → bits_in n s ≡ pdu.print r ++ (b ∷ more)
       → Given s n (told 5 (At (length (pdu.print r))))
 
 -- each is met, 2 also at the PDU's end, and 3 also at a PDU type that table 23 names and that has no PDU
@@ -50,12 +50,12 @@ met : (answer (0x49 ∷ 0x62 ∷ 0x00 ∷ 0x00 ∷ 0x0a ∷ 0x40 ∷ []) 42 ≡ 
     × (answer (0x49 ∷ 0x72 ∷ 0x00 ∷ 0x01 ∷ 0x90 ∷ 0x00 ∷ 0x00 ∷ 0xc7 ∷ 0x00 ∷ []) 65 ≡ told 4 (At 40))
     × (answer (0x49 ∷ 0x62 ∷ 0x00 ∷ 0x00 ∷ 0x0a ∷ 0x40 ∷ []) 43 ≡ told 5 (At 42))
     × (answer (0x48 ∷ 0x80 ∷ []) 11 ≡ told 3 (At 6))
-unfolding grammar readIs framed bits
+unfolding grammar read_is framed bits
 met = (refl, refl, refl, refl, refl, refl, refl, refl, refl, refl)
 
 -- what is not framed gives 1, whatever its bits say; beside a refusal stands the record of zeros
-unframed-first : (readIs (0x00 ∷ 0x01 ∷ []) 9 ≡ refusing 1 Nowhere) × (readIs (0x48 ∷ 0x01 ∷ []) 11 ≡ record { answer = Refused (told 1 Nowhere); found = zeroRecord })
-unfolding grammar readIs framed bits
+unframed-first : (read_is (0x00 ∷ 0x01 ∷ []) 9 ≡ refusing 1 Nowhere) × (read_is (0x48 ∷ 0x01 ∷ []) 11 ≡ record { answer = Refused (told 1 Nowhere); found = zero_record })
+unfolding grammar read_is framed bits
 unframed-first = (refl, refl)
 
 abbrev pub numbers : List ℕ
@@ -66,6 +66,6 @@ pub record Promise : Type 1 where
   pub table : (s : List ℕ) (n : ℕ) → Exactly number_of (answer s n) numbers (Given s n)
   -- "an accepted one and its record, or a refusal number": the record is legal, and its writing is the PDU
   pub success : (s : List ℕ) (n : ℕ) → (answer s n).number ≡ 0
-      → ((readIs s n).answer ≡ Accepted) × Legal pdu (readIs s n).found × (bitsIn n s ≡ pdu.print (readIs s n).found)
+      → ((read_is s n).answer ≡ Accepted) × Legal pdu (read_is s n).found × (bits_in n s ≡ pdu.print (read_is s n).found)
   -- a refusal returns its number and its place only: the record beside it is the record of zeros
-  pub refusal : (s : List ℕ) (n : ℕ) (f : Refusal) → (readIs s n).answer ≡ Refused f → readIs s n ≡ refusing f.number f.place
+  pub refusal : (s : List ℕ) (n : ℕ) (f : Refusal) → (read_is s n).answer ≡ Refused f → read_is s n ≡ refusing f.number f.place

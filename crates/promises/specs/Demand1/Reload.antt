@@ -1,7 +1,7 @@
 -- Demand 1, reload (document 02, requests 2026-01 and 2026-06): 9, 7, 11, 12, 8, each exactly then, whether a DEFINE or a DEFINE EXTERNAL is asked
 -- for. With 7 its entry and place.
 use Rattle.std.specs.Prelude.{◌≡◌, List, [], ◌∷◌, ℕ, ◌≤◌, ◌<◌, length}
-use Rattle.bits.specs.Frame.{bytesFor, pack}
+use Rattle.bits.specs.Frame.{bytes_for, pack}
 use Rattle.grammar.specs.Grammar.{pdu}
 use Rattle.grammar.specs.declared.record.Identities.{Identities}
 use Rattle.grammar.specs.declared.record.Numbers.{Numbers}
@@ -13,8 +13,8 @@ use Rattle.archive.specs.Keeping.{over}
 use Rattle.archive.specs.Refusals.{plain}
 use Rattle.archive.specs.declared.contents.Key.{Key}
 use Rattle.archive.specs.declared.refusal.Refusal.{Refusal}
-use Rattle.reload.specs.Define.{defineOf}
-use Rattle.reload.specs.Reload.{recordOf, reloadedRefusal, reloadIs, reloadOut}
+use Rattle.reload.specs.Define.{define_of}
+use Rattle.reload.specs.Reload.{record_of, reloaded_refusal, reload_is, reload_out}
 use Rattle.reload.specs.declared.Definition.{Definition}
 use Rattle.reload.specs.declared.Reloaded.TheVariants.{Bits, Refused}
 use Rattle.reload.specs.declared.Target.{Target}
@@ -25,7 +25,7 @@ use Rattle.promises.specs.Broken.{number_of, Broken}
 use Rattle.promises.specs.Demand1.Restore.{Holds}
 
 abbrev pub answer : Target → List ℕ → Key → Definition → List ℕ → Refusal
-answer t b key d out = reloadedRefusal (reloadIs t b key d out)
+answer t b key d out = reloaded_refusal (reload_is t b key d out)
 
 -- a definition type that table 28 names, two bits, and an acknowledgement only where delivery is requested (note 3 of tables 10 and 12)
 pub record Asked (d : Definition) : Type 0 where
@@ -52,14 +52,14 @@ pub record Stands (t : Target) (definition : ℕ) (l : Lists) : Type 0 where
 module _ (t : Target) (b : List ℕ) (key : Key) (d : Definition) where
   -- the PDU that puts a held one back
   abbrev pub defined : Held → Record
-  defined h = defineOf t d (recordOf h)
+  defined h = define_of t d (record_of h)
 
   abbrev pub Standing : Held → Type 0
-  Standing h = Stands t d.definition (recordOf h).lists
+  Standing h = Stands t d.definition (record_of h).lists
 
   -- the table of refusals, as far as reload goes
   pub data Given (room : ℕ) : Refusal → Type 0 where
-    success : Ranged key → Asked d → (k : IsArchive b) (h : Held) → Holds b key k h → Standing h → bytesFor (length_of (defined h)) ≤ room
+    success : Ranged key → Asked d → (k : IsArchive b) (h : Held) → Holds b key k h → Standing h → bytes_for (length_of (defined h)) ≤ room
         → Given room (plain 0)
     -- 9: a user, part or definition out of its range
     unranged : (Ranged key × Asked d → ⊥) → Given room (plain 9)
@@ -70,7 +70,7 @@ module _ (t : Target) (b : List ℕ) (key : Key) (d : Definition) where
     -- 12: a list that is not empty has no place
     lost : Ranged key → Asked d → (k : IsArchive b) (h : Held) → Holds b key k h → (Standing h → ⊥) → Given room (plain 12)
     -- 8: the result exceeds the lent buffer
-    no_room : Ranged key → Asked d → (k : IsArchive b) (h : Held) → Holds b key k h → Standing h → room < bytesFor (length_of (defined h))
+    no_room : Ranged key → Asked d → (k : IsArchive b) (h : Held) → Holds b key k h → Standing h → room < bytes_for (length_of (defined h))
         → Given room (plain 8)
 
 -- Proved in proofs/Demand1/Reload.antt; each number is met in CallsMet.
@@ -80,8 +80,8 @@ pub record Promise : Type 0 where
   -- success: the PDU that puts the held part back; the bytes after it stay
   pub success : (t : Target) (b : List ℕ) (key : Key) (d : Definition) (out : List ℕ) → (answer t b key d out).number ≡ 0
       → (k : IsArchive b) × (h : Held) × Holds b key k h × Standing t b key d h
-      × (reloadIs t b key d out ≡ Bits (record { 0 = length_of (defined t b key d h) }))
-      × (reloadOut t b key d out ≡ over (pack (pdu.print (defined t b key d h))) out)
+      × (reload_is t b key d out ≡ Bits (record { 0 = length_of (defined t b key d h) }))
+      × (reload_out t b key d out ≡ over (pack (pdu.print (defined t b key d h))) out)
   -- a refusal changes no byte
-  pub refusal : (t : Target) (b : List ℕ) (key : Key) (d : Definition) (out : List ℕ) (f : Refusal) → reloadIs t b key d out ≡ Refused f
-      → reloadOut t b key d out ≡ out
+  pub refusal : (t : Target) (b : List ℕ) (key : Key) (d : Definition) (out : List ℕ) (f : Refusal) → reload_is t b key d out ≡ Refused f
+      → reload_out t b key d out ≡ out

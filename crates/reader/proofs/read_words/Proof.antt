@@ -5,22 +5,22 @@ use native.Mathlib.Omega.{arith}
 use borrow.Author.Rules.{rules}
 use borrow.Author.Tests.{eq-eqb, ne_eqb}
 use lib.ListN.{length}
-use Rattle.words.specs.RecordWords.{areRecord}
+use Rattle.words.specs.RecordWords.{are_record}
 use Rattle.words.proofs.Putting.{put_whole}
-use Rattle.reader.specs.Words.{readWordsIs, readWords}
+use Rattle.reader.specs.Words.{read_words_is, read_words}
 use Rattle.reader.proofs.Parts.{fills-is}
 use Rattle.reader.proofs.Walked.{answer_of, same_answer, Accepts, accepts}
 use Rattle.reader.proofs.read_words.Statement.{statement}
 use Rattle.reader.proofs.read_words.Tie as tie
 
 returns : tie.Need-returns
-unfolding readWordsIs readWords
+unfolding read_words_is read_words
 returns c =
-    let e : areRecord (length c.before.before.before.args.words.now) ≡ false = ne_eqb _ _ c.if1.true in
+    let e : are_record (length c.before.before.before.args.words.now) ≡ false = ne_eqb _ _ c.if1.true in
     (rw e, rw e)
 
 -- there are 520 words
-whole : (c : tie.Else1) → areRecord (length c.before.before.before.args.words.now) ≡ true
+whole : (c : tie.Else1) → are_record (length c.before.before.before.args.words.now) ≡ true
 whole c = eq-eqb _ _ c.if1.false
 
 -- the walk accepts
@@ -38,7 +38,7 @@ fill-record-requires c κs =
     }
 
 returns-2 : tie.Need-returns-2
-unfolding readWordsIs readWords
+unfolding read_words_is read_words
 returns-2 c =
     let f = c.before.before in let t = f.before.before in let e = t.before.before.before in
     let a = accepted t in
@@ -46,7 +46,7 @@ returns-2 c =
     (rw (whole e, a.same), rw (whole e, a.same) left)
 
 returns-3 : tie.Need-returns-3
-unfolding readWordsIs readWords
+unfolding read_words_is read_words
 returns-3 c =
     let w = c.before.before.before in let e = w.before in
     let a = e.before.before.before.args in

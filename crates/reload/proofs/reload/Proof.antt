@@ -4,10 +4,10 @@ use mathlib.Core.Bool.{Bool, true, ◌&&◌}
 use borrow.Author.Rules.{rules}
 use Rattle.bits.proofs.Tests.{said-no, said-yes}
 use Rattle.archive.specs.Model.{in_range}
-use Rattle.archive.specs.Restoring.{fetchIs}
+use Rattle.archive.specs.Restoring.{fetch_is}
 use Rattle.archive.specs.declared.Fetched.{Fetched}
 use Rattle.archive.proofs.Calls.Fetch.{fetch-found}
-use Rattle.reload.specs.Define.{isDefinition}
+use Rattle.reload.specs.Define.{is_definition}
 use Rattle.reload.proofs.Reloading.{out_of_range, reload-leaves, damaged, missing, found}
 use Rattle.reload.proofs.reload.Statement.{statement}
 use Rattle.reload.proofs.reload.Tie as tie
@@ -16,7 +16,7 @@ returns : tie.Need-returns
 returns c =
     let t = c.before in let a = t.before.before.before.before.args in
     let e = out_of_range a.target a.archive.now a.key a.wanted a.out.now
-    (ap (λ (x : Bool). x && isDefinition a.wanted) (said-no t.before.in-range.ensures t.if1.true)) in
+    (ap (λ (x : Bool). x && is_definition a.wanted) (said-no t.before.in-range.ensures t.if1.true)) in
     (c.refused.ensures ∙ sym e, sym (reload-leaves _ _ _ _ _ e))
 
 -- user and part are in range
@@ -31,12 +31,12 @@ returns-2 c =
     (c.refused2.ensures ∙ sym e, sym (reload-leaves _ _ _ _ _ e))
 
 -- and so is the definition
-asked : (c : tie.Else2) → isDefinition c.before.before.before.before.before.before.args.wanted ≡ true
+asked : (c : tie.Else2) → is_definition c.before.before.before.before.before.before.args.wanted ≡ true
 asked c = said-yes c.before.is-definition.ensures c.if2.false
 
 -- what fetch found
 fetched : (c : tie.After-fetch) {f : Fetched} → c.fetch.result ≡ f → let a = c.before.before.before.before.before.before.before.args in
-    fetchIs a.archive.now a.key ≡ f
+    fetch_is a.archive.now a.key ≡ f
 fetched c e = sym c.fetch.ensures ∙ e
 
 returns-3 : tie.Need-returns-3

@@ -6,12 +6,12 @@ use native.Mathlib.Nat.{add-sub_cancel_left}
 use borrow.Author.Rules.{rules}
 use lib.ListN.{take, drop}
 use Rattle.bits.proofs.Tests.{said-no, said-yes}
-use Rattle.grammar.specs.SiteSheet.{definedPart}
-use Rattle.reader.specs.Read.{readIs}
-use Rattle.writer.specs.Write.{outIs}
-use Rattle.reload.specs.Define.{standsIn, stands}
-use Rattle.reload.specs.Reload.{asWritten}
-use Rattle.reload.specs.Inner.{part_at, reloadedFrom, reloadedOut}
+use Rattle.grammar.specs.SiteSheet.{defined_part}
+use Rattle.reader.specs.Read.{read_is}
+use Rattle.writer.specs.Write.{out_is}
+use Rattle.reload.specs.Define.{stands_in, stands}
+use Rattle.reload.specs.Reload.{as_written}
+use Rattle.reload.specs.Inner.{part_at, reloaded_from, reloaded_out}
 use Rattle.reload.proofs.Reloading.{lost, stood}
 use Rattle.reload.proofs.reload_body.Statement.{statement}
 use Rattle.reload.proofs.reload_body.Tie as tie
@@ -23,7 +23,7 @@ part-is r =
     let y = r.before.before in let a = y.before.before.before.args in
     let s = drop a.at a.archive.now in
     let size = add-sub_cancel_left a.at y.bytes.result ∙ y.bytes.ensures in
-    ap (λ x. x.found) (r.read.ensures ∙ ap (λ (k : ℕ). readIs (take k s) a.n.0) size)
+    ap (λ x. x.found) (r.read.ensures ∙ ap (λ (k : ℕ). read_is (take k s) a.n.0) size)
 
 -- whether its lists stand
 judged : (s : tie.After-stand-in) → let r = s.before.before.before.before.before in let a = r.before.before.before.before.before.args in
@@ -31,8 +31,8 @@ judged : (s : tie.After-stand-in) → let r = s.before.before.before.before.befo
 judged s =
     let m = s.before in let p = m.before in let r = p.before.before.before in let a = r.before.before.before.before.before.args in
     s.stand-in.ensures
-    ∙ ap (λ (k : ℕ). standsIn k r.read.result.found.lists)
-    (m.defined-part.ensures ∙ ap (λ (k : ℕ). definedPart k a.wanted.definition) p.part-for.ensures)
+    ∙ ap (λ (k : ℕ). stands_in k r.read.result.found.lists)
+    (m.defined-part.ensures ∙ ap (λ (k : ℕ). defined_part k a.wanted.definition) p.part-for.ensures)
 
 returns : tie.Need-returns
 returns c =
@@ -45,9 +45,9 @@ returns c =
 wrote : (w : tie.After-write) {left : List ℕ} →
     let m = w.before.before in let r = m.before.before.before.before.before.before.before in
     let a = r.before.before.before.before.before.args in
-    left ≡ outIs m.define-of.result a.out.now
-    → (asWritten w.write.result ≡ reloadedFrom a.target a.archive.now a.at a.n.0 a.wanted a.out.now)
-    × (left ≡ reloadedOut a.target a.archive.now a.at a.n.0 a.wanted a.out.now)
+    left ≡ out_is m.define-of.result a.out.now
+    → (as_written w.write.result ≡ reloaded_from a.target a.archive.now a.at a.n.0 a.wanted a.out.now)
+    × (left ≡ reloaded_out a.target a.archive.now a.at a.n.0 a.wanted a.out.now)
 wrote w leaves =
     let m = w.before.before in let e = m.before in let s = e.before in let r = s.before.before.before.before.before in
     let a = r.before.before.before.before.before.args in
@@ -57,12 +57,12 @@ wrote w leaves =
 returns-2 : tie.Need-returns-2
 returns-2 c =
     let l = c.before in let w = l.before.before.before.before in let r = wrote w w.write.ensures.1 in
-    (ap asWritten (sym l.length.given.1) ∙ r.0, r.1)
+    (ap as_written (sym l.length.given.1) ∙ r.0, r.1)
 
 returns-3 : tie.Need-returns-3
 returns-3 c =
     let k = c.before.before in let w = k.before.before.before.before in let r = wrote w w.write.ensures.1 in
-    (c.refused2.ensures ∙ ap asWritten (sym k.number.given.1) ∙ r.0, r.1)
+    (c.refused2.ensures ∙ ap as_written (sym k.number.given.1) ∙ r.0, r.1)
 
 pub reload-body-spec : {M : Type 1} → statement M
 reload-body-spec =

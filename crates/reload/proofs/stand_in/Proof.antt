@@ -2,34 +2,34 @@
 use borrow.Author.Rules.{rules}
 use borrow.Author.Tests.{eq-eqb, ne_eqb}
 use Rattle.bits.proofs.Tests.{said-no, said-yes}
-use Rattle.reload.specs.Define.{standsIn}
+use Rattle.reload.specs.Define.{stands_in}
 use Rattle.reload.proofs.stand_in.Statement.{statement}
 use Rattle.reload.proofs.stand_in.Tie as tie
 
 returns : tie.Need-returns
-unfolding standsIn
+unfolding stands_in
 returns c = rw (c.no-numbers.ensures, eq-eqb _ 1 c.before.if1.true)
 
 returns-2 : tie.Need-returns-2
-unfolding standsIn
+unfolding stands_in
 returns-2 c =
     let t = c.before in
     rw (c.no-identities.ensures, ne_eqb _ 1 t.before.if1.false, eq-eqb _ 2 t.if2.true)
 
 returns-3 : tie.Need-returns-3
-unfolding standsIn
+unfolding stands_in
 returns-3 c =
     let e = c.before.before in
     rw (ne_eqb _ 1 e.before.if1.false, ne_eqb _ 2 e.if2.false, ne_eqb _ 0 c.if3.true)
 
 returns-4 : tie.Need-returns-4
-unfolding standsIn
+unfolding stands_in
 returns-4 c =
     let n = c.before in let g = n.before in let e = g.before.before in
     rw (ne_eqb _ 1 e.before.if1.false, ne_eqb _ 2 e.if2.false, eq-eqb _ 0 g.if3.false, said-no n.no-identities2.ensures c.if4.true)
 
 returns-5 : tie.Need-returns-5
-unfolding standsIn
+unfolding stands_in
 returns-5 c =
     let i = c.before in let n = i.before in let g = n.before in let e = g.before.before in
     rw (

@@ -2,7 +2,7 @@
 use mathlib.Core.Path.{ap, ◌∙◌}
 use Prim.Native.Nat.{ℕ}
 use borrow.Author.Rules.{rules}
-use Rattle.rules.specs.Rule.{sixRules, ruling}
+use Rattle.rules.specs.Rule.{six_rules, ruling}
 use Rattle.rules.proofs.rule.Statement.{statement}
 use Rattle.rules.proofs.rule.Tie as tie
 
@@ -10,7 +10,7 @@ returns : tie.Need-returns
 unfolding ruling
 returns c =
     let a = c.before.before.before.before.args in
-    c.six-rules.ensures ∙ ap (λ (m : ℕ). sixRules m a.part a.request) c.before.network-of.ensures
+    c.six-rules.ensures ∙ ap (λ (m : ℕ). six_rules m a.part a.request) c.before.network-of.ensures
 
 pub rule-spec : {M : Type 1} → statement M
 rule-spec = tie.close (tie.spec (λ c. search rules) (λ c κs. search rules) (λ c κs. search rules) returns)

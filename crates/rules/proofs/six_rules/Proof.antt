@@ -2,22 +2,22 @@
 use mathlib.Core.Path.{sym, ◌∙◌}
 use borrow.Author.Rules.{rules}
 use Rattle.bits.proofs.Tests.{said-no, said-yes}
-use Rattle.rules.specs.Rule.{sixRules}
+use Rattle.rules.specs.Rule.{six_rules}
 use Rattle.rules.proofs.six_rules.Statement.{statement}
 use Rattle.rules.proofs.six_rules.Tie as tie
 
 returns : tie.Need-returns
-unfolding sixRules
+unfolding six_rules
 returns c = rw (said-no c.before.covers.ensures c.if1.true)
 
 returns-2 : tie.Need-returns-2
-unfolding sixRules
+unfolding six_rules
 returns-2 c =
     let d = c.before.before.before.before in
     rw (said-yes d.before.covers.ensures d.if1.false, sym c.before.is-excepted.ensures ∙ c.if2.true)
 
 returns-3 : tie.Need-returns-3
-unfolding sixRules
+unfolding six_rules
 returns-3 c =
     let e = c.before.before in
     let d = e.before.before.before.before in
@@ -28,7 +28,7 @@ returns-3 c =
     )
 
 returns-4 : tie.Need-returns-4
-unfolding sixRules
+unfolding six_rules
 returns-4 c =
     let f = c.before.before.before in
     let e = f.before.before in
@@ -41,7 +41,7 @@ returns-4 c =
     )
 
 returns-5 : tie.Need-returns-5
-unfolding sixRules
+unfolding six_rules
 returns-5 c =
     let g = c.before.before in
     let f = g.before.before.before in
@@ -56,7 +56,7 @@ returns-5 c =
     )
 
 returns-6 : tie.Need-returns-6
-unfolding sixRules
+unfolding six_rules
 returns-6 c =
     let g = c.before.before in
     let f = g.before.before.before in

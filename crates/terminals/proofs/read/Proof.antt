@@ -6,7 +6,7 @@ use native.Mathlib.Omega.{arith}
 use borrow.Author.Rules.{rules}
 use lib.ListN.{length, length-append}
 use Rattle.terminals.specs.Layers.{places}
-use Rattle.terminals.specs.Reading.{lead, linesText, text_of}
+use Rattle.terminals.specs.Reading.{lead, lines_text, text_of}
 use Rattle.terminals.proofs.Storing.{table-length}
 use Rattle.terminals.proofs.Texts.{text-some, text-none, read_none, read_short, read-written}
 use Rattle.terminals.proofs.read.Statement.{statement}
@@ -21,13 +21,13 @@ returns c =
     read_none (table_of l) l.before.before.before.args.out.now (text-none (table_of l) (sym l.lines-length.ensures.0 ∙ c.if1.true))
 
 -- there is a line
-some : (c : tie.Else1) → 0 < length (linesText places (table_of c.before))
+some : (c : tie.Else1) → 0 < length (lines_text places (table_of c.before))
 some c = omega (arith, c.before.lines-length.ensures.0, c.if1.false)
 
 size : (c : tie.Else1) → length (text_of (table_of c.before)) ≡ 7 + c.before.lines-length.result
 size c =
     ap length (text-some (table_of c.before) (some c))
-    ∙ omega (arith, length-append lead (linesText places (table_of c.before)), c.before.lines-length.ensures.0)
+    ∙ omega (arith, length-append lead (lines_text places (table_of c.before)), c.before.lines-length.ensures.0)
 
 returns-2 : tie.Need-returns-2
 returns-2 c =

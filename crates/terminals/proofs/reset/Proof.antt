@@ -7,12 +7,12 @@ use borrow.Author.Rules.{rules}
 use borrow.Author.Tests.{eq-eqb, ne_eqb}
 use lib.ListN.{length, replicate, drop_of_length-le}
 use Rattle.bits.specs.Bits.{splice}
-use Rattle.terminals.specs.Profiles.{resetIs, resetOut}
+use Rattle.terminals.specs.Profiles.{reset_is, reset_out}
 use Rattle.terminals.proofs.reset.Statement.{statement}
 use Rattle.terminals.proofs.reset.Tie as tie
 
 returns : tie.Need-returns
-unfolding resetIs resetOut
+unfolding reset_is reset_out
 returns c =
     let e = ne_eqb (length c.before.before.args.table.now) 269 c.if1.true in
     (rw e, rw e)
@@ -22,7 +22,7 @@ filled : (t : List ℕ) → length t ≡ 269 → splice t 0 (replicate 269 2) �
 filled t h = rw (drop_of_length-le t {i = 269} (omega arith)) refl
 
 returns-2 : tie.Need-returns-2
-unfolding resetIs resetOut
+unfolding reset_is reset_out
 returns-2 c =
     let laid = c.before.before in
     let d = laid.before.before in

@@ -3,17 +3,17 @@ use mathlib.Core.Path.{◌≡◌, sym, ◌∙◌}
 use mathlib.Core.Bool.{true}
 use borrow.Author.Rules.{rules}
 use Rattle.bits.proofs.Tests.{said-no, said-yes}
-use Rattle.terminals.specs.Profiles.{isTable}
-use Rattle.terminals.specs.Answers.{lineIs, tableAfter, outAfter}
+use Rattle.terminals.specs.Profiles.{is_table}
+use Rattle.terminals.specs.Answers.{line_is, table_after, out_after}
 use Rattle.terminals.proofs.take.Statement.{statement}
 use Rattle.terminals.proofs.take.Tie as tie
 
 returns : tie.Need-returns
-unfolding lineIs tableAfter outAfter
+unfolding line_is table_after out_after
 returns c = let e = said-no c.before.is-table.ensures c.if1.true in (rw e, (rw e, rw e))
 
 -- a table, and what the line says
-table : (c : tie.After-line-of) → isTable c.before.before.before.before.before.before.before.args.table.now ≡ true
+table : (c : tie.After-line-of) → is_table c.before.before.before.before.before.before.before.args.table.now ≡ true
 table c = said-yes c.before.before.is-table.ensures c.before.if1.false
 
 set-requires : tie.Need-set-requires
@@ -23,7 +23,7 @@ read-requires : tie.Need-read-requires
 read-requires c κs = table c.before.before.before.before
 
 returns-2 : tie.Need-returns-2
-unfolding lineIs tableAfter outAfter
+unfolding line_is table_after out_after
 returns-2 c =
     let l = c.before.before in
     let e = table l in
@@ -31,7 +31,7 @@ returns-2 c =
     (rw (e, s), (rw (e, s), rw (e, s)))
 
 returns-3 : tie.Need-returns-3
-unfolding lineIs tableAfter outAfter
+unfolding line_is table_after out_after
 returns-3 c =
     let w = c.before.before in
     let f = w.before.before.before in
@@ -41,7 +41,7 @@ returns-3 c =
     (rw (e, s) w.set.ensures.0, (rw (e, s) w.set.ensures.1, rw (e, s)))
 
 returns-4 : tie.Need-returns-4
-unfolding lineIs tableAfter outAfter
+unfolding line_is table_after out_after
 returns-4 c =
     let w = c.before.before in
     let k = w.before.before.before in

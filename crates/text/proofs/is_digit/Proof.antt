@@ -1,16 +1,16 @@
 -- The two tests in turn. Assumes nothing.
 use native.Mathlib.Omega.{arith}
 use borrow.Author.Tests.{le-leb, lt-leb}
-use Rattle.text.specs.Field.{isDigit}
+use Rattle.text.specs.Field.{is_digit}
 use Rattle.text.proofs.is_digit.Statement.{statement}
 use Rattle.text.proofs.is_digit.Tie as tie
 
 returns : tie.Need-returns
-unfolding isDigit
+unfolding is_digit
 returns c = rw (lt-leb 48 c.before.args.byte (omega arith))
 
 returns-2 : tie.Need-returns-2
-unfolding isDigit
+unfolding is_digit
 returns-2 c = rw (le-leb 48 c.before.args.byte (omega arith))
 
 pub is-digit-spec : {M : Type 1} → statement M

@@ -6,7 +6,7 @@ use native.Mathlib.Omega.{arith}
 use native.Mathlib.Nat.{pow-suc}
 use native.Mathlib.Numerals.{add-one}
 use lib.ListN.{length, get_or, take, drop}
-use Rattle.text.specs.Field.{isDigit, run, numberFrom, number_of}
+use Rattle.text.specs.Field.{is_digit, run, number_from, number_of}
 use Rattle.text.proofs.Fields.{run-digit, digit-first, digit-is, number-digit, small}
 use Rattle.text.proofs.number_at.Statement.{statement}
 use Rattle.text.proofs.number_at.Tie as tie
@@ -14,7 +14,7 @@ use Rattle.text.proofs.number_at.Tie as tie
 abbrev invariant-loop : tie.invariant-loop
 invariant-loop s at digits number₀ i₀ number i =
     (i ≤ digits) × (digits ≤ 9) × (digits ≤ i + run (drop (at + i) s)) × (number < 10 ^ i)
-    × (number_of (take digits (drop at s)) ≡ numberFrom number (take (digits - i) (drop (at + i) s)))
+    × (number_of (take digits (drop at s)) ≡ number_from number (take (digits - i) (drop (at + i) s)))
 
 abbrev decreases-loop : tie.decreases-loop
 decreases-loop s at digits number₀ i₀ number i = digits - i
@@ -36,7 +36,7 @@ loop-holds c =
 here : (c : tie.In-loop invariant-loop decreases-loop) →
     let a = c.before.before.args in
     let at = a.at + c.before.loop.i in
-    (at < length a.s.now) × (isDigit (get_or a.s.now at 0) ≡ true)
+    (at < length a.s.now) × (is_digit (get_or a.s.now at 0) ≡ true)
 here c =
     let l = c.before.loop in
     let a = c.before.before.args in
@@ -67,16 +67,16 @@ loop-again c =
       omega (arith, l.invariant.2, digits, ap (λ (k : ℕ). run (drop k s)) next),
       omega (arith, l.invariant.3, digit test, power),
       l.invariant.4 ∙ number-digit s at l.number (a.digits - l.i) (here test).0 (omega (arith, test.loop-test.true))
-          ∙ (λ j. numberFrom more (take (left j) (drop (next j) s))),
+          ∙ (λ j. number_from more (take (left j) (drop (next j) s))),
     )
 
 returns : tie.Need-returns invariant-loop decreases-loop
-unfolding numberFrom
+unfolding number_from
 returns c =
     let l = c.before.loop in
     let a = c.before.before.args in
     let none : a.digits - l.i ≡ 0 = omega (arith, c.loop-test.false) in
-    sym (l.invariant.4 ∙ ap (λ (k : ℕ). numberFrom l.number (take k (drop (a.at + l.i) a.s.now))) none)
+    sym (l.invariant.4 ∙ ap (λ (k : ℕ). number_from l.number (take k (drop (a.at + l.i) a.s.now))) none)
 
 pub number-at-spec : {M : Type 1} → statement M
 number-at-spec =

@@ -8,7 +8,7 @@ use lib.ListN.{length}
 use Rattle.bits.specs.Inner.{Laid}
 use Rattle.text.specs.Decimal.{digit, decimal}
 use Rattle.text.proofs.Decimals.{decimal-one, decimal-more, length_more}
-use Rattle.text.proofs.Copies.{before-it}
+use Rattle.text.proofs.Copies.{before_it}
 use Rattle.text.proofs.write_digits.Statement.{statement}
 use Rattle.text.proofs.write_digits.Tie as tie
 
@@ -50,7 +50,7 @@ loop-again c =
       omega (arith, l.invariant.3),
       λ out' m x.
           l.invariant.4 out' laid.write_byte.result
-          (subst (λ (s : List ℕ). Laid l.out at s out' laid.write_byte.result) (sym more) (before-it room byte x)),
+          (subst (λ (s : List ℕ). Laid l.out at s out' laid.write_byte.result) (sym more) (before_it room byte x)),
     )
 
 returns : tie.Need-returns invariant-loop decreases-loop

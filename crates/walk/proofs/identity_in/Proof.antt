@@ -3,16 +3,16 @@ use mathlib.Core.Path.{◌≡◌}
 use Prim.Native.Nat.{◌/◌, ◌%◌, ◌^◌}
 use native.Mathlib.Omega.{arith}
 use borrow.Author.Rules.{rules}
-use Rattle.walk.specs.Inner.{identityIn}
+use Rattle.walk.specs.Inner.{identity_in}
 use Rattle.walk.proofs.identity_in.Statement.{statement}
 use Rattle.walk.proofs.identity_in.Tie as tie
 
 returns : tie.Need-returns
-unfolding identityIn
+unfolding identity_in
 returns c = rw c.if1.true
 
 returns-2 : tie.Need-returns-2
-unfolding identityIn
+unfolding identity_in
 returns-2 c =
     let none : c.before.args.window / 2 ^ 32 % 2 ≡ 0 = omega (arith, c.if1.false) in
     rw none

@@ -4,8 +4,8 @@ use mathlib.Core.List.{List, ◌++◌}
 use Prim.Native.Nat.{ℕ}
 use lib.ListN.{length, take, drop}
 use lib.Seq.{length-take-le}
-use Rattle.bits.specs.Frame.{bytesFor}
-use Rattle.words.specs.RecordWords.{recordFrom}
+use Rattle.bits.specs.Frame.{bytes_for}
+use Rattle.words.specs.RecordWords.{record_from}
 use Rattle.writer.specs.Write.{length_of}
 use borrow.Author.Rules.{rules}
 use native.Mathlib.Omega.{arith}
@@ -13,8 +13,8 @@ use Rattle.writer.proofs.fill.Statement.{statement}
 use Rattle.writer.proofs.fill.Tie as tie
 
 -- as many bytes as hold the PDU
-counted : (c : tie.After-bytes) → let b = c.before.before.before in c.bytes.result ≡ bytesFor (length_of (recordFrom b.args.words.now))
-counted c = let b = c.before.before.before in c.bytes.ensures ∙ ap bytesFor b.requires.3
+counted : (c : tie.After-bytes) → let b = c.before.before.before in c.bytes.result ≡ bytes_for (length_of (record_from b.args.words.now))
+counted c = let b = c.before.before.before in c.bytes.ensures ∙ ap bytes_for b.requires.3
 
 -- the part that is lent on has so many
 lent : (c : tie.After-fill-bytes-arg) → let k = c.before.bytes.result in

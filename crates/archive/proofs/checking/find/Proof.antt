@@ -5,20 +5,20 @@ use Prim.Native.Nat.{ℕ, ◌+◌, ◌*◌, ◌≤◌}
 use native.Mathlib.Omega.{arith}
 use borrow.Author.Rules.{rules}
 use lib.ListN.{length}
-use Rattle.bits.specs.Frame.{bytesFor}
-use Rattle.archive.specs.Model.{Held, rank_of, rank, headerWidth, entryWidth, bodySize, sizes}
-use Rattle.archive.specs.Reading.{held_at, heldFrom, heldIn, bodiesAt}
+use Rattle.bits.specs.Frame.{bytes_for}
+use Rattle.archive.specs.Model.{Held, rank_of, rank, header_width, entry_width, body_size, sizes}
+use Rattle.archive.specs.Reading.{held_at, held_from, held_in, bodies_at}
 use Rattle.archive.specs.Inner.{place_of, seek}
 use Rattle.archive.specs.declared.contents.Entry.{Entry}
-use Rattle.archive.proofs.Bytes.Walking.{sizes-next, seek-past, seek-held, seek-gap, seek-none}
+use Rattle.archive.proofs.Bytes.Walking.{sizes-next, seek-past, seek-held, seek_gap, seek-none}
 use Rattle.archive.proofs.Bytes.Checking.{sound}
 use Rattle.archive.proofs.checking.find.Statement.{statement}
 use Rattle.archive.proofs.checking.find.Tie as tie
 
 abbrev invariant-loop : tie.invariant-loop
 invariant-loop archive r left₀ at₀ off₀ left at off =
-    (at + entryWidth * left ≤ length archive) × (off + sizes (heldFrom archive left at off) ≡ length archive) × (length archive ≤ 65536)
-    × (seek r headerWidth (bodiesAt archive) (heldIn archive) ≡ seek r at off (heldFrom archive left at off))
+    (at + entry_width * left ≤ length archive) × (off + sizes (held_from archive left at off) ≡ length archive) × (length archive ≤ 65536)
+    × (seek r header_width (bodies_at archive) (held_in archive) ≡ seek r at off (held_from archive left at off))
 
 abbrev decreases-loop : tie.decreases-loop
 decreases-loop archive r left₀ at₀ off₀ left at off = left
@@ -42,9 +42,9 @@ key c = c.rank2.ensures ∙ ap (λ (e : Entry). rank_of e.key) c.before.before.e
 -- what the search for the key finds, by the entries that are left
 left-to-find : (c : tie.At-loop invariant-loop decreases-loop) →
     let l = c.loop in
-    seek (rank_of c.before.before.before.before.args.key) headerWidth (bodiesAt (b-of c)) (heldIn (b-of c))
-    ≡ seek c.before.before.rank.result l.at l.off (heldFrom (b-of c) l.left l.at l.off)
-left-to-find c = ap (λ (r : ℕ). seek r headerWidth (bodiesAt (b-of c)) (heldIn (b-of c))) (sym c.before.before.rank.ensures) ∙ c.loop.invariant.3
+    seek (rank_of c.before.before.before.before.args.key) header_width (bodies_at (b-of c)) (held_in (b-of c))
+    ≡ seek c.before.before.rank.result l.at l.off (held_from (b-of c) l.left l.at l.off)
+left-to-find c = ap (λ (r : ℕ). seek r header_width (bodies_at (b-of c)) (held_in (b-of c))) (sym c.before.before.rank.ensures) ∙ c.loop.invariant.3
 
 returns : tie.Need-returns invariant-loop decreases-loop
 returns c =
@@ -59,10 +59,10 @@ returns-2 : tie.Need-returns-2 invariant-loop decreases-loop
 returns-2 c =
     let keyed = c.before.before.before in
     let loop = keyed.before.before.before.before in
-    sym (left-to-find loop ∙ seek-gap (b-of loop) _ _ _ _ keyed.before.before.before.loop-test.true (omega (arith, key keyed)))
+    sym (left-to-find loop ∙ seek_gap (b-of loop) _ _ _ _ keyed.before.before.before.loop-test.true (omega (arith, key keyed)))
 
-size : (c : tie.After-bytes invariant-loop decreases-loop) → c.bytes.result ≡ bodySize (here c.before.before.before.before.before.before.before)
-size c = c.bytes.ensures ∙ ap (λ (e : Entry). bytesFor e.bits.0) c.before.before.before.before.before.entry_at.ensures.0
+size : (c : tie.After-bytes invariant-loop decreases-loop) → c.bytes.result ≡ body_size (here c.before.before.before.before.before.before.before)
+size c = c.bytes.ensures ∙ ap (λ (e : Entry). bytes_for e.bits.0) c.before.before.before.before.before.entry_at.ensures.0
 
 add-off : tie.Need-overflow-add-off-2 invariant-loop decreases-loop
 add-off c =

@@ -6,7 +6,7 @@ use borrow.Author.Rules.{rules}
 use lib.ListN.{length, take, drop}
 use Rattle.bits.proofs.Lists.{length_part}
 use Rattle.bits.proofs.Laying.{then}
-use Rattle.archive.specs.Inner.{next_at, backOf}
+use Rattle.archive.specs.Inner.{next_at, back_of}
 use Rattle.archive.proofs.copying.write_back.Statement.{statement}
 use Rattle.archive.proofs.copying.write_back.Tie as tie
 
@@ -49,7 +49,7 @@ append-requires-3 c κs =
     )
 
 returns : tie.Need-returns
-unfolding backOf
+unfolding back_of
 returns c =
     let third = c.before.before in
     let second = third.before.before.before.before.before in

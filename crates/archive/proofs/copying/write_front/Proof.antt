@@ -4,9 +4,9 @@ use Prim.Native.Nat.{ℕ}
 use native.Mathlib.Omega.{arith}
 use borrow.Author.Rules.{rules}
 use Rattle.bits.proofs.Laying.{then}
-use Rattle.archive.specs.Model.{headerBytes}
+use Rattle.archive.specs.Model.{header_bytes}
 use Rattle.archive.specs.Reading.{home_of}
-use Rattle.archive.specs.Inner.{frontOf}
+use Rattle.archive.specs.Inner.{front_of}
 use Rattle.archive.proofs.Bytes.Walking.{home-small}
 use Rattle.archive.proofs.copying.write_front.Statement.{statement}
 use Rattle.archive.proofs.copying.write_front.Tie as tie
@@ -17,7 +17,7 @@ header-bytes-requires c κs =
     (rw c.home.ensures (home-small start.args.archive.now (λ i. (c.before.before.shared-slice-known.given i).fits)), start.requires.3)
 
 returns : tie.Need-returns
-unfolding frontOf
+unfolding front_of
 returns c =
     let third = c.before.before in
     let second = third.before.before.before.before.before in
@@ -25,9 +25,9 @@ returns c =
     let row = first.before.before.before in
     let header = row.before in
     let h : header.header-bytes.result
-    ≡ headerBytes (home_of header.before.before.before.before.args.archive.now) header.before.before.before.before.args.count =
+    ≡ header_bytes (home_of header.before.before.before.before.args.archive.now) header.before.before.before.before.args.count =
     header.header-bytes.ensures
-    ∙ ap (λ (x : ℕ). headerBytes x header.before.before.before.before.args.count) header.before.home.ensures
+    ∙ ap (λ (x : ℕ). header_bytes x header.before.before.before.before.args.count) header.before.home.ensures
     in
     rw (h, row.entry-bytes.ensures) at
     (then (omega arith) (then (omega arith) first.append.ensures second.append2.ensures) third.append3.ensures)

@@ -4,7 +4,7 @@ use mathlib.Core.Bool.{Bool}
 use borrow.Author.Rules.{rules}
 use Rattle.bits.specs.Bits.{pick}
 use Rattle.walk.specs.declared.BitPlace.TheVariants.{Nowhere}
-use Rattle.archive.specs.Inner.{agreementIs}
+use Rattle.archive.specs.Inner.{agreement_is}
 use Rattle.archive.specs.declared.filing.Agreement.TheVariants.{Agrees, Fault}
 use Rattle.archive.proofs.Model.Checked.{agreement-refused, agreement-filed}
 use Rattle.archive.proofs.filing.body_agreement.Statement.{statement}
@@ -13,7 +13,7 @@ use Rattle.archive.proofs.filing.body_agreement.Tie as tie
 -- by the filing
 filed : (c : tie.After-is-filed-under) →
     let a = c.before.before.before.before.before.before.before.args in
-    agreementIs a.home (record { entry = a.entry; body = a.body.now }) ≡ pick c.is-filed-under.result Agrees (Fault Nowhere)
+    agreement_is a.home (record { entry = a.entry; body = a.body.now }) ≡ pick c.is-filed-under.result Agrees (Fault Nowhere)
 filed c =
     let head = c.before.before in
     agreement-filed _ _ (sym head.before.before.walk.ensures ∙ head.head.given.1)

@@ -2,15 +2,15 @@
 use mathlib.Core.Path.{◌≡◌, sym, ap, ◌∙◌}
 use borrow.Author.Rules.{rules}
 use borrow.Author.Tests.{eq-eqb, ne_eqb}
-use Rattle.archive.specs.Filing.{sameKey, agrees}
-use Rattle.archive.specs.Inner.{filingUnder}
+use Rattle.archive.specs.Filing.{same_key, agrees}
+use Rattle.archive.specs.Inner.{filing_under}
 use Rattle.archive.specs.declared.filing.Filing.{Filing}
 use Rattle.archive.proofs.filing.is_filed_under.Statement.{statement}
 use Rattle.archive.proofs.filing.is_filed_under.Tie as tie
 
 -- what the PDU is filed under
 filed : (c : tie.After-filing-of) {f : Filing} → c.filing-of.result ≡ f →
-    let a = c.before.args in agrees (filingUnder a.home a.head) a.key ≡ agrees f a.key
+    let a = c.before.args in agrees (filing_under a.home a.head) a.key ≡ agrees f a.key
 filed c e = ap (λ (f : Filing). agrees f c.before.args.key) (sym c.filing-of.ensures ∙ e)
 
 returns : tie.Need-returns
@@ -18,7 +18,7 @@ returns c = sym (filed c.before.before c.enum_told.given.1)
 
 asked : (c : tie.After-filed) →
     let a = c.before.before.before.args in
-    agrees (filingUnder a.home a.head) a.key ≡ sameKey c.filed.given.0.0 a.key
+    agrees (filing_under a.home a.head) a.key ≡ same_key c.filed.given.0.0 a.key
 asked c = filed c.before.before c.filed.given.1
 
 returns-2 : tie.Need-returns-2

@@ -8,8 +8,8 @@ use borrow.Author.Tests.{le-leb, lt-leb}
 use lib.ListN.{length}
 use lib.Dec.{leb}
 use Rattle.archive.specs.Reading.{reading}
-use Rattle.archive.specs.Checking.{checkIs}
-use Rattle.archive.specs.Listing.{listing, listIs, listOut}
+use Rattle.archive.specs.Checking.{check_is}
+use Rattle.archive.specs.Listing.{listing, list_is, list_out}
 use Rattle.archive.specs.declared.Stored.TheVariants.{Bytes}
 use Rattle.archive.specs.declared.checking.Checked.TheVariants.{Archive}
 use Rattle.archive.proofs.Model.Checked.{checked-archive}
@@ -18,18 +18,18 @@ use Rattle.archive.proofs.listing.list.Statement.{statement}
 use Rattle.archive.proofs.listing.list.Tie as tie
 
 -- the bytes are an archive
-ok : (c : tie.After-enum-told) → checkIs c.before.before.before.before.before.args.archive.now ≡ Archive
+ok : (c : tie.After-enum-told) → check_is c.before.before.before.before.before.args.archive.now ≡ Archive
 ok c = sym c.before.before.check.ensures ∙ c.enum_told.given.1
 
 returns : tie.Need-returns
-unfolding listIs listOut
+unfolding list_is list_out
 returns c =
     let checked = c.before in
     let e = sym checked.before.before.check.ensures ∙ checked.checked.given.1 in
     (rw e, rw e)
 
 returns-2 : tie.Need-returns-2
-unfolding listIs listOut
+unfolding list_is list_out
 returns-2 c =
     let size = c.before.before in
     let a = size.before.before.before.before.before.before.args in
@@ -43,7 +43,7 @@ write-text-requires c κs =
     (checked-archive _ (ok size.before), omega (arith, size.text-length.ensures))
 
 returns-3 : tie.Need-returns-3
-unfolding listIs listOut
+unfolding list_is list_out
 returns-3 c =
     let text = c.before.before in
     let size = text.before.before.before in

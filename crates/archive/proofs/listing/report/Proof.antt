@@ -1,14 +1,14 @@
 -- By the check: `refused 7` and where, or the listing. Assumes nothing.
 use mathlib.Core.Path.{sym, ◌∙◌}
 use borrow.Author.Rules.{rules}
-use Rattle.archive.specs.Listing.{reportOf, toldOf, reportIs, reportOut, toldOut}
+use Rattle.archive.specs.Listing.{report_of, told_of, report_is, report_out, told_out}
 use Rattle.archive.proofs.Model.Checked.{checked-archive}
 use Rattle.archive.proofs.Text.Within.{nothing}
 use Rattle.archive.proofs.listing.report.Statement.{statement}
 use Rattle.archive.proofs.listing.report.Tie as tie
 
 returns : tie.Need-returns
-unfolding reportOf toldOf reportIs reportOut toldOut
+unfolding report_of told_of report_is report_out told_out
 returns c =
     let fault = c.before.before in
     let refused = fault.before.before.before.before in
@@ -19,7 +19,7 @@ returns c =
     )
 
 returns-2 : tie.Need-returns-2
-unfolding reportOf toldOf reportIs reportOut toldOut
+unfolding report_of told_of report_is report_out told_out
 returns-2 c =
     let listing = c.before.before in
     let told = listing.before.before in

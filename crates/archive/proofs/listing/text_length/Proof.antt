@@ -5,19 +5,19 @@ use Prim.Native.Nat.{ℕ, ◌+◌, ◌-◌, ◌*◌, ◌≤◌}
 use native.Mathlib.Omega.{arith}
 use borrow.Author.Rules.{rules}
 use lib.ListN.{length, length-append}
-use Rattle.archive.specs.Model.{headerWidth, entryWidth}
+use Rattle.archive.specs.Model.{header_width, entry_width}
 use Rattle.archive.specs.Reading.{home_of, count_of, reading}
-use Rattle.archive.specs.Listing.{decimal, firstLine, line, listing}
+use Rattle.archive.specs.Listing.{decimal, first_line, line, listing}
 use Rattle.archive.specs.Inner.{lines_from}
 use Rattle.archive.specs.declared.contents.Entry.{Entry}
 use Rattle.archive.proofs.Bytes.Checking.{sound}
-use Rattle.archive.proofs.Text.Lines.{length-first, linesFrom-next, linesFrom-none, listing-read}
+use Rattle.archive.proofs.Text.Lines.{length-first, lines_from-next, lines_from-none, listing-read}
 use Rattle.archive.proofs.listing.text_length.Statement.{statement}
 use Rattle.archive.proofs.listing.text_length.Tie as tie
 
 abbrev invariant-loop : tie.invariant-loop
 invariant-loop archive left₀ home size₀ at₀ left size at =
-    (at + entryWidth * left ≤ length archive) × (size + 119 * left ≤ 60983)
+    (at + entry_width * left ≤ length archive) × (size + 119 * left ≤ 60983)
     × (size + length (lines_from archive left at) ≡ length (listing (reading archive)))
 
 abbrev decreases-loop : tie.decreases-loop
@@ -30,13 +30,13 @@ loop-holds c =
     let b = count.before.before.args.archive.now in
     let s = sound b count.before.before.requires in
     let n = count.count.ensures.0 in
-    let lines : length (lines_from b count.count.result headerWidth) ≡ length (lines_from b (count_of b) headerWidth) =
-    ap (λ (k : ℕ). length (lines_from b k headerWidth)) n in
-    let first : length (firstLine (home_of b) (count_of b)) ≡ length (decimal home.home.result) + length (decimal count.count.result) + 15 =
-    (λ i. length (firstLine (sym home.home.ensures i) (sym n i))) ∙ length-first home.home.result count.count.result
+    let lines : length (lines_from b count.count.result header_width) ≡ length (lines_from b (count_of b) header_width) =
+    ap (λ (k : ℕ). length (lines_from b k header_width)) n in
+    let first : length (first_line (home_of b) (count_of b)) ≡ length (decimal home.home.result) + length (decimal count.count.result) + 15 =
+    (λ i. length (first_line (sym home.home.ensures i) (sym n i))) ∙ length-first home.home.result count.count.result
     in
-    let whole : length (listing (reading b)) ≡ length (firstLine (home_of b) (count_of b)) + length (lines_from b (count_of b) headerWidth) =
-    ap length (listing-read b (omega (arith, s.whole))) ∙ length-append (firstLine (home_of b) (count_of b)) (lines_from b (count_of b) headerWidth)
+    let whole : length (listing (reading b)) ≡ length (first_line (home_of b) (count_of b)) + length (lines_from b (count_of b) header_width) =
+    ap length (listing-read b (omega (arith, s.whole))) ∙ length-append (first_line (home_of b) (count_of b)) (lines_from b (count_of b) header_width)
     in
     (omega (arith, s.whole), omega (arith, s.few), omega (arith, c.before.digits_of.ensures.0, c.digits-of2.ensures.0))
 
@@ -46,9 +46,9 @@ loop-again c =
     let loop = entry.before.before in
     let b = loop.before.before.before.before.before.before.args.archive.now in
     let l = loop.loop in
-    let others = lines_from b (l.left - 1) (l.at + entryWidth) in
+    let others = lines_from b (l.left - 1) (l.at + entry_width) in
     let next : length (lines_from b l.left l.at) ≡ length (line entry.entry_at.result) + length others =
-    ap length (linesFrom-next b l.left l.at entry.before.loop-test.true
+    ap length (lines_from-next b l.left l.at entry.before.loop-test.true
     ∙ ap (λ (e : Entry). line e ++ others) (sym entry.entry_at.ensures.0))
     ∙ length-append (line entry.entry_at.result) others
     in
@@ -58,7 +58,7 @@ returns : tie.Need-returns invariant-loop decreases-loop
 returns c =
     let b = c.before.before.before.before.before.before.before.args.archive.now in
     let l = c.before.loop in
-    omega (arith, ap length (linesFrom-none b l.left l.at c.loop-test.false))
+    omega (arith, ap length (lines_from-none b l.left l.at c.loop-test.false))
 
 pub text-length-spec : {M : Type 1} → statement M
 text-length-spec =

@@ -7,41 +7,41 @@ use borrow.Author.Rules.{rules}
 use lib.ListN.{length, length-append}
 use Rattle.bits.proofs.Laying.{then, rest-fits}
 use Rattle.walk.specs.declared.BitPlace.TheVariants as bit
-use Rattle.archive.specs.Listing.{decimal, entryWord, lineEnd, item, faultText}
+use Rattle.archive.specs.Listing.{decimal, entry_word, line_end, item, fault_text}
 use Rattle.archive.specs.declared.refusal.EntryPlace.TheVariants as entry
 use Rattle.archive.proofs.Text.Within.{too_long, laid-whole}
 use Rattle.archive.proofs.listing.write_entry.Statement.{statement}
 use Rattle.archive.proofs.listing.write_entry.Tie as tie
 
-size : (i : ℕ) → length (faultText (entry.At i) bit.Nowhere) ≡ 7 + length (decimal i)
-unfolding faultText item
-size i = omega (arith, length-append (decimal i) lineEnd)
+size : (i : ℕ) → length (fault_text (entry.At i) bit.Nowhere) ≡ 7 + length (decimal i)
+unfolding fault_text item
+size i = omega (arith, length-append (decimal i) line_end)
 
 returns : tie.Need-returns
 returns c =
     let digits = c.before in
     let i = digits.before.before.args.index in
-    too_long (faultText (entry.At i) bit.Nowhere) _ (omega (arith, size i, digits.digits_of.ensures.0, c.if1.true))
+    too_long (fault_text (entry.At i) bit.Nowhere) _ (omega (arith, size i, digits.digits_of.ensures.0, c.if1.true))
 
 -- room for the whole
-whole : (c : tie.Else1) → let a = c.before.before.before.args in 0 + length (faultText (entry.At a.index) bit.Nowhere) ≤ length a.out.now
+whole : (c : tie.Else1) → let a = c.before.before.before.args in 0 + length (fault_text (entry.At a.index) bit.Nowhere) ≤ length a.out.now
 whole c = let digits = c.before in omega (arith, size digits.before.before.args.index, digits.digits_of.ensures.0, c.if1.false)
 
 write-item-requires : tie.Need-write-item-requires
-unfolding faultText
+unfolding fault_text
 write-item-requires c κs =
     let word = c.before.before.before.before in
     let test = word.before.before.before in
-    rest-fits (item test.before.before.before.args.index lineEnd) (whole test) word.append.ensures
+    rest-fits (item test.before.before.before.args.index line_end) (whole test) word.append.ensures
 
 returns-2 : tie.Need-returns-2
-unfolding faultText
+unfolding fault_text
 returns-2 c =
     let number = c.before.before in
     let word = number.before.before.before.before.before in
     let test = word.before.before.before in
     let a = test.before.before.before.args in
-    laid-whole (entryWord ++ item a.index lineEnd) a.out.now (omega (arith, whole test))
+    laid-whole (entry_word ++ item a.index line_end) a.out.now (omega (arith, whole test))
     (then (omega (arith, whole test)) word.append.ensures number.write-item.ensures)
 
 pub write-entry-spec : {M : Type 1} → statement M

@@ -1,12 +1,12 @@
 -- By entry and place. Assumes nothing.
 use borrow.Author.Rules.{rules}
-use Rattle.archive.specs.Listing.{faultText}
+use Rattle.archive.specs.Listing.{fault_text}
 use Rattle.archive.proofs.Text.Within.{nothing}
 use Rattle.archive.proofs.listing.write_fault.Statement.{statement}
 use Rattle.archive.proofs.listing.write_fault.Tie as tie
 
 returns : tie.Need-returns
-unfolding faultText
+unfolding fault_text
 returns c = rw c.enum_told.given.1 (nothing _)
 
 returns-2 : tie.Need-returns-2

@@ -1,15 +1,15 @@
 -- The line of the home network and the entry count. Assumes nothing.
 use borrow.Author.Rules.{rules}
-use Rattle.archive.specs.Listing.{firstLine}
+use Rattle.archive.specs.Listing.{first_line}
 use Rattle.archive.proofs.listing.write_first.Statement.{statement}
 use Rattle.archive.proofs.listing.write_first.Tie as tie
 
 write-two-items-requires : tie.Need-write-two-items-requires
-unfolding firstLine
+unfolding first_line
 write-two-items-requires c κs = c.before.before.before.before.requires
 
 returns : tie.Need-returns
-unfolding firstLine
+unfolding first_line
 returns c = c.before.before.write-two-items.ensures
 
 pub write-first-spec : {M : Type 1} → statement M

@@ -5,20 +5,20 @@ use native.Mathlib.Omega.{arith}
 use borrow.Author.Rules.{rules}
 use lib.ListN.{length}
 use Rattle.bits.proofs.Laying.{then, first_fits, rest-fits}
-use Rattle.archive.specs.Listing.{space, partWord, bitsWord, dayWord, lineEnd, item, line}
+use Rattle.archive.specs.Listing.{space, part_word, bits_word, day_word, line_end, item, line}
 use Rattle.archive.specs.declared.contents.Entry.{Entry}
 use Rattle.archive.proofs.listing.write_line.Statement.{statement}
 use Rattle.archive.proofs.listing.write_line.Tie as tie
 
 -- a line's items, from the second, the third and the fourth on
 abbrev from_bits : Entry → List ℕ
-from_bits e = item e.bits.0 dayWord ++ item e.day lineEnd
+from_bits e = item e.bits.0 day_word ++ item e.day line_end
 
 abbrev from-part : Entry → List ℕ
-from-part e = item e.key.part bitsWord ++ from_bits e
+from-part e = item e.key.part bits_word ++ from_bits e
 
 abbrev from-ssi : Entry → List ℕ
-from-ssi e = item e.key.ssi partWord ++ from-part e
+from-ssi e = item e.key.ssi part_word ++ from-part e
 
 -- the entry, and the room for them
 abbrev entry_of : tie.After-write-item → Entry
@@ -51,25 +51,25 @@ write-item-requires-2 : tie.Need-write-item-requires-2
 write-item-requires-2 c κs =
     let first = c.before.before.before.before.before in
     let e = entry_of first in
-    first_fits (item e.key.ssi partWord) (from-part e) first.write-item.result (room-ssi first)
+    first_fits (item e.key.ssi part_word) (from-part e) first.write-item.result (room-ssi first)
 
 write-item-requires-3 : tie.Need-write-item-requires-3
 write-item-requires-3 c κs =
     let second = c.before.before.before.before.before in
     let e = entry_of (first_of second) in
-    first_fits (item e.key.part bitsWord) (from_bits e) second.write-item2.result (room-part second)
+    first_fits (item e.key.part bits_word) (from_bits e) second.write-item2.result (room-part second)
 
 write-item-requires-4 : tie.Need-write-item-requires-4
 write-item-requires-4 c κs =
     let third = c.before.before.before.before in
     let e = entry_of (first_of (second-of third)) in
-    first_fits (item e.bits.0 dayWord) (item e.day lineEnd) third.write-item3.result (room-bits third)
+    first_fits (item e.bits.0 day_word) (item e.day line_end) third.write-item3.result (room-bits third)
 
 write-item-requires-5 : tie.Need-write-item-requires-5
 write-item-requires-5 c κs =
     let fourth = c.before.before.before.before.before in
     let third = fourth.before.before.before.before.before in
-    rest-fits (item (entry_of (first_of (second-of third))).day lineEnd) (room-bits third) fourth.write-item4.ensures
+    rest-fits (item (entry_of (first_of (second-of third))).day line_end) (room-bits third) fourth.write-item4.ensures
 
 returns : tie.Need-returns
 unfolding line

@@ -6,20 +6,20 @@ use native.Mathlib.Omega.{arith}
 use lib.ListN.{length}
 use Rattle.bits.specs.Inner.{Laid}
 use Rattle.bits.proofs.Laying.{then, none, first_fits, rest-fits}
-use Rattle.archive.specs.Model.{headerWidth, entryWidth}
+use Rattle.archive.specs.Model.{header_width, entry_width}
 use Rattle.archive.specs.Reading.{count_of}
 use Rattle.archive.specs.Inner.{lines_from}
 use Rattle.archive.specs.Listing.{line}
 use Rattle.archive.specs.declared.contents.Entry.{Entry}
-use Rattle.archive.proofs.Text.Lines.{linesFrom-next, linesFrom-none}
+use Rattle.archive.proofs.Text.Lines.{lines_from-next, lines_from-none}
 use Rattle.archive.proofs.listing.write_lines.Statement.{statement}
 use Rattle.archive.proofs.listing.write_lines.Tie as tie
 
 abbrev invariant-loop : tie.invariant-loop
 invariant-loop archive out₀ start left₀ entry-at₀ at₀ out left entry_at at =
-    (entry_at + entryWidth * left ≤ length archive) × (length out ≡ length out₀) × (at + length (lines_from archive left entry_at) ≤ length out)
+    (entry_at + entry_width * left ≤ length archive) × (length out ≡ length out₀) × (at + length (lines_from archive left entry_at) ≤ length out)
     × ((out' : List ℕ) (end : ℕ) → Laid out at (lines_from archive left entry_at) out' end
-    → Laid out₀ start (lines_from archive (count_of archive) headerWidth) out' end)
+    → Laid out₀ start (lines_from archive (count_of archive) header_width) out' end)
 
 abbrev decreases-loop : tie.decreases-loop
 decreases-loop archive out₀ start left₀ entry-at₀ at₀ out left entry_at at = left
@@ -34,14 +34,14 @@ abbrev b-of : tie.At-loop invariant-loop decreases-loop → List ℕ
 b-of c = c.before.before.before.before.args.archive.now
 
 abbrev others : tie.At-loop invariant-loop decreases-loop → List ℕ
-others c = lines_from (b-of c) (c.loop.left - 1) (c.loop.entry_at + entryWidth)
+others c = lines_from (b-of c) (c.loop.left - 1) (c.loop.entry_at + entry_width)
 
 turn : (c : tie.After-entry-at invariant-loop decreases-loop)
     → lines_from (b-of c.before.before.before) c.before.before.before.loop.left c.before.before.before.loop.entry_at
     ≡ line c.entry_at.result ++ others c.before.before.before
 turn c =
     let loop = c.before.before.before in
-    linesFrom-next (b-of loop) loop.loop.left loop.loop.entry_at c.before.before.loop-test.true
+    lines_from-next (b-of loop) loop.loop.left loop.loop.entry_at c.before.before.loop-test.true
     ∙ ap (λ (e : Entry). line e ++ others loop) (sym c.entry_at.ensures.0)
 
 room : (c : tie.After-entry-at invariant-loop decreases-loop)
@@ -79,7 +79,7 @@ returns c =
     let l = c.before.loop in
     l.invariant.3 l.out l.at
     (subst (λ (s : List ℕ). Laid l.out l.at s l.out l.at)
-    (sym (linesFrom-none (b-of c.before) l.left l.entry_at c.loop-test.false)) (none l.out l.at))
+    (sym (lines_from-none (b-of c.before) l.left l.entry_at c.loop-test.false)) (none l.out l.at))
 
 pub write-lines-spec : {M : Type 1} → statement M
 write-lines-spec =

@@ -9,7 +9,7 @@ use lib.ListN.{length}
 use Rattle.bits.specs.Inner.{Laid}
 use Rattle.archive.specs.Listing.{digit, decimal}
 use Rattle.archive.proofs.Text.Decimal.{decimal-one, decimal-more, length_more}
-use Rattle.archive.proofs.Bytes.Copied.{before-it}
+use Rattle.archive.proofs.Bytes.Copied.{before_it}
 use Rattle.archive.proofs.listing.write_number.Statement.{statement}
 use Rattle.archive.proofs.listing.write_number.Tie as tie
 
@@ -53,7 +53,7 @@ loop-again c =
       omega (arith, l.invariant.3),
       λ out' m x.
           l.invariant.4 out' laid.write_byte.result
-          (subst (λ (s : List ℕ). Laid l.out at s out' laid.write_byte.result) (sym more) (before-it room byte x)),
+          (subst (λ (s : List ℕ). Laid l.out at s out' laid.write_byte.result) (sym more) (before_it room byte x)),
     )
 
 returns : tie.Need-returns invariant-loop decreases-loop

@@ -1,17 +1,17 @@
 -- The line, where there is room. Assumes nothing.
 use borrow.Author.Rules.{rules}
-use Rattle.archive.specs.Listing.{refusedLine}
+use Rattle.archive.specs.Listing.{refused_line}
 use Rattle.archive.proofs.Text.Within.{too_long, laid-whole}
 use Rattle.archive.proofs.listing.write_refused.Statement.{statement}
 use Rattle.archive.proofs.listing.write_refused.Tie as tie
 
 returns : tie.Need-returns
-returns c = too_long refusedLine _ c.if1.true
+returns c = too_long refused_line _ c.if1.true
 
 returns-2 : tie.Need-returns-2
 returns-2 c =
     let append = c.before.before in
-    laid-whole refusedLine _ append.before.before.before.if1.false append.append.ensures
+    laid-whole refused_line _ append.before.before.before.if1.false append.append.ensures
 
 pub write-refused-spec : {M : Type 1} → statement M
 write-refused-spec =

@@ -6,9 +6,9 @@ use native.Mathlib.Omega.{arith}
 use borrow.Author.Rules.{rules}
 use lib.ListN.{length}
 use Rattle.bits.proofs.Laying.{then, first_fits, rest-fits}
-use Rattle.archive.specs.Model.{headerWidth}
+use Rattle.archive.specs.Model.{header_width}
 use Rattle.archive.specs.Reading.{count_of, reading}
-use Rattle.archive.specs.Listing.{firstLine, listing}
+use Rattle.archive.specs.Listing.{first_line, listing}
 use Rattle.archive.specs.Inner.{lines_from}
 use Rattle.archive.proofs.Bytes.Checking.{sound}
 use Rattle.archive.proofs.Text.Lines.{listing-read}
@@ -20,15 +20,15 @@ abbrev b-of : tie.After-count → List ℕ
 b-of c = c.before.before.before.before.before.args.archive.now
 
 abbrev first : tie.After-count → List ℕ
-first c = firstLine c.before.home.result c.count.result
+first c = first_line c.before.home.result c.count.result
 
 abbrev rest : tie.After-count → List ℕ
-rest c = lines_from (b-of c) (count_of (b-of c)) headerWidth
+rest c = lines_from (b-of c) (count_of (b-of c)) header_width
 
 parts : (c : tie.After-count) → listing (reading (b-of c)) ≡ first c ++ rest c
 parts c =
     let s = sound (b-of c) c.before.before.before.before.before.requires.0 in
-    listing-read (b-of c) (omega (arith, s.whole)) ∙ (λ i. firstLine (sym c.before.home.ensures i) (sym c.count.ensures.0 i) ++ rest c)
+    listing-read (b-of c) (omega (arith, s.whole)) ∙ (λ i. first_line (sym c.before.home.ensures i) (sym c.count.ensures.0 i) ++ rest c)
 
 room : (c : tie.After-count) → 0 + length (first c ++ rest c) ≤ length c.before.before.before.before.before.args.out.now
 room c = omega (arith, ap length (parts c), c.before.before.before.before.before.requires.1)

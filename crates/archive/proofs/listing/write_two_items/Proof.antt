@@ -5,43 +5,43 @@ use native.Mathlib.Omega.{arith}
 use borrow.Author.Rules.{rules}
 use lib.ListN.{length}
 use Rattle.bits.proofs.Laying.{then, first_fits, rest-fits}
-use Rattle.archive.specs.Listing.{lineEnd, item, twoItems}
+use Rattle.archive.specs.Listing.{line_end, item, two_items}
 use Rattle.archive.proofs.listing.write_two_items.Statement.{statement}
 use Rattle.archive.proofs.listing.write_two_items.Tie as tie
 
 -- room for the whole, and after the word
-whole : (c : tie.Start) → let a = c.args in 0 + length (a.word.now ++ (item a.n a.other.now ++ item a.m lineEnd)) ≤ length a.out.now
-unfolding twoItems
+whole : (c : tie.Start) → let a = c.args in 0 + length (a.word.now ++ (item a.n a.other.now ++ item a.m line_end)) ≤ length a.out.now
+unfolding two_items
 whole c = omega (arith, c.requires)
 
 after-word : (c : tie.After-append) →
     let a = c.before.before.before.before.before.args in
-    c.append.result + length (item a.n a.other.now ++ item a.m lineEnd) ≤ length c.append.new.0
+    c.append.result + length (item a.n a.other.now ++ item a.m line_end) ≤ length c.append.new.0
 after-word c =
     let start = c.before.before.before.before.before in
     let a = start.args in
-    rest-fits (item a.n a.other.now ++ item a.m lineEnd) (whole start) c.append.ensures
+    rest-fits (item a.n a.other.now ++ item a.m line_end) (whole start) c.append.ensures
 
 append-requires : tie.Need-append-requires
 append-requires c κs =
     let start = c.before.before.before.before in
     let a = start.args in
-    first_fits a.word.now (item a.n a.other.now ++ item a.m lineEnd) 0 (whole start)
+    first_fits a.word.now (item a.n a.other.now ++ item a.m line_end) 0 (whole start)
 
 write-item-requires : tie.Need-write-item-requires
 write-item-requires c κs =
     let word = c.before.before.before in
     let a = word.before.before.before.before.before.args in
-    first_fits (item a.n a.other.now) (item a.m lineEnd) word.append.result (after-word word)
+    first_fits (item a.n a.other.now) (item a.m line_end) word.append.result (after-word word)
 
 write-item-requires-2 : tie.Need-write-item-requires-2
 write-item-requires-2 c κs =
     let first = c.before.before.before.before in
     let word = first.before.before.before.before in
-    rest-fits (item word.before.before.before.before.before.args.m lineEnd) (after-word word) first.write-item.ensures
+    rest-fits (item word.before.before.before.before.before.args.m line_end) (after-word word) first.write-item.ensures
 
 returns : tie.Need-returns
-unfolding twoItems
+unfolding two_items
 returns c =
     let second = c.before.before in
     let first = second.before.before.before.before.before in

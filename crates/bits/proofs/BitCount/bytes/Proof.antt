@@ -1,4 +1,4 @@
--- The quotient and the rounded-up remainder. Assumes nothing.
+-- The quotient and the rounded_up remainder. Assumes nothing.
 use native.Mathlib.Omega.{arith}
 use Rattle.bits.proofs.BitCount.bytes.Statement.{statement}
 use Rattle.bits.proofs.BitCount.bytes.Tie as tie

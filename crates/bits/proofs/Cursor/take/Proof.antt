@@ -1,11 +1,11 @@
--- Each way out is takeAt's own case: no such width, too few bits of the PDU, too few bytes, or the number of the bits there. Assumes nothing.
+-- Each way out is take_at's own case: no such width, too few bits of the PDU, too few bytes, or the number of the bits there. Assumes nothing.
 use mathlib.Core.Path.{◌≡◌, sym, ◌∙◌, ap, subst}
 use Prim.Native.Nat.{ℕ, ◌+◌, ◌-◌, ◌/◌, ◌^◌, ◌<◌}
 use native.Mathlib.Omega.{arith}
 use borrow.Author.Rules.{rules}
 use lib.ListN.{take, drop, length-take}
 use Rattle.bits.specs.Bits.{bits, value}
-use Rattle.bits.specs.Element.{takeAt}
+use Rattle.bits.specs.Element.{taken_at}
 use Rattle.bits.specs.declared.Taken.TheVariants.{Element}
 use Rattle.bits.proofs.Bytes.{length-bits}
 use Rattle.bits.proofs.Numbers.{value-take-fits}
@@ -17,7 +17,7 @@ use Rattle.bits.proofs.Cursor.take.Tie as tie
 returns : tie.Need-returns
 returns c =
     let a = c.before.before.args in
-    sym (ap (takeAt a.s.now a.n.0 a.self.at) c.if1.true ∙ take_none a.s.now a.n.0 a.self.at)
+    sym (ap (taken_at a.s.now a.n.0 a.self.at) c.if1.true ∙ take_none a.s.now a.n.0 a.self.at)
 
 returns-2 : tie.Need-returns-2
 returns-2 c = let a = c.before.before.before.args in sym (take-wide a.s.now a.n.0 a.self.at a.width (omega arith))

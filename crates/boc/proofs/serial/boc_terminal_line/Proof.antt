@@ -2,7 +2,7 @@
 use mathlib.Core.Path.{sym, ap, ◌∙◌}
 use borrow.Author.Rules.{rules}
 use Rattle.terminals.specs.declared.Answer.{Answer}
-use Rattle.boc.specs.Serial.{lineNumber, lineLength}
+use Rattle.boc.specs.Serial.{line_number, line_length}
 use Rattle.boc.proofs.serial.boc_terminal_line.Statement.{statement}
 use Rattle.boc.proofs.serial.boc_terminal_line.Tie as tie
 
@@ -11,14 +11,14 @@ returns c =
     let t = c.before.before.before.before.before.before.before in
     let old = t.before.before.before.before.before.before.args.length.now in
     let p = sym c.before.bytes.given.1 ∙ t.take.ensures.0 in
-    (ap lineNumber p, (t.take.ensures.1.0, (t.take.ensures.1.1, ap (λ (x : Answer). lineLength x old) p)))
+    (ap line_number p, (t.take.ensures.1.0, (t.take.ensures.1.1, ap (λ (x : Answer). line_length x old) p)))
 
 returns-2 : tie.Need-returns-2
 returns-2 c =
     let t = c.before.before.before.before.before.before.before in
     let old = t.before.before.before.before.before.before.args.length.now in
     let p = sym c.before.number.given.1 ∙ t.take.ensures.0 in
-    (ap lineNumber p, (t.take.ensures.1.0, (t.take.ensures.1.1, ap (λ (x : Answer). lineLength x old) p)))
+    (ap line_number p, (t.take.ensures.1.0, (t.take.ensures.1.1, ap (λ (x : Answer). line_length x old) p)))
 
 pub boc-terminal-line-spec : {M : Type 1} → statement M
 boc-terminal-line-spec =

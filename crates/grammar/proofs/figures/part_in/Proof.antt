@@ -1,47 +1,47 @@
 -- Each type has its part. Assumes nothing.
 use borrow.Author.Rules.{rules}
-use Rattle.grammar.specs.Rows.{partIn}
+use Rattle.grammar.specs.Rows.{part_in}
 use Rattle.grammar.proofs.figures.part_in.Statement.{statement}
 use Rattle.grammar.proofs.figures.part_in.Tie as tie
 
 returns : tie.Need-returns
-unfolding partIn
+unfolding part_in
 returns c = rw c.before.enum_told.given.1 c.defined-part.ensures
 
 returns-2 : tie.Need-returns-2
-unfolding partIn
+unfolding part_in
 returns-2 c = rw c.enum-told2.given.1
 
 returns-3 : tie.Need-returns-3
-unfolding partIn
+unfolding part_in
 returns-3 c = rw c.before.enum-told3.given.1 c.defined-part2.ensures
 
 returns-4 : tie.Need-returns-4
-unfolding partIn
+unfolding part_in
 returns-4 c = rw c.before.enum-told4.given.1 c.defined-part3.ensures
 
 returns-5 : tie.Need-returns-5
-unfolding partIn
+unfolding part_in
 returns-5 c = rw c.enum-told5.given.1
 
 returns-6 : tie.Need-returns-6
-unfolding partIn
+unfolding part_in
 returns-6 c = rw c.before.enum-told6.given.1 c.defined-part4.ensures
 
 returns-7 : tie.Need-returns-7
-unfolding partIn
+unfolding part_in
 returns-7 c = rw c.enum-told7.given.1
 
 returns-8 : tie.Need-returns-8
-unfolding partIn
+unfolding part_in
 returns-8 c = rw c.enum-told8.given.1
 
 returns-9 : tie.Need-returns-9
-unfolding partIn
+unfolding part_in
 returns-9 c = rw c.enum-told9.given.1
 
 returns-10 : tie.Need-returns-10
-unfolding partIn
+unfolding part_in
 returns-10 c = rw c.enum-told10.given.1
 
 pub part-in-spec : {M : Type 1} → statement M

@@ -1,47 +1,47 @@
 -- Each arm of the match is the definition's own case. Assumes nothing.
 use borrow.Author.Tests.{ne_eqb}
-use Rattle.grammar.specs.SiteSheet.{pduType}
+use Rattle.grammar.specs.SiteSheet.{pdu_type}
 use Rattle.grammar.proofs.site.pdu_type.Statement.{statement}
 use Rattle.grammar.proofs.site.pdu_type.Tie as tie
 
 returns : tie.Need-returns
-unfolding pduType
+unfolding pdu_type
 returns c = rw c.match.keys1
 
 returns-2 : tie.Need-returns-2
-unfolding pduType
+unfolding pdu_type
 returns-2 c = rw c.match.keys2
 
 returns-3 : tie.Need-returns-3
-unfolding pduType
+unfolding pdu_type
 returns-3 c = rw c.match.keys3
 
 returns-4 : tie.Need-returns-4
-unfolding pduType
+unfolding pdu_type
 returns-4 c = rw c.match.keys4
 
 returns-5 : tie.Need-returns-5
-unfolding pduType
+unfolding pdu_type
 returns-5 c = rw c.match.keys5
 
 returns-6 : tie.Need-returns-6
-unfolding pduType
+unfolding pdu_type
 returns-6 c = rw c.match.keys6
 
 returns-7 : tie.Need-returns-7
-unfolding pduType
+unfolding pdu_type
 returns-7 c = rw c.match.keys7
 
 returns-8 : tie.Need-returns-8
-unfolding pduType
+unfolding pdu_type
 returns-8 c = rw c.match.keys8
 
 returns-9 : tie.Need-returns-9
-unfolding pduType
+unfolding pdu_type
 returns-9 c = rw c.match.keys9
 
 returns-10 : tie.Need-returns-10
-unfolding pduType
+unfolding pdu_type
 returns-10 c =
     let v = c.before.args.code in
     let m = c.match.rest in

@@ -3,7 +3,7 @@ use mathlib.Core.Path.{◌≡◌, sym, ◌∙◌}
 use Prim.Native.Nat.{◌/◌, ◌^◌, ◌≤◌}
 use native.Mathlib.Omega.{arith}
 use borrow.Author.Rules.{rules}
-use Rattle.in_place.proofs.Lists.{code_is, code-legal, list-near, range-reads, singles-reads, none_seen, range-seen, singles-seen}
+use Rattle.in_place.proofs.Lists.{code_is, code-legal, list-near, range-reads, singles-reads, none_seen, range_seen, singles_seen}
 use Rattle.in_place.proofs.identities.identities_at.Statement.{statement}
 use Rattle.in_place.proofs.identities.identities_at.Tie as tie
 
@@ -21,7 +21,7 @@ range-at-requires c κs =
 returns-2 : tie.Need-returns-2
 returns-2 c =
     let t = c.before in let w = t.before.before in
-    range-seen _ _ w.before.before.requires.reads _ _ (sym (code w) ∙ t.if2.true) c.range_at.ensures
+    range_seen _ _ w.before.before.requires.reads _ _ (sym (code w) ∙ t.if2.true) c.range_at.ensures
 
 few : (c : tie.Else2) → c.before.before.window.result / 2 ^ 53 ≤ 8
 few c = let w = c.before.before in omega (arith, code w, code-legal _ _ w.before.before.requires.reads, c.if2.false)
@@ -34,7 +34,7 @@ singles-at-requires c κs =
 returns-3 : tie.Need-returns-3
 returns-3 c =
     let e = c.before in let w = e.before.before in
-    singles-seen _ _ w.before.before.requires.reads _ _ (code w) e.before.if1.false (few e) c.singles-at.ensures
+    singles_seen _ _ w.before.before.requires.reads _ _ (code w) e.before.if1.false (few e) c.singles-at.ensures
 
 pub identities-at-spec : {M : Type 1} → statement M
 identities-at-spec =

@@ -3,16 +3,16 @@ use mathlib.Core.Logic.{⊎_elim}
 use Prim.Native.Nat.{◌-◌}
 use borrow.Author.Rules.{rules}
 use Rattle.bits.specs.Bits.{bits}
-use Rattle.grammar.specs.Grammar.{identity, noIdentity}
-use Rattle.grammar.proofs.Steps.{noIdentity-at}
-use Rattle.rules.specs.Matching.{isEntry}
+use Rattle.grammar.specs.Grammar.{identity, no_identity}
+use Rattle.grammar.proofs.Steps.{no_identity-at}
+use Rattle.rules.specs.Matching.{is_entry}
 use Rattle.in_place.proofs.Among.{Along, along-none, along-next, along-more, along-all, kept, missed}
 use Rattle.in_place.proofs.identities.mixed_at.Statement.{statement}
 use Rattle.in_place.proofs.identities.mixed_at.Tie as tie
 
 abbrev invariant-loop : tie.invariant-loop
 invariant-loop s start count missing user has₀ at₀ done₀ has at done =
-    Along identity noIdentity (isEntry missing user) 8 count (bits s) start done at has
+    Along identity no_identity (is_entry missing user) 8 count (bits s) start done at has
 
 abbrev decreases-loop : tie.decreases-loop
 decreases-loop s start count missing user has₀ at₀ done₀ has at done = count - done
@@ -29,7 +29,7 @@ loop-again c =
     (⊎_elim (λ w. kept l.loop.has w.0.taken w.1) (λ w. missed l.loop.has w.0.left w.1) c.if1.branch)
 
 returns : tie.Need-returns invariant-loop decreases-loop
-returns c = along-all c.before.loop.invariant c.loop-test.false (noIdentity-at _)
+returns c = along-all c.before.loop.invariant c.loop-test.false (no_identity-at _)
 
 pub mixed-at-spec : {M : Type 1} → statement M
 mixed-at-spec =

@@ -2,7 +2,7 @@
 use Prim.Native.Nat.{◌+◌, ◌-◌, ◌≤◌, ◌<◌}
 use native.Mathlib.Omega.{arith}
 use borrow.Author.Rules.{rules}
-use Rattle.walk.proofs.Sights.{bit-lt}
+use Rattle.walk.proofs.Sights.{bit_lt}
 use Rattle.in_place.proofs.Among.{along-none}
 use Rattle.in_place.proofs.Skipping.{Over, over-near, over-more, over-all}
 use Rattle.in_place.proofs.identities.mixed_end.Statement.{statement}
@@ -20,7 +20,7 @@ near c =
     over-near b.args.s.now c.before.loop.invariant b.requires.1.few c.loop-test.true
 
 bit : (c : tie.After-bit-at invariant-loop decreases-loop) → c.bit_at.result < 2
-bit c = bit-lt c.before.before.before.before.args.s.now (c.before.before.loop.at + 24) c.bit_at.ensures
+bit c = bit_lt c.before.before.before.before.args.s.now (c.before.before.loop.at + 24) c.bit_at.ensures
 
 pub mixed-end-spec : {M : Type 1} → statement M
 mixed-end-spec =

@@ -18,7 +18,7 @@ singles-end-requires c κs =
 returns : tie.Need-returns
 returns c =
     let t = c.before in let w = t.before in
-    range-over _ _ w.before.before.requires.reads (sym (code w) ∙ t.if1.true) c.singles-end.ensures
+    range-over _ _ w.before.before.requires.reads (sym (code w) ∙ t.if1.true) c.singles_end.ensures
 
 few : (c : tie.Else1) → c.before.window.result / 2 ^ 53 ≤ 8
 few c = let w = c.before in omega (arith, code w, code-legal _ _ w.before.before.requires.reads, c.if1.false)

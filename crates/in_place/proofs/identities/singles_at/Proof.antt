@@ -6,10 +6,10 @@ use native.Mathlib.Omega.{arith}
 use borrow.Author.Rules.{rules}
 use Rattle.bits.specs.Bits.{bits}
 use Rattle.bits.proofs.Bytes.{length-bits}
-use Rattle.grammar.specs.Grammar.{identity, noIdentity}
-use Rattle.grammar.proofs.Steps.{noIdentity-at}
+use Rattle.grammar.specs.Grammar.{identity, no_identity}
+use Rattle.grammar.proofs.Steps.{no_identity-at}
 use Rattle.reader.proofs.Elements.{identity-short}
-use Rattle.rules.specs.Matching.{isEntry}
+use Rattle.rules.specs.Matching.{is_entry}
 use Rattle.in_place.specs.Inner.{Says}
 use Rattle.in_place.proofs.Among.{Along, along-none, along-next, along-more, along-all, kept, missed}
 use Rattle.in_place.proofs.identities.singles_at.Statement.{statement}
@@ -17,7 +17,7 @@ use Rattle.in_place.proofs.identities.singles_at.Tie as tie
 
 abbrev invariant-loop : tie.invariant-loop
 invariant-loop s start count width missing user has₀ at₀ done₀ has at done =
-    Along identity noIdentity (isEntry missing user) 8 count (bits s) start done at has
+    Along identity no_identity (is_entry missing user) 8 count (bits s) start done at has
 
 abbrev decreases-loop : tie.decreases-loop
 decreases-loop s start count width missing user has₀ at₀ done₀ has at done = count - done
@@ -37,12 +37,12 @@ loop-again : tie.Need-loop-preserved invariant-loop decreases-loop
 loop-again c =
     let e = c.before in let p = e.before.before in let t = p.before in let l = t.before in let a = l.before.before.args in
     along-more l.loop.invariant t.loop-test.true
-    (subst (λ (q : ℕ). Says identity (isEntry a.missing a.user) (bits a.s.now) l.loop.at p.identity-at.result.has q)
+    (subst (λ (q : ℕ). Says identity (is_entry a.missing a.user) (bits a.s.now) l.loop.at p.identity-at.result.has q)
     e.if1.false p.identity-at.ensures)
     (⊎_elim (λ w. kept l.loop.has w.0.taken w.1) (λ w. missed l.loop.has w.0.left w.1) c.if2.branch)
 
 returns-2 : tie.Need-returns-2 invariant-loop decreases-loop
-returns-2 c = along-all c.before.loop.invariant c.loop-test.false (noIdentity-at _)
+returns-2 c = along-all c.before.loop.invariant c.loop-test.false (no_identity-at _)
 
 pub singles-at-spec : {M : Type 1} → statement M
 singles-at-spec =

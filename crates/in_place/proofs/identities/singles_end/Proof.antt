@@ -4,7 +4,7 @@ use Prim.Native.Nat.{ℕ, ◌+◌, ◌-◌, ◌*◌, ◌≤◌, ◌<◌}
 use native.Mathlib.Nat.{add_assoc}
 use native.Mathlib.Omega.{arith}
 use borrow.Author.Rules.{rules}
-use Rattle.walk.proofs.Sights.{bit-lt}
+use Rattle.walk.proofs.Sights.{bit_lt}
 use Rattle.in_place.proofs.Among.{along-none}
 use Rattle.in_place.proofs.Skipping.{Over, over-near, over-more, over-all}
 use Rattle.in_place.proofs.identities.singles_end.Statement.{statement}
@@ -22,7 +22,7 @@ near c =
     over-near b.args.s.now c.before.loop.invariant b.requires.2.few c.loop-test.true
 
 bit : (c : tie.After-bit-at invariant-loop decreases-loop) → c.bit_at.result < 2
-bit c = bit-lt c.before.before.before.before.args.s.now (c.before.before.loop.at + 24) c.bit_at.ensures
+bit c = bit_lt c.before.before.before.before.args.s.now (c.before.before.loop.at + 24) c.bit_at.ensures
 
 loop-again : tie.Need-loop-preserved invariant-loop decreases-loop
 loop-again c =

@@ -3,8 +3,8 @@ use mathlib.Core.Logic.{⊎_elim}
 use Prim.Native.Nat.{◌-◌}
 use borrow.Author.Rules.{rules}
 use Rattle.bits.specs.Bits.{bits}
-use Rattle.grammar.specs.Grammar.{external, noExternal}
-use Rattle.grammar.proofs.Steps.{noExternal-at}
+use Rattle.grammar.specs.Grammar.{external, no_external}
+use Rattle.grammar.proofs.Steps.{no_external-at}
 use Rattle.rules.specs.Matching.{is_number}
 use Rattle.in_place.proofs.Among.{Along, along-none, along-next, along-more, along-all, kept, missed}
 use Rattle.in_place.proofs.numbers.entries_at.Statement.{statement}
@@ -12,7 +12,7 @@ use Rattle.in_place.proofs.numbers.entries_at.Tie as tie
 
 abbrev invariant-loop : tie.invariant-loop
 invariant-loop s start count length digits has₀ at₀ done₀ has at done =
-    Along external noExternal (is_number length.0 digits) 8 count (bits s) start done at has
+    Along external no_external (is_number length.0 digits) 8 count (bits s) start done at has
 
 abbrev decreases-loop : tie.decreases-loop
 decreases-loop s start count length digits has₀ at₀ done₀ has at done = count - done
@@ -29,7 +29,7 @@ loop-again c =
     (⊎_elim (λ w. kept l.loop.has w.0.taken w.1) (λ w. missed l.loop.has w.0.left w.1) c.if1.branch)
 
 returns : tie.Need-returns invariant-loop decreases-loop
-returns c = along-all c.before.loop.invariant c.loop-test.false (noExternal-at _)
+returns c = along-all c.before.loop.invariant c.loop-test.false (no_external-at _)
 
 pub entries-at-spec : {M : Type 1} → statement M
 entries-at-spec =

@@ -1,7 +1,7 @@
 -- The range type, then as many numbers. Assumes nothing.
 use native.Mathlib.Omega.{arith}
 use borrow.Author.Rules.{rules}
-use Rattle.in_place.proofs.Lists.{numbers-code, numbers-few, numbers-near, numbers-reads, numbers-seen}
+use Rattle.in_place.proofs.Lists.{numbers-code, numbers-few, numbers-near, numbers-reads, numbers_seen}
 use Rattle.in_place.proofs.numbers.numbers_at.Statement.{statement}
 use Rattle.in_place.proofs.numbers.numbers_at.Tie as tie
 
@@ -14,7 +14,7 @@ entries-at-requires c κs =
 returns : tie.Need-returns
 returns c =
     let w = c.before in let b = w.before.before in
-    numbers-seen _ _ b.requires.reads (numbers-code _ _ b.requires.reads w.window.ensures) _ _ c.entries_at.ensures
+    numbers_seen _ _ b.requires.reads (numbers-code _ _ b.requires.reads w.window.ensures) _ _ c.entries_at.ensures
 
 pub numbers-at-spec : {M : Type 1} → statement M
 numbers-at-spec =

@@ -1,6 +1,6 @@
 -- The first twelve, then the others. Assumes nothing.
 use Rattle.std.proofs.Common.{ℕ, ◌-◌, get_or, sym, ap, ◌∙◌, arith, rules}
-use Rattle.passage.specs.Passed.{twelveIn, number_in}
+use Rattle.passage.specs.Passed.{twelve_in, number_in}
 use Rattle.passage.proofs.Runs.{early-digit, late-digit}
 use Rattle.passage.proofs.ExternalPassed.digit.Statement.{statement}
 use Rattle.passage.proofs.ExternalPassed.digit.Tie as tie
@@ -13,7 +13,7 @@ returns-2 : tie.Need-returns-2
 unfolding number_in
 returns-2 c =
     let i = c.before.before.before.before.args.i in
-    c.twelfth2.ensures ∙ ap (λ (x : ℕ). get_or (twelveIn x) (i - 12) 0) c.before.low.ensures
+    c.twelfth2.ensures ∙ ap (λ (x : ℕ). get_or (twelve_in x) (i - 12) 0) c.before.low.ensures
     ∙ sym (late-digit _ _ _ c.before.before.if1.false)
 
 pub digit-spec : {M : Type 1} → statement M

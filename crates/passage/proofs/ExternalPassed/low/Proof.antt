@@ -1,6 +1,6 @@
 -- What the window at their place has of them. Assumes nothing.
 use Rattle.std.proofs.Common.{arith, rules}
-use Rattle.passage.proofs.Elements.{small-window}
+use Rattle.passage.proofs.Elements.{small_window}
 use Rattle.passage.proofs.Passing.{low-is}
 use Rattle.passage.proofs.ExternalPassed.low.Statement.{statement}
 use Rattle.passage.proofs.ExternalPassed.low.Tie as tie
@@ -8,7 +8,7 @@ use Rattle.passage.proofs.ExternalPassed.low.Tie as tie
 held-requires : tie.Need-held-requires
 held-requires c κs =
     let m = c.before.before in let l = m.before in (
-      small-window l.before.before.before.args.s.now _ c.window.ensures,
+      small_window l.before.before.before.args.s.now _ c.window.ensures,
       omega (arith, m.least2.ensures, l.least.ensures),
       omega arith,
     )

@@ -1,12 +1,12 @@
 -- The length and twelve digits from one window. Assumes nothing.
 use Rattle.std.proofs.Common.{◌^◌, ◌<◌, arith, rules}
-use Rattle.passage.proofs.Elements.{small-window}
+use Rattle.passage.proofs.Elements.{small_window}
 use Rattle.passage.proofs.Passing.{external-is, external-passes}
 use Rattle.passage.proofs.Passage.external.Statement.{statement}
 use Rattle.passage.proofs.Passage.external.Tie as tie
 
 small : (c : tie.After-window) → c.window.result < 2 ^ 57
-small c = small-window c.before.before.args.s.now c.before.before.args.self.at c.window.ensures
+small c = small_window c.before.before.args.s.now c.before.before.args.self.at c.window.ensures
 
 returns : tie.Need-returns
 returns c =

@@ -1,14 +1,14 @@
 -- The figures in the window, and as many bits as their type has. Assumes nothing.
 use Rattle.std.proofs.Common.{◌≡◌, rules}
-use Rattle.passage.specs.Passed.{figuresPassed}
+use Rattle.passage.specs.Passed.{figures_passed}
 use Rattle.passage.proofs.Passing.{place-small}
 use Rattle.passage.proofs.Figures.{figures-passes}
 use Rattle.passage.proofs.Passage.figures.Statement.{statement}
 use Rattle.passage.proofs.Passage.figures.Tie as tie
 
 is : (c : tie.After-past) → let f = c.before in let b = f.before.before.before.before in
-    ◌≡◌ (record { value = f.figures-in.result; next = c.past.result }) (figuresPassed b.args.s.now b.args.self.at b.args.kind)
-unfolding figuresPassed
+    ◌≡◌ (record { value = f.figures-in.result; next = c.past.result }) (figures_passed b.args.s.now b.args.self.at b.args.kind)
+unfolding figures_passed
 is c =
     let f = c.before in
     rw (c.past.ensures, f.figures-in.ensures, f.before.window.ensures, f.before.before.form_of.ensures)

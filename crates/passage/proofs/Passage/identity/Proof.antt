@@ -1,6 +1,6 @@
 -- The identity in the window, and the place behind it. Assumes nothing.
 use Rattle.std.proofs.Common.{arith, rules}
-use Rattle.walk.proofs.Sights.{present-lt}
+use Rattle.walk.proofs.Sights.{present_lt}
 use Rattle.passage.proofs.Passing.{identity-is, identity-passes}
 use Rattle.passage.proofs.Passage.identity.Statement.{statement}
 use Rattle.passage.proofs.Passage.identity.Tie as tie
@@ -14,7 +14,7 @@ returns c =
 returns-2 : tie.Need-returns-2
 returns-2 c =
     let i = c.before.before.before in
-    let bit = present-lt _ i.identity-at.ensures in
+    let bit = present_lt _ i.identity-at.ensures in
     let is = identity-is _ _ 25 i.identity-at.ensures (omega (arith, bit, c.before.if1.false)) c.past2.ensures in
     (is, identity-passes _ _ is)
 

@@ -1,6 +1,6 @@
 -- The front of a window. Assumes nothing.
 use Rattle.std.proofs.Common.{◌≡◌, ℕ, ◌-◌, ◌/◌, ◌^◌, ◌<◌, min, ap, ◌∙◌, subst, arith, rules}
-use Rattle.passage.specs.Passed.{onward, numberPassed}
+use Rattle.passage.specs.Passed.{onward, number_passed}
 use Rattle.passage.proofs.Passing.{place-small, front_fits, number-passes}
 use Rattle.passage.proofs.Passage.number.Statement.{statement}
 use Rattle.passage.proofs.Passage.number.Tie as tie
@@ -12,8 +12,8 @@ cast-value c =
 
 is : (c : tie.After-past) → let b = c.before.before.before.before in let w = c.before in
     ◌≡◌ (record { value = w.window.result / 2 ^ (57 - w.before.least.result); next = c.past.result })
-    (numberPassed b.args.s.now b.args.self.at b.args.width)
-unfolding numberPassed
+    (number_passed b.args.s.now b.args.self.at b.args.width)
+unfolding number_passed
 is c = let w = c.before in rw (c.past.ensures, w.window.ensures, w.before.least.ensures)
 
 returns : tie.Need-returns

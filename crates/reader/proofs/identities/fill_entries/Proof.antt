@@ -4,16 +4,16 @@ use Prim.Native.Nat.{◌-◌}
 use native.Mathlib.Omega.{arith}
 use borrow.Author.Rules.{rules}
 use Rattle.bits.specs.Bits.{bits}
-use Rattle.words.specs.RecordWords.{identityWords}
-use Rattle.grammar.specs.Grammar.{identity, noIdentity}
-use Rattle.grammar.proofs.Steps.{noIdentity-at}
+use Rattle.words.specs.RecordWords.{identity_words}
+use Rattle.grammar.specs.Grammar.{identity, no_identity}
+use Rattle.grammar.proofs.Steps.{no_identity-at}
 use Rattle.reader.proofs.Entries.{Entries, entries_none, entries_next, entries-room, entries-left, entries-more, entries-all}
 use Rattle.reader.proofs.identities.fill_entries.Statement.{statement}
 use Rattle.reader.proofs.identities.fill_entries.Tie as tie
 
 abbrev invariant-loop : tie.invariant-loop
 invariant-loop s words₀ to count at₀ next₀ i₀ words at next i =
-    Entries identity noIdentity identityWords 3 8 count (bits s) at₀.at words₀ to i at.at words next
+    Entries identity no_identity identity_words 3 8 count (bits s) at₀.at words₀ to i at.at words next
 
 abbrev decreases-loop : tie.decreases-loop
 decreases-loop s words₀ to count at₀ next₀ i₀ words at next i = count - i
@@ -32,10 +32,10 @@ loop-again c =
     entries-more t.before.loop.invariant t.loop-test.true p.fill-identity.ensures p.fill-identity.auto.1.1.0
 
 returns : tie.Need-returns invariant-loop decreases-loop
-unfolding identityWords
+unfolding identity_words
 returns c =
     let p = c.before.before in let t = p.before.before in
-    entries-all t.before.loop.invariant t.loop-test.false (noIdentity-at _) refl refl p.zero-words.ensures
+    entries-all t.before.loop.invariant t.loop-test.false (no_identity-at _) refl refl p.zero-words.ensures
 
 pub fill-entries-spec : {M : Type 1} → statement M
 fill-entries-spec =

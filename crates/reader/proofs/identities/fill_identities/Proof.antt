@@ -5,13 +5,13 @@ use native.Mathlib.Omega.{arith}
 use borrow.Author.Rules.{rules}
 use Rattle.bits.specs.Bits.{bits}
 use Rattle.codec.specs.Parts.{number}
-use Rattle.grammar.specs.Grammar.{identity, noIdentity, identities}
-use Rattle.grammar.proofs.Codes.{entriesOf-le}
+use Rattle.grammar.specs.Grammar.{identity, no_identity, identities}
+use Rattle.grammar.proofs.Codes.{entries_of_le}
 use Rattle.walk.proofs.Sights.{legal-code}
-use Rattle.words.specs.RecordWords.{identitiesWords}
+use Rattle.words.specs.RecordWords.{identities_words}
 use Rattle.reader.specs.Inner.{Reads}
 use Rattle.reader.proofs.Elements.{number_fits}
-use Rattle.reader.proofs.Parts.{head-reads, head_passed, rest-reads, headed-fill, reads-tested, fill-tested, reads-used, fill-used}
+use Rattle.reader.proofs.Parts.{head-reads, head_passed, rest-reads, headed_fill, reads-tested, fill-tested, reads-used, fill-used}
 use Rattle.reader.proofs.identities.fill_identities.Statement.{statement}
 use Rattle.reader.proofs.identities.fill_identities.Tie as tie
 
@@ -31,23 +31,23 @@ unfolding identities
 fill-entries-requires c κs =
     let p = c.before.before.before in let e = p.before.before in let n = e.before in
     let b = n.before.before.before in (
-      omega (arith, e.entries-of.ensures, entriesOf-le n.number-at.result),
+      omega (arith, e.entries-of.ensures, entries_of_le n.number-at.result),
       record {
         few = b.requires.few;
         room = omega (arith, b.requires.room, p.store.auto.0);
-        reads = reads-used identity noIdentity 8 e.entries-of.ensures
+        reads = reads-used identity no_identity 8 e.entries-of.ensures
             (reads-tested _ _ _ (rest-reads _ _ _ _ _ _ _ b.requires.reads n.number-at.ensures));
       },
     )
 
 returns : tie.Need-returns
-unfolding identities identitiesWords
+unfolding identities identities_words
 returns c =
     let f = c.before.before in let p = f.before.before.before.before in let e = p.before.before in let n = e.before in
     let b = n.before.before.before in
-    headed-fill _ _ _ _ _ _ _ b.requires.reads (λ l. refl) (omega (arith, b.requires.room)) n.number-at.ensures p.store.ensures
+    headed_fill _ _ _ _ _ _ _ b.requires.reads (λ l. refl) (omega (arith, b.requires.room)) n.number-at.ensures p.store.ensures
     (fill-tested _ _ _ (rest-reads _ _ _ _ _ _ _ b.requires.reads n.number-at.ensures)
-    (fill-used identity noIdentity 8 e.entries-of.ensures f.fill-entries.ensures))
+    (fill-used identity no_identity 8 e.entries-of.ensures f.fill-entries.ensures))
 
 pub fill-identities-spec : {M : Type 1} → statement M
 fill-identities-spec =

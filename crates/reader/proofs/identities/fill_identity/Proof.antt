@@ -2,8 +2,8 @@
 use native.Mathlib.Omega.{arith}
 use borrow.Author.Rules.{rules}
 use Rattle.bits.proofs.Bytes.{length-bits}
-use Rattle.words.specs.RecordWords.{identityWords}
-use Rattle.grammar.proofs.Windows.{plainIn, wideIn}
+use Rattle.words.specs.RecordWords.{identity_words}
+use Rattle.grammar.proofs.Windows.{plain_in, wide_in}
 use Rattle.reader.proofs.Elements.{plain-read, wide_read, identity-short, identity-long}
 use Rattle.reader.proofs.identities.fill_identity.Statement.{statement}
 use Rattle.reader.proofs.identities.fill_identity.Tie as tie
@@ -14,11 +14,11 @@ add-t17 c =
     omega (arith, b.requires.few, length-bits b.args.s.now, identity-long _ _ b.requires.reads w.window.ensures t.if1.true)
 
 returns : tie.Need-returns
-unfolding identityWords
+unfolding identity_words
 returns c =
     let t = c.before.before.before.before in let w = t.before in let b = w.before.before.before in
     record {
-      value = wideIn w.window.result;
+      value = wide_in w.window.result;
       read = record { same = wide_read _ _ b.requires.reads w.window.ensures t.if1.true };
       put = c.before.before.three-words.ensures;
     }
@@ -29,11 +29,11 @@ add-t21 c =
     omega (arith, b.requires.few, length-bits b.args.s.now, identity-short _ _ b.requires.reads)
 
 returns-2 : tie.Need-returns-2
-unfolding identityWords
+unfolding identity_words
 returns-2 c =
     let t = c.before.before.before.before in let w = t.before in let b = w.before.before.before in
     record {
-      value = plainIn w.window.result;
+      value = plain_in w.window.result;
       read = record { same = plain-read _ _ b.requires.reads w.window.ensures (omega (arith, t.if1.false)) };
       put = c.before.before.three-words2.ensures;
     }

@@ -3,21 +3,21 @@ use mathlib.Core.Path.{refl}
 use mathlib.Core.List.{◌++◌}
 use native.Mathlib.Omega.{arith}
 use borrow.Author.Rules.{rules}
-use Rattle.grammar.specs.Grammar.{identityPart}
-use Rattle.grammar.specs.Zero.{zeroNumbers}
-use Rattle.words.specs.RecordWords.{records, identitiesWords, numbersWords}
-use Rattle.reader.proofs.Parts.{reads_first, reads-next, fill-then, reads-shaped, fill-shaped, none-fill, no-numbers}
+use Rattle.grammar.specs.Grammar.{identity_part}
+use Rattle.grammar.specs.Zero.{zero_numbers}
+use Rattle.words.specs.RecordWords.{records, identities_words, numbers_words}
+use Rattle.reader.proofs.Parts.{reads_first, reads-next, fill-then, reads-shaped, fill-shaped, none_fill, no-numbers}
 use Rattle.reader.proofs.lists.fill_identity_part.Statement.{statement}
 use Rattle.reader.proofs.lists.fill_identity_part.Tie as tie
 
 fill-identities-requires : tie.Need-fill-identities-requires
-unfolding identityPart
+unfolding identity_part
 fill-identities-requires c κs =
     let b = c.before.before.before in
     record { few = b.requires.few; room = omega (arith, b.requires.room); reads = reads_first _ _ (reads-shaped _ _ _ _ _ b.requires.reads) }
 
 fill-identities-requires-2 : tie.Need-fill-identities-requires-2
-unfolding identityPart
+unfolding identity_part
 fill-identities-requires-2 c κs =
     let p = c.before.before.before in let b = p.before.before.before.before in
     record {
@@ -27,7 +27,7 @@ fill-identities-requires-2 c κs =
     }
 
 fill-identities-requires-3 : tie.Need-fill-identities-requires-3
-unfolding identityPart
+unfolding identity_part
 fill-identities-requires-3 c κs =
     let q = c.before.before.before in let p = q.before.before.before.before in let b = p.before.before.before.before in
     record {
@@ -39,17 +39,17 @@ fill-identities-requires-3 c κs =
     }
 
 returns : tie.Need-returns
-unfolding identityPart records
+unfolding identity_part records
 returns c =
     let z = c.before.before in let r = z.before.before.before.before in let q = r.before.before.before.before in
     let p = q.before.before.before.before in let b = p.before.before.before.before in
     let k = p.fill-identities.auto.1.1.0 in
     let l = q.fill-identities2.auto.1.1.0 in
     fill-shaped _ _ _ _ _ (λ a. refl)
-    (fill-then _ _ identitiesWords (omega (arith, b.requires.room)) p.fill-identities.ensures.read p.fill-identities.ensures.put
-    (fill-then _ _ identitiesWords (omega (arith, b.requires.room, k)) q.fill-identities2.ensures.read q.fill-identities2.ensures.put
-    (fill-then _ _ identitiesWords (omega (arith, b.requires.room, k, l)) r.fill-identities3.ensures.read r.fill-identities3.ensures.put
-    (none-fill _ (λ p. numbersWords p.0 ++ numbersWords p.1) (zeroNumbers, zeroNumbers) (no-numbers _ _) refl
+    (fill-then _ _ identities_words (omega (arith, b.requires.room)) p.fill-identities.ensures.read p.fill-identities.ensures.put
+    (fill-then _ _ identities_words (omega (arith, b.requires.room, k)) q.fill-identities2.ensures.read q.fill-identities2.ensures.put
+    (fill-then _ _ identities_words (omega (arith, b.requires.room, k, l)) r.fill-identities3.ensures.read r.fill-identities3.ensures.put
+    (none_fill _ (λ p. numbers_words p.0 ++ numbers_words p.1) (zero_numbers, zero_numbers) (no-numbers _ _) refl
     z.zero-words.ensures))))
 
 pub fill-identity-part-spec : {M : Type 1} → statement M

@@ -4,10 +4,10 @@ use Prim.Native.Nat.{ℕ}
 use borrow.Author.Rules.{rules}
 use borrow.Author.Tests.{ne_eqb}
 use Rattle.grammar.specs.Grammar.{no_part, part_of}
-use Rattle.grammar.specs.Zero.{zeroLists}
-use Rattle.grammar.proofs.Steps.{noPart-at}
-use Rattle.words.specs.RecordWords.{records, listsWords}
-use Rattle.reader.proofs.Parts.{none-fill, fillable-by, fill-by}
+use Rattle.grammar.specs.Zero.{zero_lists}
+use Rattle.grammar.proofs.Steps.{no_part-at}
+use Rattle.words.specs.RecordWords.{records, lists_words}
+use Rattle.reader.proofs.Parts.{none_fill, fillable-by, fill-by}
 use Rattle.reader.proofs.lists.fill_part.Statement.{statement}
 use Rattle.reader.proofs.lists.fill_part.Tie as tie
 
@@ -29,7 +29,7 @@ returns-3 c =
     let z = c.before.before in let n = z.before.before in
     let a = n.before.before.before.before.args in
     rw (ne_eqb a.part 1 n.before.if1.false, ne_eqb a.part 2 n.if2.false)
-    (none-fill no_part listsWords zeroLists (noPart-at _ _) refl z.zero-words.ensures)
+    (none_fill no_part lists_words zero_lists (no_part-at _ _) refl z.zero-words.ensures)
 
 pub fill-part-spec : {M : Type 1} → statement M
 fill-part-spec =

@@ -7,15 +7,15 @@ use borrow.Author.Rules.{rules}
 use Rattle.bits.specs.Bits.{bits}
 use Rattle.codec.specs.Parts.{number, absent, element}
 use Rattle.codec.specs.Places.{places}
-use Rattle.grammar.specs.SiteSheet.{digitRefusal}
+use Rattle.grammar.specs.SiteSheet.{digit_refusal}
 use Rattle.grammar.specs.Grammar.{external}
 use Rattle.grammar.proofs.Codes.{between_le}
-use Rattle.words.specs.RecordWords.{numberWords}
+use Rattle.words.specs.RecordWords.{number_words}
 use Rattle.words.proofs.Putting.{then}
 use Rattle.reader.specs.Inner.{Read, Reads}
-use Rattle.reader.proofs.Elements.{number_fits, front_read, small-window}
+use Rattle.reader.proofs.Elements.{number_fits, front_read, small_window}
 use Rattle.reader.proofs.Entries.{put_as}
-use Rattle.reader.proofs.Parts.{head-reads, head_passed, rest-reads, headed-fill, fill-list}
+use Rattle.reader.proofs.Parts.{head-reads, head_passed, rest-reads, headed_fill, fill-list}
 use Rattle.reader.proofs.Runs.{digits-read}
 use Rattle.reader.proofs.numbers.fill_number.Statement.{statement}
 use Rattle.reader.proofs.numbers.fill_number.Tie as tie
@@ -43,19 +43,19 @@ few c = between_le 1 24 (count c) (head_passed _ _ _ _ _ _ _ c.before.before.bef
 near : (c : tie.After-window) → at c + 5 ≤ 4096
 near c = number_fits (pdu c) (at c) 5 (omega arith) c.before.before.before.requires.few (counted c)
 
-rest : (c : tie.After-window) → Reads (places (element 4 digitRefusal) absent 24 (count c)) (bits (pdu c)) (at c + 5)
+rest : (c : tie.After-window) → Reads (places (element 4 digit_refusal) absent 24 (count c)) (bits (pdu c)) (at c + 5)
 unfolding external
 rest c = rest-reads _ _ _ _ _ _ _ c.before.before.before.requires.reads (count-read c)
 
 held-requires : tie.Need-held-requires
 held-requires c κs =
     let w = c.before in
-    (small-window (pdu w) (at w) w.window.ensures, omega (arith, c.least.ensures), omega arith)
+    (small_window (pdu w) (at w) w.window.ensures, omega (arith, c.least.ensures), omega arith)
 
 held-requires-2 : tie.Need-held-requires-2
 held-requires-2 c κs =
     let l = c.before.before in
-    (small-window (pdu l.before) _ c.window2.ensures, omega (arith, l.least.ensures, few l.before), omega arith)
+    (small_window (pdu l.before) _ c.window2.ensures, omega (arith, l.least.ensures, few l.before), omega arith)
 
 put-twelve-requires : tie.Need-put-twelve-requires
 put-twelve-requires c κs =
@@ -72,7 +72,7 @@ abbrev window-of : tie.After-slice-known4 → tie.After-window
 window-of c = c.before.before.before.before.before.before.before.before.before.before.before.before.before.before.before.before
 
 returns : tie.Need-returns
-unfolding external numberWords
+unfolding external number_words
 returns c =
     let q = c.before.before in let p = q.before.before.before.before in let o = p.before.before.before.before in
     let h' = o.before.before in let w' = h'.before in let h = w'.before in let l = h.before in let w = l.before in
@@ -81,7 +81,7 @@ returns c =
     w'.window2.ensures h.held.ensures h'.held2.ensures in
     let ends : b.args.to + 1 + 12 + 12 ≡ b.args.to + 1 + 24 = omega arith in
     let put = put_as (then (omega (arith, b.requires.room, o.store.auto.0)) p.put-twelve.ensures q.put-twelve2.ensures) refl refl ends in
-    headed-fill _ _ _ _ _ _ _ b.requires.reads (λ l. refl) (omega (arith, b.requires.room)) (count-read w) o.store.ensures
+    headed_fill _ _ _ _ _ _ _ b.requires.reads (λ l. refl) (omega (arith, b.requires.room)) (count-read w) o.store.ensures
     (fill-list digits put)
 
 pub fill-number-spec : {M : Type 1} → statement M

@@ -4,16 +4,16 @@ use Prim.Native.Nat.{◌-◌}
 use native.Mathlib.Omega.{arith}
 use borrow.Author.Rules.{rules}
 use Rattle.bits.specs.Bits.{bits}
-use Rattle.words.specs.RecordWords.{numberWords}
-use Rattle.grammar.specs.Grammar.{external, noExternal}
-use Rattle.grammar.proofs.Steps.{noExternal-at}
+use Rattle.words.specs.RecordWords.{number_words}
+use Rattle.grammar.specs.Grammar.{external, no_external}
+use Rattle.grammar.proofs.Steps.{no_external-at}
 use Rattle.reader.proofs.Entries.{Entries, entries_none, entries_next, entries-room, entries-left, entries-more, entries-all}
 use Rattle.reader.proofs.numbers.fill_number_entries.Statement.{statement}
 use Rattle.reader.proofs.numbers.fill_number_entries.Tie as tie
 
 abbrev invariant-loop : tie.invariant-loop
 invariant-loop s words₀ to count at₀ next₀ i₀ words at next i =
-    Entries external noExternal numberWords 25 8 count (bits s) at₀.at words₀ to i at.at words next
+    Entries external no_external number_words 25 8 count (bits s) at₀.at words₀ to i at.at words next
 
 abbrev decreases-loop : tie.decreases-loop
 decreases-loop s words₀ to count at₀ next₀ i₀ words at next i = count - i
@@ -32,10 +32,10 @@ loop-again c =
     entries-more t.before.loop.invariant t.loop-test.true p.fill-number.ensures p.fill-number.auto.1.1.0
 
 returns : tie.Need-returns invariant-loop decreases-loop
-unfolding numberWords
+unfolding number_words
 returns c =
     let p = c.before.before in let t = p.before.before in
-    entries-all t.before.loop.invariant t.loop-test.false (noExternal-at _) refl refl p.zero-words.ensures
+    entries-all t.before.loop.invariant t.loop-test.false (no_external-at _) refl refl p.zero-words.ensures
 
 pub fill-number-entries-spec : {M : Type 1} → statement M
 fill-number-entries-spec =

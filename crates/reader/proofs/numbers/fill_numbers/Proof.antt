@@ -5,13 +5,13 @@ use native.Mathlib.Omega.{arith}
 use borrow.Author.Rules.{rules}
 use Rattle.bits.specs.Bits.{bits}
 use Rattle.codec.specs.Parts.{number}
-use Rattle.grammar.specs.Grammar.{external, noExternal, externals}
-use Rattle.grammar.proofs.Codes.{entriesOf-le}
+use Rattle.grammar.specs.Grammar.{external, no_external, externals}
+use Rattle.grammar.proofs.Codes.{entries_of_le}
 use Rattle.walk.proofs.Sights.{legal-code}
-use Rattle.words.specs.RecordWords.{numbersWords}
+use Rattle.words.specs.RecordWords.{numbers_words}
 use Rattle.reader.specs.Inner.{Reads}
 use Rattle.reader.proofs.Elements.{number_fits}
-use Rattle.reader.proofs.Parts.{head-reads, head_passed, rest-reads, headed-fill, reads-used, fill-used}
+use Rattle.reader.proofs.Parts.{head-reads, head_passed, rest-reads, headed_fill, reads-used, fill-used}
 use Rattle.reader.proofs.numbers.fill_numbers.Statement.{statement}
 use Rattle.reader.proofs.numbers.fill_numbers.Tie as tie
 
@@ -31,22 +31,22 @@ unfolding externals
 fill-number-entries-requires c κs =
     let p = c.before.before.before in let e = p.before.before in let n = e.before in
     let b = n.before.before.before in (
-      omega (arith, e.entries-of.ensures, entriesOf-le n.number-at.result),
+      omega (arith, e.entries-of.ensures, entries_of_le n.number-at.result),
       record {
         few = b.requires.few;
         room = omega (arith, b.requires.room, p.store.auto.0);
-        reads = reads-used external noExternal 8 e.entries-of.ensures
+        reads = reads-used external no_external 8 e.entries-of.ensures
             (rest-reads _ _ _ _ _ _ _ b.requires.reads n.number-at.ensures);
       },
     )
 
 returns : tie.Need-returns
-unfolding externals numbersWords
+unfolding externals numbers_words
 returns c =
     let f = c.before.before in let p = f.before.before.before.before in let e = p.before.before in let n = e.before in
     let b = n.before.before.before in
-    headed-fill _ _ _ _ _ _ _ b.requires.reads (λ l. refl) (omega (arith, b.requires.room)) n.number-at.ensures p.store.ensures
-    (fill-used external noExternal 8 e.entries-of.ensures f.fill-number-entries.ensures)
+    headed_fill _ _ _ _ _ _ _ b.requires.reads (λ l. refl) (omega (arith, b.requires.room)) n.number-at.ensures p.store.ensures
+    (fill-used external no_external 8 e.entries-of.ensures f.fill-number-entries.ensures)
 
 pub fill-numbers-spec : {M : Type 1} → statement M
 fill-numbers-spec =

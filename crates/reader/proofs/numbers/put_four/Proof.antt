@@ -3,14 +3,14 @@ use Prim.Native.Nat.{◌-◌}
 use native.Mathlib.Omega.{arith}
 use borrow.Author.Rules.{rules}
 use Rattle.words.proofs.Putting.{Turned, turned_none}
-use Rattle.reader.specs.Inner.{one, fourIn}
+use Rattle.reader.specs.Inner.{one, four_in}
 use Rattle.reader.proofs.Entries.{word_more, words-all}
 use Rattle.reader.proofs.Runs.{four-at, four-long}
 use Rattle.reader.proofs.numbers.put_four.Statement.{statement}
 use Rattle.reader.proofs.numbers.put_four.Tie as tie
 
 abbrev invariant-loop : tie.invariant-loop
-invariant-loop words₀ to run next₀ i₀ words next i = Turned one (fourIn run) 1 4 words₀ to i words next
+invariant-loop words₀ to run next₀ i₀ words next i = Turned one (four_in run) 1 4 words₀ to i words next
 
 abbrev decreases-loop : tie.decreases-loop
 decreases-loop words₀ to run next₀ i₀ words next i = 4 - i

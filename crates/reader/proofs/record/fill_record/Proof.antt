@@ -9,16 +9,16 @@ use lib.ListN.{length}
 use Rattle.bits.specs.Bits.{bits}
 use Rattle.bits.proofs.Bytes.{length-bits}
 use Rattle.codec.specs.Parts.{number}
-use Rattle.grammar.specs.SiteSheet.{ssType}
+use Rattle.grammar.specs.SiteSheet.{ss_type}
 use Rattle.grammar.specs.Grammar.{rest_of, pdu}
-use Rattle.grammar.specs.Rows.{figuresOf, width_of}
+use Rattle.grammar.specs.Rows.{figures_of, width_of}
 use Rattle.grammar.specs.declared.site.PduType.{PduType}
 use Rattle.grammar.specs.declared.figures.Form.{Form}
-use Rattle.words.specs.RecordWords.{recordWords}
+use Rattle.words.specs.RecordWords.{record_words}
 use Rattle.reader.specs.Inner.{Read, Reads}
 use Rattle.reader.proofs.Elements.{number-there}
-use Rattle.reader.proofs.Parts.{head-reads, rest-reads, headed-fill, reads-mark, fill-mark, fill-by}
-use Rattle.reader.proofs.Rows.{read-inside, figures-there, figures-read, users-reads, figures-reads, listed-reads, row-fill}
+use Rattle.reader.proofs.Parts.{head-reads, rest-reads, headed_fill, reads-mark, fill-mark, fill-by}
+use Rattle.reader.proofs.Rows.{read-inside, figures-there, figures-read, users-reads, figures-reads, listed-reads, row_fill}
 use Rattle.reader.proofs.record.fill_record.Statement.{statement}
 use Rattle.reader.proofs.record.fill_record.Tie as tie
 
@@ -38,16 +38,16 @@ formed u = u.before.before.before.before.before.before
 
 kind-reads : (b : tie.Start) → Reads (number 5) (bits b.args.s.now) 6
 unfolding pdu
-kind-reads b = head-reads _ _ _ _ _ _ _ (reads-mark 6 ssType _ b.requires.reads)
+kind-reads b = head-reads _ _ _ _ _ _ _ (reads-mark 6 ss_type _ b.requires.reads)
 
 row : (f : tie.After-form-of) → Reads (rest_of (kind f)) (pdu-bits f) 11
 unfolding pdu
 row f =
     subst (λ (t : PduType). Reads (rest_of t) (pdu-bits f) 11) (sym f.before.pdu-type.ensures)
-    (rest-reads _ _ _ _ _ _ _ (reads-mark 6 ssType _ (start f).requires.reads) f.before.before.number-at.ensures)
+    (rest-reads _ _ _ _ _ _ _ (reads-mark 6 ss_type _ (start f).requires.reads) f.before.before.number-at.ensures)
 
 -- the figures begin inside the PDU, where the affected users end
-from-figures : (u : tie.After-fill-users) → Reads (figuresOf (kind (formed u))) (pdu-bits (formed u)) u.fill-users.result.at
+from-figures : (u : tie.After-fill-users) → Reads (figures_of (kind (formed u))) (pdu-bits (formed u)) u.fill-users.result.at
 from-figures u = figures-reads (kind (formed u)) (formed u).form_of.ensures (row (formed u)) u.fill-users.ensures.read
 
 inside : (u : tie.After-fill-users) → u.fill-users.result.at ≤ length (pdu-bits (formed u))
@@ -57,7 +57,7 @@ inside u =
 
 -- they are those in their window
 figures-found : (g : tie.After-figures-in) → let u = g.before.before.before.before in let at = u.fill-users.result.at in
-    Read (figuresOf (kind (formed u))) (pdu-bits (formed u)) at g.figures-in.result (at + width_of (kind (formed u)))
+    Read (figures_of (kind (formed u))) (pdu-bits (formed u)) at g.figures-in.result (at + width_of (kind (formed u)))
 figures-found g =
     let w = g.before in let u = w.before.before.before in
     rw (g.figures-in.ensures, w.window.ensures) (figures-read (kind (formed u)) _ u.fill-users.result.at (inside u) (from-figures u))
@@ -116,18 +116,18 @@ same_length c =
     ∙ o.store.auto.0
 
 returns : tie.Need-returns
-unfolding pdu recordWords
+unfolding pdu record_words
 returns c =
     let e = c.before.before in let d = e.before.before.before.before in let l = d.before.before.before.before in
     let p = l.before in let t = p.before.before.before.before.before in let g = t.before.before in
     let u = g.before.before.before.before in let o = u.before.before.before.before in let f = formed u in
     let users = u.fill-users.ensures in let room = (start f).pre.room in
-    let rest = row-fill (kind f) f.form_of.ensures (row f) users.read (figures-found g) p.part_in.ensures
+    let rest = row_fill (kind f) f.form_of.ensures (row f) users.read (figures-found g) p.part_in.ensures
     (omega (arith, room, o.store.auto.0)) u.fill-users.auto.1.1.0 t.three-words.auto.0 l.fill-listed.auto.1.1.0
     users.put t.three-words.ensures l.fill-listed.ensures d.three-words2.ensures e.three-words3.ensures
     in
-    fill-mark 6 ssType _ (start f).pre.reads
-    (headed-fill _ _ _ _ _ _ _ (reads-mark 6 ssType _ (start f).pre.reads) (λ q. refl) (omega (arith, room)) f.before.before.number-at.ensures
+    fill-mark 6 ss_type _ (start f).pre.reads
+    (headed_fill _ _ _ _ _ _ _ (reads-mark 6 ss_type _ (start f).pre.reads) (λ q. refl) (omega (arith, room)) f.before.before.number-at.ensures
     o.store.ensures (fill-by (ap (λ (x : PduType). rest_of x) (sym f.before.pdu-type.ensures)) rest))
 
 pub fill-record-spec : {M : Type 1} → statement M

@@ -7,12 +7,12 @@ use borrow.Author.Rules.{rules}
 use Rattle.bits.specs.Bits.{bits}
 use Rattle.codec.specs.Parts.{number, absent, element}
 use Rattle.codec.specs.Places.{places}
-use Rattle.grammar.specs.SiteSheet.{serviceRefusal}
+use Rattle.grammar.specs.SiteSheet.{service_refusal}
 use Rattle.grammar.specs.Grammar.{services}
-use Rattle.words.specs.RecordWords.{servicesWords}
+use Rattle.words.specs.RecordWords.{services_words}
 use Rattle.reader.specs.Inner.{Read, Reads}
-use Rattle.reader.proofs.Elements.{number_fits, number_small, front_read, small-window}
-use Rattle.reader.proofs.Parts.{head-reads, rest-reads, headed-fill, fill-list}
+use Rattle.reader.proofs.Elements.{number_fits, number_small, front_read, small_window}
+use Rattle.reader.proofs.Parts.{head-reads, rest-reads, headed_fill, fill-list}
 use Rattle.reader.proofs.Runs.{services-read}
 use Rattle.reader.proofs.services.fill_services.Statement.{statement}
 use Rattle.reader.proofs.services.fill_services.Tie as tie
@@ -39,12 +39,12 @@ few c = omega (arith, number_small 3 (count-read c))
 near : (c : tie.After-window) → at c + 3 ≤ 4096
 near c = number_fits (pdu c) (at c) 3 (omega arith) c.before.before.before.requires.few (counted c)
 
-rest : (c : tie.After-window) → Reads (places (element 3 serviceRefusal) absent 7 (count c)) (bits (pdu c)) (at c + 3)
+rest : (c : tie.After-window) → Reads (places (element 3 service_refusal) absent 7 (count c)) (bits (pdu c)) (at c + 3)
 unfolding services
 rest c = rest-reads _ _ _ _ _ _ _ c.before.before.before.requires.reads (count-read c)
 
 held-requires : tie.Need-held-requires
-held-requires c κs = (small-window (pdu c) (at c) c.window.ensures, omega (arith, few c), omega arith)
+held-requires c κs = (small_window (pdu c) (at c) c.window.ensures, omega (arith, few c), omega arith)
 
 put-seven-requires : tie.Need-put-seven-requires
 put-seven-requires c κs =
@@ -55,12 +55,12 @@ abbrev window-of : tie.After-slice-known3 → tie.After-window
 window-of c = c.before.before.before.before.before.before.before.before.before
 
 returns : tie.Need-returns
-unfolding services servicesWords
+unfolding services services_words
 returns c =
     let p = c.before.before in let o = p.before.before.before.before in let h = o.before.before in let w = h.before in
     let b = w.before.before.before in
     let list = services-read (pdu w) (at w) (count w) (few w) (rest w) w.window.ensures refl h.held.ensures in
-    headed-fill _ _ _ _ _ _ _ b.requires.reads (λ l. refl) (omega (arith, b.requires.room)) (count-read w) o.store.ensures
+    headed_fill _ _ _ _ _ _ _ b.requires.reads (λ l. refl) (omega (arith, b.requires.room)) (count-read w) o.store.ensures
     (fill-list list p.put-seven.ensures)
 
 pub fill-services-spec : {M : Type 1} → statement M

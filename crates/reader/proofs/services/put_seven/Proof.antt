@@ -3,14 +3,14 @@ use Prim.Native.Nat.{◌-◌}
 use native.Mathlib.Omega.{arith}
 use borrow.Author.Rules.{rules}
 use Rattle.words.proofs.Putting.{Turned, turned_none}
-use Rattle.reader.specs.Inner.{one, sevenIn}
+use Rattle.reader.specs.Inner.{one, seven_in}
 use Rattle.reader.proofs.Entries.{word_more, words-all}
 use Rattle.reader.proofs.Runs.{seven_at, seven-long}
 use Rattle.reader.proofs.services.put_seven.Statement.{statement}
 use Rattle.reader.proofs.services.put_seven.Tie as tie
 
 abbrev invariant-loop : tie.invariant-loop
-invariant-loop words₀ to run next₀ i₀ words next i = Turned one (sevenIn run) 1 7 words₀ to i words next
+invariant-loop words₀ to run next₀ i₀ words next i = Turned one (seven_in run) 1 7 words₀ to i words next
 
 abbrev decreases-loop : tie.decreases-loop
 decreases-loop words₀ to run next₀ i₀ words next i = 7 - i

@@ -4,12 +4,12 @@ use Prim.Native.Nat.{ℕ, ◌+◌, ◌-◌, ◌^◌, ◌<◌}
 use native.Mathlib.Omega.{arith}
 use borrow.Author.Rules.{rules}
 use lib.Pow.{shl_exact, shr_lt}
-use Rattle.reader.specs.Inner.{heldIn}
+use Rattle.reader.specs.Inner.{held_in}
 use Rattle.reader.proofs.stores.held.Statement.{statement}
 use Rattle.reader.proofs.stores.held.Tie as tie
 
 returns : tie.Need-returns
-unfolding heldIn
+unfolding held_in
 returns c =
     let a = c.args in
     let front : ℕ = a.skip + a.used in

@@ -1,15 +1,15 @@
 -- Each kind of destination is the definition's own case. Assumes nothing.
 use borrow.Author.Rules.{rules}
-use Rattle.rules.specs.Rule.{isRestricted}
+use Rattle.rules.specs.Rule.{is_restricted}
 use Rattle.rules.proofs.lists.is_restricted.Statement.{statement}
 use Rattle.rules.proofs.lists.is_restricted.Tie as tie
 
 returns : tie.Need-returns
-unfolding isRestricted
+unfolding is_restricted
 returns c = rw c.before.before.destination.given.1 c.identity-among.ensures
 
 returns-2 : tie.Need-returns-2
-unfolding isRestricted
+unfolding is_restricted
 returns-2 c = rw c.before.before.destination2.given.1 c.number-among.ensures
 
 pub is-restricted-spec : {M : Type 1} → statement M

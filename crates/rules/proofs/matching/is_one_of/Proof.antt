@@ -8,15 +8,15 @@ use lib.Seq.{slice}
 use borrow.Author.Rules.{rules}
 use Rattle.bits.specs.Lists.{some}
 use Rattle.bits.proofs.Lists.{take-used}
-use Rattle.grammar.specs.Grammar.{zeroIdentity}
-use Rattle.rules.specs.Matching.{isEntry}
+use Rattle.grammar.specs.Grammar.{zero_identity}
+use Rattle.rules.specs.Matching.{is_entry}
 use Rattle.rules.proofs.Search.{passed, found, some_end}
 use Rattle.rules.proofs.matching.is_one_of.Statement.{statement}
 use Rattle.rules.proofs.matching.is_one_of.Tie as tie
 
 abbrev invariant-entries : tie.invariant-entries
 invariant-entries n missing u entries count found₀ i₀ found i =
-    (i ≤ count) × ((found ≡ false) × (some (isEntry missing u) (slice i count entries) ≡ some (isEntry missing u) (take n entries)))
+    (i ≤ count) × ((found ≡ false) × (some (is_entry missing u) (slice i count entries) ≡ some (is_entry missing u) (take n entries)))
 
 abbrev decreases-entries : tie.decreases-entries
 decreases-entries n missing u entries count found₀ i₀ found i = count - i
@@ -24,7 +24,7 @@ decreases-entries n missing u entries count found₀ i₀ found i = count - i
 entries-holds : tie.Need-entries-init invariant-entries decreases-entries
 entries-holds c =
     let a = c.before.args in
-    (omega arith, (refl, ap (some (isEntry a.missing a.u)) (take-used a.t1 a.n (omega arith) c.least.ensures)))
+    (omega arith, (refl, ap (some (is_entry a.missing a.u)) (take-used a.t1 a.n (omega arith) c.least.ensures)))
 
 entries-again : tie.Need-entries-preserved invariant-entries decreases-entries
 entries-again c =
@@ -34,7 +34,7 @@ entries-again c =
       omega arith,
       (
         l.1.0,
-        passed (isEntry a.missing a.u) a.t1 zeroIdentity d.entries-test.true (omega arith)
+        passed (is_entry a.missing a.u) a.t1 zero_identity d.entries-test.true (omega arith)
             (sym c.before.is-entry.ensures ∙ c.if1.false) l.1.1,
       ),
     )
@@ -43,13 +43,13 @@ returns : tie.Need-returns invariant-entries decreases-entries
 returns c =
     let a = c.before.before.before.args in
     let l = c.before.entries.invariant in
-    l.1.0 ∙ some_end c.entries-test.false (isEntry a.missing a.u) a.t1 l.1.1
+    l.1.0 ∙ some_end c.entries-test.false (is_entry a.missing a.u) a.t1 l.1.1
 
 returns-2 : tie.Need-returns-2 invariant-entries decreases-entries
 returns-2 c =
     let d = c.before.before.before in
     let a = d.before.before.before.args in
-    found (isEntry a.missing a.u) a.t1 zeroIdentity d.entries-test.true (omega arith)
+    found (is_entry a.missing a.u) a.t1 zero_identity d.entries-test.true (omega arith)
     (sym c.before.is-entry.ensures ∙ c.if1.true) d.before.entries.invariant.1.1
 
 pub is-one-of-spec : {M : Type 1} → statement M

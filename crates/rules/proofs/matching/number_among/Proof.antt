@@ -12,11 +12,11 @@ use borrow.Author.Rules.{rules}
 use borrow.Author.Tests.{eq-eqb, ne_eqb}
 use Rattle.bits.specs.Lists.{some}
 use Rattle.bits.proofs.Lists.{take-used}
-use Rattle.grammar.specs.SiteSheet.{entriesOf}
+use Rattle.grammar.specs.SiteSheet.{entries_of}
 use Rattle.grammar.specs.declared.site.Row.{Row}
 use Rattle.grammar.specs.declared.record.Number.{Number}
 use Rattle.grammar.proofs.Arrays.{numbers-length, each-digits-length}
-use Rattle.rules.specs.Matching.{same, is_number, numberAmong}
+use Rattle.rules.specs.Matching.{same, is_number, number_among}
 use Rattle.rules.proofs.Search.{passed, found, some_end, agrees, differs, same_end}
 use Rattle.rules.proofs.matching.number_among.Statement.{statement}
 use Rattle.rules.proofs.matching.number_among.Tie as tie
@@ -46,13 +46,13 @@ long c = numbers-length c.args.list _ c.well-formed.0
 whole : (c : tie.At-entries invariant-loop decreases-loop invariant-entries decreases-entries)
     → let a = c.before.before.before.before.before.before.before.args in
     some (is_number a.length.0 a.t3) (take c.before.before.before.least.result a.list.entries)
-    ≡ numberAmong a.list a.length.0 a.t3
-unfolding numberAmong
+    ≡ number_among a.list a.length.0 a.t3
+unfolding number_among
 whole c =
     let u = c.before.before.before in
     let s = u.before.before.before.before in
     ap (some (is_number s.args.length.0 s.args.t3))
-    (take-used s.args.list.entries (entriesOf s.args.list.code) (long s)
+    (take-used s.args.list.entries (entries_of s.args.list.code) (long s)
     (u.least.ensures ∙ ap (λ (r : Row). min r.entries 8) u.before.before.row_of.ensures))
 
 -- the entry at i, and the digits that its length uses

@@ -2,20 +2,20 @@
 use native.Mathlib.Omega.{arith}
 use borrow.Author.Rules.{rules}
 use borrow.Author.Tests.{le-leb}
-use Rattle.rules.specs.Request.{isDestination}
+use Rattle.rules.specs.Request.{is_destination}
 use Rattle.rules.proofs.request.is_destination.Statement.{statement}
 use Rattle.rules.proofs.request.is_destination.Tie as tie
 
 returns : tie.Need-returns
-unfolding isDestination
+unfolding is_destination
 returns c = rw (c.before.before.before.destination2.given.1, c.if1.true)
 
 returns-2 : tie.Need-returns-2
-unfolding isDestination
+unfolding is_destination
 returns-2 c = rw (c.before.before.destination.given.1, c.is-user.ensures)
 
 returns-3 : tie.Need-returns-3
-unfolding isDestination
+unfolding is_destination
 returns-3 c =
     let d = c.before.before.before.before.destination2.given in
     rw (d.1, le-leb 1 d.0.0.0 (omega arith))

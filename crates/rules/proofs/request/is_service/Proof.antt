@@ -1,22 +1,22 @@
 -- Each arm of the match is the definition's own case. Assumes nothing.
 use native.Mathlib.Omega.{arith}
 use borrow.Author.Tests.{le-leb, lt-leb}
-use Rattle.rules.specs.Request.{isService}
+use Rattle.rules.specs.Request.{is_service}
 use Rattle.rules.proofs.request.is_service.Statement.{statement}
 use Rattle.rules.proofs.request.is_service.Tie as tie
 
 returns : tie.Need-returns
-unfolding isService
+unfolding is_service
 returns c =
     let v = c.before.before.args.service in
     rw (le-leb 1 v (omega arith), le-leb v 3 (omega arith))
 
 returns-2 : tie.Need-returns-2
-unfolding isService
+unfolding is_service
 returns-2 c = rw (lt-leb 1 c.before.args.service (omega arith))
 
 returns-3 : tie.Need-returns-3
-unfolding isService
+unfolding is_service
 returns-3 c =
     let v = c.before.before.args.service in
     rw (le-leb 1 v (omega arith), lt-leb v 3 (omega arith))

@@ -3,51 +3,51 @@ use mathlib.Core.Path.{◌≡◌}
 use mathlib.Core.Bool.{true, ◌&&◌}
 use borrow.Author.Rules.{rules}
 use Rattle.bits.proofs.Tests.{said-no, said-yes}
-use Rattle.rules.specs.Request.{isUser, isService, isDestination, is_group, requestRefusal}
+use Rattle.rules.specs.Request.{is_user, is_service, is_destination, is_group, request_refusal}
 use Rattle.rules.proofs.request.request_refusal.Statement.{statement}
 use Rattle.rules.proofs.request.request_refusal.Tie as tie
 
 -- what the tests that were passed say
-user : (c : tie.Else1) → isUser c.before.before.before.args.request.user ≡ true
+user : (c : tie.Else1) → is_user c.before.before.before.args.request.user ≡ true
 user c = said-yes c.before.is-user.ensures c.if1.false
 
-served : (c : tie.Else2) → let r = c.before.before.before.before.before.args.request in isUser r.user && isService r.service ≡ true
+served : (c : tie.Else2) → let r = c.before.before.before.before.before.args.request in is_user r.user && is_service r.service ≡ true
 served c = rw (user c.before.before) (said-yes c.before.is-service.ensures c.if2.false)
 
 reached : (c : tie.Else3)
     → let r = c.before.before.before.before.before.before.before.args.request in
-    isUser r.user && isService r.service && isDestination r.destination ≡ true
+    is_user r.user && is_service r.service && is_destination r.destination ≡ true
 reached c = rw (served c.before.before) (said-yes c.before.is-destination.ensures c.if3.false)
 
 grouped : (c : tie.Else4)
     → let r = c.before.before.before.before.before.before.before.before.before.args.request in
-    isUser r.user && isService r.service && isDestination r.destination && is_group r.group ≡ true
+    is_user r.user && is_service r.service && is_destination r.destination && is_group r.group ≡ true
 grouped c = rw (reached c.before.before) (said-yes c.before.is-group.ensures c.if4.false)
 
 returns : tie.Need-returns
-unfolding requestRefusal
+unfolding request_refusal
 returns c = rw (said-no c.before.is-user.ensures c.if1.true)
 
 returns-2 : tie.Need-returns-2
-unfolding requestRefusal
+unfolding request_refusal
 returns-2 c = rw (user c.before.before, said-no c.before.is-service.ensures c.if2.true)
 
 returns-3 : tie.Need-returns-3
-unfolding requestRefusal
+unfolding request_refusal
 returns-3 c = rw (served c.before.before, said-no c.before.is-destination.ensures c.if3.true)
 
 returns-4 : tie.Need-returns-4
-unfolding requestRefusal
+unfolding request_refusal
 returns-4 c = rw (reached c.before.before, said-no c.before.is-group.ensures c.if4.true)
 
 returns-5 : tie.Need-returns-5
-unfolding requestRefusal
+unfolding request_refusal
 returns-5 c =
     let d = c.before.before in
     rw (grouped d.before.before, ← d.digits-used.ensures, said-no c.before.used-are-digits.ensures c.if5.true)
 
 returns-6 : tie.Need-returns-6
-unfolding requestRefusal
+unfolding request_refusal
 returns-6 c =
     let d = c.before.before.before.before in
     rw (
@@ -58,7 +58,7 @@ returns-6 c =
     )
 
 returns-7 : tie.Need-returns-7
-unfolding requestRefusal
+unfolding request_refusal
 returns-7 c =
     let d = c.before.before.before.before in
     rw (

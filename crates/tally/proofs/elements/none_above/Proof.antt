@@ -11,13 +11,13 @@ use lib.ListN.{take, drop, get_or, length-drop}
 use lib.Seq.{take-suc, get_or-drop}
 use lib.Dec.{leb}
 use Rattle.bits.specs.Lists.{every}
-use Rattle.tally.specs.Inner.{noneAbove}
-use Rattle.tally.proofs.Unused.{none-append}
+use Rattle.tally.specs.Inner.{none_above}
+use Rattle.tally.proofs.Unused.{none_append}
 use Rattle.tally.proofs.elements.none_above.Statement.{statement}
 use Rattle.tally.proofs.elements.none_above.Tie as tie
 
 abbrev invariant-loop : tie.invariant-loop
-invariant-loop words from count most none₀ i₀ none i = (i ≤ count) × (none ≡ noneAbove most (take i (drop from words)))
+invariant-loop words from count most none₀ i₀ none i = (i ≤ count) × (none ≡ none_above most (take i (drop from words)))
 
 abbrev decreases-loop : tie.decreases-loop
 decreases-loop words from count most none₀ i₀ none i = count - i
@@ -34,11 +34,11 @@ tested c =
     c.if1.branch
 
 loop-holds : tie.Need-loop-init invariant-loop decreases-loop
-unfolding noneAbove every
+unfolding none_above every
 loop-holds c = (omega arith, refl)
 
 loop-again : tie.Need-loop-preserved invariant-loop decreases-loop
-unfolding noneAbove every
+unfolding none_above every
 loop-again c =
     let l = c.before.before.before.loop in
     let a = c.before.before.before.before.args in
@@ -50,8 +50,8 @@ loop-again c =
     in (
       omega arith,
       tested c ∙ ap (λ (b : Bool). b && leb d a.most) l.invariant.1
-          ∙ ap (λ (b : Bool). noneAbove a.most (take l.i t) && b) (sym (and-true (leb d a.most)))
-          ∙ sym (ap (noneAbove a.most) last ∙ none-append a.most (take l.i t) (d ∷ [])),
+          ∙ ap (λ (b : Bool). none_above a.most (take l.i t) && b) (sym (and-true (leb d a.most)))
+          ∙ sym (ap (none_above a.most) last ∙ none_append a.most (take l.i t) (d ∷ [])),
     )
 
 returns : tie.Need-returns invariant-loop decreases-loop
@@ -59,7 +59,7 @@ returns c =
     let l = c.before.loop in
     let a = c.before.before.args in
     let all : l.i ≡ a.count = omega arith in
-    l.invariant.1 ∙ ap (λ (n : ℕ). noneAbove a.most (take n (drop a.from a.words.now))) all
+    l.invariant.1 ∙ ap (λ (n : ℕ). none_above a.most (take n (drop a.from a.words.now))) all
 
 pub none-above-spec : {M : Type 1} → statement M
 none-above-spec =

@@ -12,7 +12,7 @@ returns c =
     let d = c.before.before in
     let a = d.before.before.args in
     element-is a.start a.value a.width a.refusal
-    (d.first-refusal.ensures ∙ ap (λ (n : ℕ). first n a.refusal) d.before.width-refusal.ensures)
+    (d.first_refusal.ensures ∙ ap (λ (n : ℕ). first n a.refusal) d.before.width-refusal.ensures)
     c.before.first-refusal2.ensures
 
 pub tally-element-spec : {M : Type 1} → statement M

@@ -6,16 +6,16 @@ use borrow.Author.Rules.{rules}
 use borrow.Author.Tests.{ltb-true}
 use lib.Dec.{ltb}
 use Rattle.bits.proofs.Tests.{false-unless}
-use Rattle.codec.specs.Parts.{numberFault}
-use Rattle.tally.proofs.Parts.{in-width}
+use Rattle.codec.specs.Parts.{number_fault}
+use Rattle.tally.proofs.Parts.{in_width}
 use Rattle.tally.proofs.elements.width_refusal.Statement.{statement}
 use Rattle.tally.proofs.elements.width_refusal.Tie as tie
 
-wide : (w v : ℕ) → (v / 2 ^ w ≡ 0 → ⊥) → 3 ≡ numberFault w v
+wide : (w v : ℕ) → (v / 2 ^ w ≡ 0 → ⊥) → 3 ≡ number_fault w v
 wide w v h = rw (false-unless (ltb v (2 ^ w)) (λ e. h (div-eq_of_lt (ltb-true v (2 ^ w) e))))
 
 returns : tie.Need-returns
-returns c = sym (in-width c.before.args.width c.before.args.value c.if1.true)
+returns c = sym (in_width c.before.args.width c.before.args.value c.if1.true)
 
 returns-2 : tie.Need-returns-2
 returns-2 c = wide c.before.args.width c.before.args.value c.if1.false

@@ -8,7 +8,7 @@ use borrow.Author.Tests.{eqb-true}
 use lib.ListN.{drop, get_or}
 use Rattle.bits.proofs.Tests.{never}
 use Rattle.grammar.specs.declared.record.Identity.{Identity}
-use Rattle.words.specs.RecordWords.{identityFrom}
+use Rattle.words.specs.RecordWords.{identity_from}
 use Rattle.tally.specs.Inner.{Plain}
 use Rattle.tally.proofs.Alike.{none_other}
 use Rattle.tally.proofs.identities.are_alike.Statement.{statement}
@@ -16,7 +16,7 @@ use Rattle.tally.proofs.identities.are_alike.Tie as tie
 
 abbrev invariant-loop : tie.invariant-loop
 invariant-loop words from n present size other₀ place₀ i₀ other place i =
-    (i ≤ n) × (place ≡ from + 3 * i) × (other ≡ 0 → (k : ℕ) → k < i → Plain present (identityFrom (drop (from + 3 * k) words)))
+    (i ≤ n) × (place ≡ from + 3 * i) × (other ≡ 0 → (k : ℕ) → k < i → Plain present (identity_from (drop (from + 3 * k) words)))
 
 abbrev decreases-loop : tie.decreases-loop
 decreases-loop words from n present size other₀ place₀ i₀ other place i = n - i
@@ -27,8 +27,8 @@ loop-again c =
     let l = f.before.before.loop in
     let a = f.before.before.before.before.before.before.before.args in
     let words = a.words.now in
-    let here : f.identity-from.result ≡ identityFrom (drop (a.from + 3 * l.i) words) =
-    f.identity-from.ensures ∙ ap (λ (k : ℕ). identityFrom (drop k words)) l.invariant.1 in (
+    let here : f.identity-from.result ≡ identity_from (drop (a.from + 3 * l.i) words) =
+    f.identity-from.ensures ∙ ap (λ (k : ℕ). identity_from (drop k words)) l.invariant.1 in (
       omega arith,
       omega (arith, l.invariant.1),
       λ e. let h = none_other _ _ f.identity-from.result e in

@@ -2,13 +2,13 @@
 use mathlib.Core.Path.{sym}
 use borrow.Author.Rules.{rules}
 use lib.Seq.{get_or-drop}
-use Rattle.words.specs.RecordWords.{identityFrom}
+use Rattle.words.specs.RecordWords.{identity_from}
 use Rattle.words.proofs.Filling.{first_word}
 use Rattle.tally.proofs.identities.identity_from.Statement.{statement}
 use Rattle.tally.proofs.identities.identity_from.Tie as tie
 
 returns : tie.Need-returns
-unfolding identityFrom
+unfolding identity_from
 returns c =
     let a = c.before.before.before.args in
     let w = a.words.now in

@@ -1,8 +1,8 @@
 -- Entry by entry, then the words that are not used. Assumes nothing.
 use mathlib.Core.Path.{◌≡◌}
 use Prim.Native.Nat.{◌+◌, ◌-◌, ◌*◌}
-use Rattle.grammar.specs.Grammar.{identity, noIdentity}
-use Rattle.words.specs.RecordWords.{identityFrom}
+use Rattle.grammar.specs.Grammar.{identity, no_identity}
+use Rattle.words.specs.RecordWords.{identity_from}
 use Rattle.tally.proofs.Unused.{uncarried-identity}
 use Rattle.tally.proofs.Entries.{Tallying, tallying-start, tallying-fits, tallying-next, tallying-done}
 use borrow.Author.Rules.{rules}
@@ -11,7 +11,7 @@ use Rattle.tally.proofs.identities.tally_mixed_entries.Statement.{statement}
 use Rattle.tally.proofs.identities.tally_mixed_entries.Tie as tie
 
 abbrev invariant-loop : tie.invariant-loop
-invariant-loop words from n end sum₀ place₀ i₀ sum place i = Tallying identity noIdentity identityFrom 3 8 n words from sum₀ i place sum
+invariant-loop words from n end sum₀ place₀ i₀ sum place i = Tallying identity no_identity identity_from 3 8 n words from sum₀ i place sum
 
 abbrev decreases-loop : tie.decreases-loop
 decreases-loop words from n end sum₀ place₀ i₀ sum place i = n - i

@@ -3,7 +3,7 @@ use mathlib.Core.Path.{◌≡◌, ◌∙◌, ap}
 use Prim.Native.Nat.{◌+◌, min}
 use Rattle.codec.specs.Codec.{first}
 use Rattle.words.specs.RecordWords.{narrow}
-use Rattle.tally.proofs.Digits.{digits-fit, digits-tallied}
+use Rattle.tally.proofs.Digits.{digits-fit, digits_tallied}
 use borrow.Author.Rules.{rules}
 use native.Mathlib.Omega.{arith}
 use Rattle.tally.proofs.numbers.tally_digits.Statement.{statement}
@@ -34,9 +34,9 @@ returns c =
     let b = t.before.before.before in
     let a = b.args in
     let u = t.before in
-    digits-tallied a.words.now (narrow a.n) a.from u.least.result b.requires.0 (few u)
+    digits_tallied a.words.now (narrow a.n) a.from u.least.result b.requires.0 (few u)
     t.are-legal.ensures s.none_above.ensures r.both.ensures
-    (p.first-refusal.ensures ∙ ap (first a.start.refusal) q.refusal-unless.ensures)
+    (p.first_refusal.ensures ∙ ap (first a.start.refusal) q.refusal-unless.ensures)
     (ap (◌+◌ a.start.bits) c.before.before.bits.ensures)
 
 pub tally-digits-spec : {M : Type 1} → statement M

@@ -1,5 +1,5 @@
 -- The length, and as many digits. Assumes nothing.
-use Rattle.grammar.specs.SiteSheet.{lengthRefusal}
+use Rattle.grammar.specs.SiteSheet.{length_refusal}
 use Rattle.grammar.specs.Grammar.{external}
 use Rattle.tally.specs.Inner.{Fits}
 use Rattle.tally.proofs.Parts.{then, shape, fits-element, fits-first, fits_next, fits-shape}
@@ -17,7 +17,7 @@ tally-element-requires : tie.Need-tally-element-requires
 unfolding external
 tally-element-requires c κs =
     let p = c.before.before.before in
-    (omega arith, fits-element 5 lengthRefusal (fits-first _ (fits-shape _ _ _ _ (fits p))))
+    (omega arith, fits-element 5 length_refusal (fits-first _ (fits-shape _ _ _ _ (fits p))))
 
 tally-digits-requires : tie.Need-tally-digits-requires
 unfolding external

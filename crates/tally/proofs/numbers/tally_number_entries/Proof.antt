@@ -1,8 +1,8 @@
 -- Entry by entry, then the words that are not used. Assumes nothing.
 use mathlib.Core.Path.{◌≡◌}
 use Prim.Native.Nat.{◌+◌, ◌-◌, ◌*◌}
-use Rattle.grammar.specs.Grammar.{external, noExternal}
-use Rattle.words.specs.RecordWords.{numberFrom}
+use Rattle.grammar.specs.Grammar.{external, no_external}
+use Rattle.words.specs.RecordWords.{number_from}
 use Rattle.tally.proofs.Unused.{uncarried-number}
 use Rattle.tally.proofs.Entries.{Tallying, tallying-start, tallying-fits, tallying-next, tallying-done}
 use borrow.Author.Rules.{rules}
@@ -11,7 +11,7 @@ use Rattle.tally.proofs.numbers.tally_number_entries.Statement.{statement}
 use Rattle.tally.proofs.numbers.tally_number_entries.Tie as tie
 
 abbrev invariant-loop : tie.invariant-loop
-invariant-loop words from n end sum₀ place₀ i₀ sum place i = Tallying external noExternal numberFrom 25 8 n words from sum₀ i place sum
+invariant-loop words from n end sum₀ place₀ i₀ sum place i = Tallying external no_external number_from 25 8 n words from sum₀ i place sum
 
 abbrev decreases-loop : tie.decreases-loop
 decreases-loop words from n end sum₀ place₀ i₀ sum place i = n - i

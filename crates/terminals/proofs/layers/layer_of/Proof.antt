@@ -1,31 +1,31 @@
 -- Each arm of the match is the definition's own case. Assumes nothing.
 use borrow.Author.Tests.{ne_eqb}
-use Rattle.terminals.specs.Layers.{layerAt}
+use Rattle.terminals.specs.Layers.{layer_at}
 use Rattle.terminals.proofs.layers.layer_of.Statement.{statement}
 use Rattle.terminals.proofs.layers.layer_of.Tie as tie
 
 returns : tie.Need-returns
-unfolding layerAt
+unfolding layer_at
 returns c = rw c.match.keys1
 
 returns-2 : tie.Need-returns-2
-unfolding layerAt
+unfolding layer_at
 returns-2 c = rw c.match.keys2
 
 returns-3 : tie.Need-returns-3
-unfolding layerAt
+unfolding layer_at
 returns-3 c = rw c.match.keys3
 
 returns-4 : tie.Need-returns-4
-unfolding layerAt
+unfolding layer_at
 returns-4 c = rw c.match.keys4
 
 returns-5 : tie.Need-returns-5
-unfolding layerAt
+unfolding layer_at
 returns-5 c = rw c.match.keys5
 
 returns-6 : tie.Need-returns-6
-unfolding layerAt
+unfolding layer_at
 returns-6 c =
     let v = c.before.args.layer in
     let m = c.match.rest in

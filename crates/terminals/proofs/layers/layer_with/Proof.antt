@@ -3,21 +3,21 @@ use mathlib.Core.Path.{◌≡◌, ap}
 use Prim.Native.Nat.{ℕ, ◌+◌, ◌-◌, ◌≤◌, ◌<◌}
 use native.Mathlib.Omega.{arith}
 use borrow.Author.Rules.{rules}
-use Rattle.terminals.specs.Layers.{layerAt}
+use Rattle.terminals.specs.Layers.{layer_at}
 use Rattle.terminals.specs.declared.layers.Layer.{Layer}
 use Rattle.terminals.proofs.Places.{ends, goes_on}
 use Rattle.terminals.proofs.layers.layer_with.Statement.{statement}
 use Rattle.terminals.proofs.layers.layer_with.Tie as tie
 
 abbrev invariant-loop : tie.invariant-loop
-invariant-loop place layer₀ row₀ layer row = (layer ≤ 4) × (row ≡ layerAt layer) × ((layerAt layer).start ≤ place) × (place < 269)
+invariant-loop place layer₀ row₀ layer row = (layer ≤ 4) × (row ≡ layer_at layer) × ((layer_at layer).start ≤ place) × (place < 269)
 
 abbrev decreases-loop : tie.decreases-loop
 decreases-loop place layer₀ row₀ layer row = 4 - layer
 
 -- the first one starts with the table
-starts : {i : ℕ} → (layerAt 0).start ≤ i
-unfolding layerAt
+starts : {i : ℕ} → (layer_at 0).start ≤ i
+unfolding layer_at
 starts = omega arith
 
 loop-holds : tie.Need-loop-init invariant-loop decreases-loop
@@ -31,12 +31,12 @@ add-layer c = omega arith
 
 -- there is another layer
 passed : (c : tie.Then1 invariant-loop decreases-loop)
-    → (layerAt c.before.before.loop.layer).start + (layerAt
+    → (layer_at c.before.before.loop.layer).start + (layer_at
     c.before.before.loop.layer).count ≤ c.before.before.before.before.args.place
 passed c = let e = ap (λ (r : Layer). r.start + r.count) c.before.before.loop.invariant.1 in omega (arith, c.if1.true)
 
 abbrev Turn : ℕ → Type 0
-Turn l = (l < 4) × ((layerAt (l + 1)).start ≡ (layerAt l).start + (layerAt l).count)
+Turn l = (l < 4) × ((layer_at (l + 1)).start ≡ (layer_at l).start + (layer_at l).count)
 
 turn : (c : tie.Then1 invariant-loop decreases-loop) → Turn c.before.before.loop.layer
 turn c =

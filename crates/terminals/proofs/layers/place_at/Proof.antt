@@ -7,7 +7,7 @@ use borrow.Author.Rules.{rules}
 use borrow.Author.Tests.{not-true, not-false}
 use Rattle.bits.specs.Bits.{pick}
 use lib.ListN.{get_or}
-use Rattle.terminals.specs.Layers.{layerAt, places, nowhere}
+use Rattle.terminals.specs.Layers.{layer_at, places, nowhere}
 use Rattle.terminals.specs.declared.layers.Layer.{Layer}
 use Rattle.terminals.specs.declared.layers.Place.{Place}
 use Rattle.terminals.specs.declared.layers.Third.TheVariants.{Given, Missing}
@@ -16,27 +16,27 @@ use Rattle.terminals.proofs.layers.place_at.Statement.{statement}
 use Rattle.terminals.proofs.layers.place_at.Tie as tie
 
 -- the values of every layer are small
-first_small : (l : ℕ) → l ≤ 4 → (layerAt l).first ≤ 20
-unfolding layerAt
-first_small = each (λ l. (layerAt l).first ≤ 20) (omega arith) (omega arith) (omega arith) (omega arith) (omega arith)
+first_small : (l : ℕ) → l ≤ 4 → (layer_at l).first ≤ 20
+unfolding layer_at
+first_small = each (λ l. (layer_at l).first ≤ 20) (omega arith) (omega arith) (omega arith) (omega arith) (omega arith)
 
 -- the place, by the row that was found
-abbrev placeBy : ℕ → ℕ → Layer → Place
-placeBy l i row = pick row.named (record { layer = l; third = Given (row.first + (i - row.start)) }) (record { layer = l; third = Missing })
+abbrev place_by : ℕ → ℕ → Layer → Place
+place_by l i row = pick row.named (record { layer = l; third = Given (row.first + (i - row.start)) }) (record { layer = l; third = Missing })
 
 -- by a row that is named or not
 by_row : (l i : ℕ) (b : Bool) (row : Layer) → row.named ≡ b
-    → pick b (record { layer = l; third = Given (row.first + (i - row.start)) }) (record { layer = l; third = Missing }) ≡ placeBy l i row
+    → pick b (record { layer = l; third = Given (row.first + (i - row.start)) }) (record { layer = l; third = Missing }) ≡ place_by l i row
 by_row l i b row e =
     ap (λ (x : Bool). pick x (record { layer = l; third = Given (row.first + (i - row.start)) }) (record { layer = l; third = Missing })) (sym e)
 
 found : (c : tie.After-layer-of)
-    → placeBy c.before.layer-with.result c.before.before.args.index c.layer-of.result
+    → place_by c.before.layer-with.result c.before.before.args.index c.layer-of.result
     ≡ get_or places c.before.before.args.index nowhere
 found c =
     let l = c.before.layer-with.result in
     let i = c.before.before.args.index in
-    ap (placeBy l i) c.layer-of.ensures ∙ sym (place_at l i c.before.layer-with.ensures)
+    ap (place_by l i) c.layer-of.ensures ∙ sym (place_at l i c.before.layer-with.ensures)
 
 returns : tie.Need-returns
 returns c = let d = c.before.before in by_row _ d.before.before.args.index false d.layer-of.result (not-true _ c.if1.true) ∙ found d

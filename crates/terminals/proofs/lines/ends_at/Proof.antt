@@ -6,7 +6,7 @@ use native.Mathlib.Omega.{arith}
 use borrow.Author.Rules.{rules}
 use lib.ListN.{length, take, drop, length-drop}
 use lib.Seq.{take_all}
-use Rattle.terminals.specs.Lines.{sameBytes, ends_at}
+use Rattle.terminals.specs.Lines.{same_bytes, ends_at}
 use Rattle.terminals.proofs.Bytes.{end-over}
 use Rattle.terminals.proofs.lines.ends_at.Statement.{statement}
 use Rattle.terminals.proofs.lines.ends_at.Tie as tie
@@ -23,7 +23,7 @@ returns-2 : tie.Need-returns-2
 unfolding ends_at
 returns-2 c =
     let a = c.before.before.before.before.before.args in
-    c.same_bytes.ensures ∙ ap (λ (t : List ℕ). sameBytes t (13 ∷ [])) (whole a.line.now a.at)
+    c.same_bytes.ensures ∙ ap (λ (t : List ℕ). same_bytes t (13 ∷ [])) (whole a.line.now a.at)
 
 pub ends-at-spec : {M : Type 1} → statement M
 ends-at-spec =

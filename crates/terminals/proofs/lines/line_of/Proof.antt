@@ -7,7 +7,7 @@ use native.Mathlib.Omega.{arith}
 use borrow.Author.Rules.{rules}
 use lib.ListN.{length, take, length-take}
 use Rattle.bits.proofs.Tests.{said-no, said-yes}
-use Rattle.terminals.specs.Lines.{setWord, readLine, sameBytes}
+use Rattle.terminals.specs.Lines.{set_word, read_line, same_bytes}
 use Rattle.terminals.proofs.Bytes.{other_length}
 use Rattle.terminals.proofs.Steps.{reads-read, reads_none, reads-set}
 use Rattle.terminals.proofs.lines.line_of.Statement.{statement}
@@ -19,12 +19,12 @@ line-in c = c.before.before.before.args.line.now
 returns : tie.Need-returns
 returns c = let b = c.before in sym (reads-read (line-in b) (sym b.same_bytes.ensures ∙ c.if1.true))
 
-no_read : (c : tie.Else1) → sameBytes (line-in c.before) readLine ≡ false
+no_read : (c : tie.Else1) → same_bytes (line-in c.before) read_line ≡ false
 no_read c = sym c.before.same_bytes.ensures ∙ c.if1.false
 
 -- a line of fewer bytes than the word
-too_short : (s : List ℕ) → length s < 8 → sameBytes (take 8 s) setWord ≡ false
-too_short s h = other_length (take 8 s) setWord (λ e. omega (arith, length-take 8 s))
+too_short : (s : List ℕ) → length s < 8 → same_bytes (take 8 s) set_word ≡ false
+too_short s h = other_length (take 8 s) set_word (λ e. omega (arith, length-take 8 s))
 
 returns-2 : tie.Need-returns-2
 returns-2 c = let o = c.before in sym (reads_none (line-in o.before) (no_read o) (too_short (line-in o.before) c.if2.true))

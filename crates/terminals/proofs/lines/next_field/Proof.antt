@@ -4,17 +4,17 @@ use native.Mathlib.Omega.{arith}
 use borrow.Author.Rules.{rules}
 use borrow.Author.Tests.{eq-eqb, ne_eqb}
 use lib.ListN.{get_or}
-use Rattle.terminals.specs.Lines.{nextField}
+use Rattle.terminals.specs.Lines.{next_field}
 use Rattle.terminals.proofs.Bytes.{comma-at, comma-over}
 use Rattle.terminals.proofs.lines.next_field.Statement.{statement}
 use Rattle.terminals.proofs.lines.next_field.Tie as tie
 
 returns : tie.Need-returns
-unfolding nextField
+unfolding next_field
 returns c = let a = c.before.before.args in rw (comma-over a.line.now a.at c.if1.true)
 
 returns-2 : tie.Need-returns-2
-unfolding nextField
+unfolding next_field
 returns-2 c =
     let d = c.before.before in
     let a = d.before.before.args in
@@ -22,7 +22,7 @@ returns-2 c =
     rw (comma-at s a.at d.if1.false ∙ ne_eqb (get_or s a.at 0) 44 c.if2.true)
 
 returns-3 : tie.Need-returns-3
-unfolding nextField
+unfolding next_field
 returns-3 c =
     let e = c.before in
     let d = e.before.before in

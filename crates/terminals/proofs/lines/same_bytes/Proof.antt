@@ -4,13 +4,13 @@ use Prim.Native.Nat.{◌+◌, ◌-◌, ◌≤◌}
 use native.Mathlib.Omega.{arith}
 use borrow.Author.Tests.{eq-eqb, ne_eqb}
 use lib.ListN.{length, get_or, drop}
-use Rattle.terminals.specs.Lines.{sameBytes}
+use Rattle.terminals.specs.Lines.{same_bytes}
 use Rattle.terminals.proofs.Bytes.{other_length, same_next, same_over}
 use Rattle.terminals.proofs.lines.same_bytes.Statement.{statement}
 use Rattle.terminals.proofs.lines.same_bytes.Tie as tie
 
 abbrev invariant-loop : tie.invariant-loop
-invariant-loop s t i₀ i = (i ≤ length s) × (length s ≡ length t) × (sameBytes s t ≡ sameBytes (drop i s) (drop i t))
+invariant-loop s t i₀ i = (i ≤ length s) × (length s ≡ length t) × (same_bytes s t ≡ same_bytes (drop i s) (drop i t))
 
 abbrev decreases-loop : tie.decreases-loop
 decreases-loop s t i₀ i = length s - i
@@ -37,7 +37,7 @@ loop-again c =
     let s = l.before.before.args.s.now in
     let t = l.before.before.args.t.now in
     let i = l.loop.i in
-    let e : sameBytes (drop i s) (drop i t) ≡ sameBytes (drop (i + 1) s) (drop (i + 1) t) =
+    let e : same_bytes (drop i s) (drop i t) ≡ same_bytes (drop (i + 1) s) (drop (i + 1) t) =
     same_next s t i test.loop-test.true (omega arith) ∙ rw (eq-eqb (get_or s i 0) (get_or t i 0) c.if2.false) in
     (omega arith, l.loop.invariant.1, l.loop.invariant.2 ∙ e)
 

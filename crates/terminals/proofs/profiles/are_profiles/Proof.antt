@@ -4,13 +4,13 @@ use Prim.Native.Nat.{◌+◌, ◌-◌, ◌≤◌}
 use native.Mathlib.Omega.{arith}
 use borrow.Author.Tests.{le-leb, lt-leb}
 use lib.ListN.{length, drop}
-use Rattle.terminals.specs.Profiles.{areProfiles}
+use Rattle.terminals.specs.Profiles.{are_profiles}
 use Rattle.terminals.proofs.Storing.{profile-next, profile-none}
 use Rattle.terminals.proofs.profiles.are_profiles.Statement.{statement}
 use Rattle.terminals.proofs.profiles.are_profiles.Tie as tie
 
 abbrev invariant-loop : tie.invariant-loop
-invariant-loop table i₀ i = (i ≤ length table) × (areProfiles table ≡ areProfiles (drop i table))
+invariant-loop table i₀ i = (i ≤ length table) × (are_profiles table ≡ are_profiles (drop i table))
 
 abbrev decreases-loop : tie.decreases-loop
 decreases-loop table i₀ i = length table - i
@@ -37,7 +37,7 @@ loop-again : tie.Need-loop-preserved invariant-loop decreases-loop
 loop-again c =
     let l = c.before.before.before in
     let t = l.before.args.table.now in
-    let e : areProfiles (drop l.loop.i t) ≡ areProfiles (drop (l.loop.i + 1) t) =
+    let e : are_profiles (drop l.loop.i t) ≡ are_profiles (drop (l.loop.i + 1) t) =
     profile-next t l.loop.i c.before.before.loop-test.true ∙ rw (le-leb _ _ c.if1.false) in
     (omega arith, l.loop.invariant.1 ∙ e)
 

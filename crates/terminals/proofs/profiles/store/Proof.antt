@@ -5,7 +5,7 @@ use native.Mathlib.Omega.{arith}
 use borrow.Author.Rules.{rules}
 use lib.ListN.{replicate}
 use Rattle.bits.specs.Bits.{splice}
-use Rattle.terminals.specs.Layers.{layerAt}
+use Rattle.terminals.specs.Layers.{layer_at}
 use Rattle.terminals.specs.declared.layers.Layer.{Layer}
 use Rattle.terminals.specs.declared.lines.Fields.{Fields}
 use Rattle.terminals.proofs.Places.{ends}
@@ -21,11 +21,11 @@ fits : (c : tie.After-layer-of) → Settled (fields-of c)
 fits c = settled (fields-of c) c.before.before.requires.0
 
 -- the value that the third field says
-given : (c : tie.After-third) → Value (layerAt (fields-of c.before.before.before).layer) c.third.given.0.0
+given : (c : tie.After-third) → Value (layer_at (fields-of c.before.before.before).layer) c.third.given.0.0
 given c =
     let d = c.before.before.before in
     let f = fits d in
-    value_of (layerAt (fields-of d).layer) (fields-of d).third c.third.given.1 f.value f.taken
+    value_of (layer_at (fields-of d).layer) (fields-of d).third c.third.given.1 f.value f.taken
 
 -- where its place stands
 place_is : (c : tie.After-third) → let row = c.before.before.before.layer-of.result in let x = c.third.given.0.0 in

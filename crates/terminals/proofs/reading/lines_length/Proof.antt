@@ -5,7 +5,7 @@ use native.Mathlib.Omega.{arith}
 use borrow.Author.Rules.{rules}
 use lib.ListN.{length, get_or, drop, length-append}
 use Rattle.terminals.specs.Layers.{places, nowhere}
-use Rattle.terminals.specs.Reading.{lineText, linesText}
+use Rattle.terminals.specs.Reading.{line_text, lines_text}
 use Rattle.terminals.specs.declared.layers.Place.{Place}
 use Rattle.terminals.proofs.Texts.{lines_next, lines-over}
 use Rattle.terminals.proofs.reading.lines_length.Statement.{statement}
@@ -13,7 +13,7 @@ use Rattle.terminals.proofs.reading.lines_length.Tie as tie
 
 abbrev invariant-loop : tie.invariant-loop
 invariant-loop table size₀ index₀ size index =
-    (index ≤ 269) × (size ≤ 64 * index) × (size + length (linesText (drop index places) (drop index table)) ≡ length (linesText places table))
+    (index ≤ 269) × (size ≤ 64 * index) × (size + length (lines_text (drop index places) (drop index table)) ≡ length (lines_text places table))
 
 abbrev decreases-loop : tie.decreases-loop
 decreases-loop table size₀ index₀ size index = 269 - index
@@ -24,12 +24,12 @@ loop-again c =
     let l = place.before.before in
     let t = l.before.before.args.table.now in
     let i = l.loop.index in
-    let rest = linesText (drop (i + 1) places) (drop (i + 1) t) in
-    let here : length (lineText (get_or t i 0) place.place_at.result) ≡ length (lineText (get_or t i 0) (get_or places i nowhere)) =
-    ap (λ (p : Place). length (lineText (get_or t i 0) p)) place.place_at.ensures in
-    let next : length (linesText (drop i places) (drop i t)) ≡ length (lineText (get_or t i 0) (get_or places i nowhere)) + length rest =
+    let rest = lines_text (drop (i + 1) places) (drop (i + 1) t) in
+    let here : length (line_text (get_or t i 0) place.place_at.result) ≡ length (line_text (get_or t i 0) (get_or places i nowhere)) =
+    ap (λ (p : Place). length (line_text (get_or t i 0) p)) place.place_at.ensures in
+    let next : length (lines_text (drop i places) (drop i t)) ≡ length (line_text (get_or t i 0) (get_or places i nowhere)) + length rest =
     ap length (lines_next t i l.before.before.requires place.before.loop-test.true)
-    ∙ length-append (lineText (get_or t i 0) (get_or places i nowhere)) rest
+    ∙ length-append (line_text (get_or t i 0) (get_or places i nowhere)) rest
     in
     (omega arith, omega (arith, c.line-length.ensures.1), omega (arith, c.line-length.ensures.0))
 
@@ -37,7 +37,7 @@ returns : tie.Need-returns invariant-loop decreases-loop
 returns c =
     let l = c.before in
     let t = l.before.before.args.table.now in
-    let over : length (linesText (drop l.loop.index places) (drop l.loop.index t)) ≡ 0 =
+    let over : length (lines_text (drop l.loop.index places) (drop l.loop.index t)) ≡ 0 =
     ap length (lines-over t l.loop.index l.before.before.requires c.loop-test.false) in
     (omega arith, omega arith)
 

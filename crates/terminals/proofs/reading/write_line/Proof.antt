@@ -7,7 +7,7 @@ use borrow.Author.Rules.{rules}
 use lib.ListN.{length}
 use Rattle.bits.specs.Inner.{Laid}
 use Rattle.bits.proofs.Laying.{none, then, first_fits, rest-fits}
-use Rattle.terminals.specs.Reading.{comma, item, placeText, lineText}
+use Rattle.terminals.specs.Reading.{comma, item, place_text, line_text}
 use Rattle.terminals.specs.declared.layers.Place.{Place}
 use Rattle.terminals.proofs.Texts.{off-line, no_line}
 use Rattle.terminals.proofs.reading.write_line.Statement.{statement}
@@ -21,9 +21,9 @@ returns c =
 
 -- the rest of the line, and the room for both
 abbrev rest : Place → List ℕ
-rest p = placeText p.layer p.third
+rest p = place_text p.layer p.third
 
-line-is : (c : tie.Else1) → let a = c.before.before.args in lineText a.profile a.place ≡ item a.profile comma ++ rest a.place
+line-is : (c : tie.Else1) → let a = c.before.before.args in line_text a.profile a.place ≡ item a.profile comma ++ rest a.place
 line-is c = let a = c.before.before.args in off-line a.profile a.place c.if1.false
 
 room : (c : tie.Else1) → let a = c.before.before.args in a.at + length (item a.profile comma ++ rest a.place) ≤ length a.out.now

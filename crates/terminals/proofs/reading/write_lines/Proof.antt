@@ -7,7 +7,7 @@ use lib.ListN.{length, get_or, drop}
 use Rattle.bits.specs.Inner.{Laid}
 use Rattle.bits.proofs.Laying.{then, none, first_fits, rest-fits}
 use Rattle.terminals.specs.Layers.{places}
-use Rattle.terminals.specs.Reading.{lineText, linesText}
+use Rattle.terminals.specs.Reading.{line_text, lines_text}
 use Rattle.terminals.specs.declared.layers.Place.{Place}
 use Rattle.terminals.proofs.Texts.{lines_next, lines-over}
 use Rattle.terminals.proofs.reading.write_lines.Statement.{statement}
@@ -15,9 +15,9 @@ use Rattle.terminals.proofs.reading.write_lines.Tie as tie
 
 abbrev invariant-loop : tie.invariant-loop
 invariant-loop table out₀ start at₀ index₀ out at index =
-    (index ≤ 269) × (length out ≡ length out₀) × (at + length (linesText (drop index places) (drop index table)) ≤ length out)
-    × ((out' : List ℕ) (end : ℕ) → Laid out at (linesText (drop index places) (drop index table)) out' end
-    → Laid out₀ start (linesText places table) out' end)
+    (index ≤ 269) × (length out ≡ length out₀) × (at + length (lines_text (drop index places) (drop index table)) ≤ length out)
+    × ((out' : List ℕ) (end : ℕ) → Laid out at (lines_text (drop index places) (drop index table)) out' end
+    → Laid out₀ start (lines_text places table) out' end)
 
 abbrev decreases-loop : tie.decreases-loop
 decreases-loop table out₀ start at₀ index₀ out at index = 269 - index
@@ -27,18 +27,18 @@ abbrev table_of : tie.At-loop invariant-loop decreases-loop → List ℕ
 table_of c = c.before.before.before.args.table.now
 
 abbrev others : tie.At-loop invariant-loop decreases-loop → List ℕ
-others c = linesText (drop (c.loop.index + 1) places) (drop (c.loop.index + 1) (table_of c))
+others c = lines_text (drop (c.loop.index + 1) places) (drop (c.loop.index + 1) (table_of c))
 
 -- the line at hand
 abbrev this : tie.After-place-at invariant-loop decreases-loop → List ℕ
-this c = let l = c.before.before in lineText (get_or (table_of l) l.loop.index 0) c.place_at.result
+this c = let l = c.before.before in line_text (get_or (table_of l) l.loop.index 0) c.place_at.result
 
 turn : (c : tie.After-place-at invariant-loop decreases-loop) → let l = c.before.before in
-    linesText (drop l.loop.index places) (drop l.loop.index (table_of l)) ≡ this c ++ others l
+    lines_text (drop l.loop.index places) (drop l.loop.index (table_of l)) ≡ this c ++ others l
 turn c =
     let l = c.before.before in
     lines_next (table_of l) l.loop.index l.before.before.before.requires.0 c.before.loop-test.true
-    ∙ ap (λ (p : Place). lineText (get_or (table_of l) l.loop.index 0) p ++ others l) (sym c.place_at.ensures)
+    ∙ ap (λ (p : Place). line_text (get_or (table_of l) l.loop.index 0) p ++ others l) (sym c.place_at.ensures)
 
 room : (c : tie.After-place-at invariant-loop decreases-loop) → let l = c.before.before in l.loop.at + length (this c ++ others l) ≤ length l.loop.out
 room c =

@@ -7,30 +7,30 @@ use borrow.Author.Rules.{rules}
 use lib.ListN.{length}
 use Rattle.bits.specs.Inner.{Laid}
 use Rattle.bits.proofs.Laying.{then, first_fits, rest-fits}
-use Rattle.terminals.specs.Reading.{comma, lineEnd, item, placeText}
+use Rattle.terminals.specs.Reading.{comma, line_end, item, place_text}
 use Rattle.terminals.specs.declared.layers.Third.TheVariants.{Given, Missing}
 use Rattle.terminals.proofs.reading.write_place.Statement.{statement}
 use Rattle.terminals.proofs.reading.write_place.Tie as tie
 
 -- what is written where the third field is missing, and where it is given
-missing : (l : ℕ) → placeText l Missing ≡ item l lineEnd
-unfolding placeText
+missing : (l : ℕ) → place_text l Missing ≡ item l line_end
+unfolding place_text
 missing l = refl
 
-given : (l x : ℕ) → placeText l (Given x) ≡ item l comma ++ item x lineEnd
-unfolding placeText
+given : (l x : ℕ) → place_text l (Given x) ≡ item l comma ++ item x line_end
+unfolding place_text
 given l x = refl
 
 text-is : (c : tie.After-third) → let a = c.before.before.before.args in
-    placeText a.layer a.third ≡ item a.layer comma ++ item c.third.given.0.0 lineEnd
-text-is c = let a = c.before.before.before.args in ap (placeText a.layer) c.third.given.1 ∙ given a.layer c.third.given.0.0
+    place_text a.layer a.third ≡ item a.layer comma ++ item c.third.given.0.0 line_end
+text-is c = let a = c.before.before.before.args in ap (place_text a.layer) c.third.given.1 ∙ given a.layer c.third.given.0.0
 
 room : (c : tie.After-third) → let a = c.before.before.before.args in
-    a.at + length (item a.layer comma ++ item c.third.given.0.0 lineEnd) ≤ length a.out.now
+    a.at + length (item a.layer comma ++ item c.third.given.0.0 line_end) ≤ length a.out.now
 room c = let d = c.before.before.before in subst (λ (s : List ℕ). d.args.at + length s ≤ length d.args.out.now) (text-is c) d.requires
 
-only : (c : tie.After-enum-told) → let a = c.before.before.before.args in placeText a.layer a.third ≡ item a.layer lineEnd
-only c = let a = c.before.before.before.args in ap (placeText a.layer) c.enum_told.given.1 ∙ missing a.layer
+only : (c : tie.After-enum-told) → let a = c.before.before.before.args in place_text a.layer a.third ≡ item a.layer line_end
+only c = let a = c.before.before.before.args in ap (place_text a.layer) c.enum_told.given.1 ∙ missing a.layer
 
 write-item-requires : tie.Need-write-item-requires
 write-item-requires c κs =
@@ -50,13 +50,13 @@ write-item-requires-2 : tie.Need-write-item-requires-2
 write-item-requires-2 c κs =
     let t = c.before.before.before in
     let a = t.before.before.before.args in
-    first_fits (item a.layer comma) (item t.third.given.0.0 lineEnd) a.at (room t)
+    first_fits (item a.layer comma) (item t.third.given.0.0 line_end) a.at (room t)
 
 write-item-requires-3 : tie.Need-write-item-requires-3
 write-item-requires-3 c κs =
     let laid = c.before.before.before.before in
     let t = laid.before.before.before.before in
-    rest-fits (item t.third.given.0.0 lineEnd) (room t) laid.write-item2.ensures
+    rest-fits (item t.third.given.0.0 line_end) (room t) laid.write-item2.ensures
 
 returns-2 : tie.Need-returns-2
 returns-2 c =

@@ -9,13 +9,13 @@ use Rattle.bits.specs.Inner.{Laid}
 use Rattle.bits.proofs.Laying.{then, first_fits, rest-fits}
 use Rattle.text.proofs.Copies.{laid_in}
 use Rattle.terminals.specs.Layers.{places}
-use Rattle.terminals.specs.Reading.{lead, linesText, text_of}
+use Rattle.terminals.specs.Reading.{lead, lines_text, text_of}
 use Rattle.terminals.proofs.Texts.{text-some}
 use Rattle.terminals.proofs.reading.write_text.Statement.{statement}
 use Rattle.terminals.proofs.reading.write_text.Tie as tie
 
 abbrev lines : tie.Start → List ℕ
-lines c = linesText places c.args.table.now
+lines c = lines_text places c.args.table.now
 
 text-is : (c : tie.Start) → text_of c.args.table.now ≡ lead ++ lines c
 text-is c = text-some c.args.table.now c.requires.0.1

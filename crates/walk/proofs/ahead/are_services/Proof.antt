@@ -6,7 +6,7 @@ use native.Mathlib.Omega.{arith}
 use borrow.Author.Tests.{ne_eqb}
 use lib.Bits.{bit_and, and_step, and_zero_r}
 use lib.Dec.{eqb}
-use Rattle.grammar.specs.SiteSheet.{serviceOf, serviceRefusal}
+use Rattle.grammar.specs.SiteSheet.{service_of, service_refusal}
 use Rattle.walk.specs.Inner.{passing}
 use Rattle.walk.proofs.ahead.are_services.Statement.{statement}
 use Rattle.walk.proofs.ahead.are_services.Tie as tie
@@ -39,25 +39,25 @@ mask_step v m =
     let same : v / 2 / 2 % 2 ≡ v / 4 % 2 = omega arith in
     three _ _ _ (bit_and (v / 8) m) (v % 2) (v / 2 % 2) (v / 2 / 2 % 2) a b d (omega arith) ∙ ap (λ (k : ℕ). bit_and (v / 8) m * 8 + k * 4) same
 
-legal : (r : ℕ) → r < 4 → serviceRefusal r ≡ 0
-unfolding serviceRefusal serviceOf
+legal : (r : ℕ) → r < 4 → service_refusal r ≡ 0
+unfolding service_refusal service_of
 legal zero h = refl
 legal (suc zero) h = refl
 legal (suc (suc zero)) h = refl
 legal (suc (suc (suc zero))) h = refl
 legal (suc (suc (suc (suc r)))) h = absurd (omega arith)
 
-refused : (r : ℕ) → 4 ≤ r → serviceRefusal r ≡ 3
-unfolding serviceRefusal serviceOf
+refused : (r : ℕ) → 4 ≤ r → service_refusal r ≡ 3
+unfolding service_refusal service_of
 refused r h = rw (ne_eqb r 0 (λ e. omega arith), ne_eqb r 1 (λ e. omega arith), ne_eqb r 2 (λ e. omega arith), ne_eqb r 3 (λ e. omega arith))
 
-masked : (k v : ℕ) → eqb (bit_and v (mask k)) 0 ≡ passing serviceRefusal 3 k v
+masked : (k v : ℕ) → eqb (bit_and v (mask k)) 0 ≡ passing service_refusal 3 k v
 unfolding mask passing
 masked zero v = rw (and_zero_r v)
 masked (suc k) v = ap (λ (x : ℕ). eqb x 0) (mask_step v (mask k)) ∙ go (v / 4 % 2) refl (masked k (v / 8))
   where
-    go : (b : ℕ) → v / 4 % 2 ≡ b → eqb (bit_and (v / 8) (mask k)) 0 ≡ passing serviceRefusal 3 k (v / 8)
-        → eqb (bit_and (v / 8) (mask k) * 8 + b * 4) 0 ≡ eqb (serviceRefusal (v % 8)) 0 && passing serviceRefusal 3 k (v / 8)
+    go : (b : ℕ) → v / 4 % 2 ≡ b → eqb (bit_and (v / 8) (mask k)) 0 ≡ passing service_refusal 3 k (v / 8)
+        → eqb (bit_and (v / 8) (mask k) * 8 + b * 4) 0 ≡ eqb (service_refusal (v % 8)) 0 && passing service_refusal 3 k (v / 8)
     go zero e rest = rw (legal (v % 8) (omega arith)) (eighths (bit_and (v / 8) (mask k)) ∙ rest)
       where
         eighths : (x : ℕ) → eqb (x * 8 + 0 * 4) 0 ≡ eqb x 0

@@ -8,7 +8,7 @@ use Rattle.grammar.specs.Grammar.{identity}
 use Rattle.walk.specs.Inner.{pass, steps, Ends}
 use Rattle.walk.proofs.Passes.{steps-count}
 use Rattle.walk.proofs.Aheads.{ends_as, ends-none, ends_more}
-use Rattle.walk.proofs.Sights.{bit-lt, identity-ends}
+use Rattle.walk.proofs.Sights.{bit_lt, identity-ends}
 use Rattle.walk.proofs.ahead.entries_ahead.Statement.{statement}
 use Rattle.walk.proofs.ahead.entries_ahead.Tie as tie
 
@@ -24,10 +24,10 @@ s-of l = l.before.before.before.before.args.s.now
 
 -- present bits are 0 or 1
 first : (c : tie.After-bit-at invariant-loop decreases-loop) → c.bit_at.result < 2
-first c = let a = c.before.before.before.args in bit-lt a.s.now (a.start + 24) c.bit_at.ensures
+first c = let a = c.before.before.before.args in bit_lt a.s.now (a.start + 24) c.bit_at.ensures
 
 next : (c : tie.After-bit-at2 invariant-loop decreases-loop) → c.bit-at2.result < 2
-next c = let l = c.before.before in bit-lt (s-of l) (l.loop.at + 24) c.bit-at2.ensures
+next c = let l = c.before.before in bit_lt (s-of l) (l.loop.at + 24) c.bit-at2.ensures
 
 loop-again : tie.Need-loop-preserved invariant-loop decreases-loop
 loop-again c =

@@ -7,7 +7,7 @@ use Rattle.grammar.specs.Grammar.{identity}
 use Rattle.walk.specs.Inner.{pass, steps, Ends}
 use Rattle.walk.proofs.Passes.{steps-count}
 use Rattle.walk.proofs.Aheads.{ends_as, ends-none, ends_more}
-use Rattle.walk.proofs.Sights.{bit-lt, identity-ends}
+use Rattle.walk.proofs.Sights.{bit_lt, identity-ends}
 use Rattle.walk.proofs.ahead.mixed_ahead.Statement.{statement}
 use Rattle.walk.proofs.ahead.mixed_ahead.Tie as tie
 
@@ -18,7 +18,7 @@ abbrev decreases-loop : tie.decreases-loop
 decreases-loop s start count at₀ done₀ at done = count - done
 
 small : (c : tie.After-bit-at invariant-loop decreases-loop) → c.bit_at.result < 2
-small c = let l = c.before.before in bit-lt l.before.before.args.s.now (l.loop.at + 24) c.bit_at.ensures
+small c = let l = c.before.before in bit_lt l.before.before.args.s.now (l.loop.at + 24) c.bit_at.ensures
 
 loop-again : tie.Need-loop-preserved invariant-loop decreases-loop
 loop-again c = (omega arith, ends_more _ _ refl c.before.before.loop.invariant.1 (identity-ends c.bit_at.ensures))

@@ -5,10 +5,10 @@ use Prim.Native.Nat.{ℕ, ◌/◌, ◌^◌, ◌≤◌}
 use native.Mathlib.Omega.{arith}
 use borrow.Author.Rules.{rules}
 use borrow.Author.Tests.{ne_eqb}
-use Rattle.grammar.specs.Grammar.{identities, externals, identityPart, numberPart, no_part, part_of}
-use Rattle.grammar.specs.Zero.{zeroLists}
+use Rattle.grammar.specs.Grammar.{identities, externals, identity_part, number_part, no_part, part_of}
+use Rattle.grammar.specs.Zero.{zero_lists}
 use Rattle.grammar.specs.declared.site.ListKind.TheVariants as of
-use Rattle.grammar.proofs.Steps.{identityPart-at, numberPart-at, noPart-at, identityLists, numberLists}
+use Rattle.grammar.proofs.Steps.{identity_part-at, number_part-at, no_part-at, identity_lists, number_lists}
 use Rattle.walk.specs.Inner.{pass, Ends}
 use Rattle.walk.proofs.Passes.{pass-three, pass-nothing}
 use Rattle.walk.proofs.Aheads.{ends_as, ends-then}
@@ -19,12 +19,12 @@ use Rattle.walk.proofs.ahead.part_ahead.Tie as tie
 module _ {s : List ℕ} {at m end : ℕ} (few : m ≤ 69661) where
   identity-part : Ends (λ l r. pass (identities of.Identities) l (pass (identities of.Identities) l (pass (identities of.Identities) l r))) s at m end
       → Ends (pass (part_of 1)) s at 69661 end
-  identity-part = ends_as (λ l r. pass-three identityPart (identities of.Identities) (identities of.Identities) (identities of.Identities)
-      identityLists l r (identityPart-at l)) few
+  identity-part = ends_as (λ l r. pass-three identity_part (identities of.Identities) (identities of.Identities) (identities of.Identities)
+      identity_lists l r (identity_part-at l)) few
 
   number-part : Ends (λ l r. pass externals l (pass externals l (pass (identities of.Identities) l r))) s at m end
       → Ends (pass (part_of 2)) s at 69661 end
-  number-part = ends_as (λ l r. pass-three numberPart (identities of.Identities) externals externals numberLists l r (numberPart-at l)) few
+  number-part = ends_as (λ l r. pass-three number_part (identities of.Identities) externals externals number_lists l r (number_part-at l)) few
 
 returns : tie.Need-returns
 returns c =
@@ -59,7 +59,7 @@ returns-5 c =
     rw (ne_eqb part 1 e.if1.false, ne_eqb part 2 c.if3.false) (record {
       after = omega arith;
       near = omega arith;
-      there = λ n few i. pass-nothing no_part zeroLists _ (noPart-at _) _;
+      there = λ n few i. pass-nothing no_part zero_lists _ (no_part-at _) _;
     })
 
 pub part-ahead-spec : {M : Type 1} → statement M

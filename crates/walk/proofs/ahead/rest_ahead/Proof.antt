@@ -4,14 +4,14 @@ use mathlib.Core.Path.{sym, ap, ◌∙◌, subst}
 use Prim.Native.Nat.{ℕ, ◌+◌, ◌-◌, ◌/◌, ◌%◌, ◌^◌, ◌≤◌}
 use native.Mathlib.Omega.{arith}
 use borrow.Author.Tests.{not-true, not-false}
-use Rattle.bits.specs.Element.{windowAt}
+use Rattle.bits.specs.Element.{window_at}
 use Rattle.grammar.specs.Grammar.{part_of}
-use Rattle.grammar.specs.Rows.{figuresIn}
+use Rattle.grammar.specs.Rows.{figures_in}
 use Rattle.grammar.specs.declared.figures.Form.{Form}
 use Rattle.grammar.proofs.Rows.{narrow}
-use Rattle.walk.specs.Inner.{pass, servicesIn, Ends}
+use Rattle.walk.specs.Inner.{pass, services_in, Ends}
 use Rattle.walk.proofs.Aheads.{found-off}
-use Rattle.walk.proofs.Following.{figures-find, listed-find}
+use Rattle.walk.proofs.Following.{figures_find, listed_find}
 use Rattle.walk.proofs.ahead.rest_ahead.Statement.{statement}
 use Rattle.walk.proofs.ahead.rest_ahead.Tie as tie
 
@@ -29,7 +29,7 @@ returns-2 : tie.Need-returns-2
 returns-2 c =
     let e = c.before.before in let r = e.before in let f = r.before in let w = f.before in let a = w.before.before in
     let form = a.requires.1 in
-    rw form (figures-find a.args.kind _ a.args.start (f.figures-in.ensures ∙ ap (figuresIn a.args.kind) w.window.ensures)
+    rw form (figures_find a.args.kind _ a.args.start (f.figures-in.ensures ∙ ap (figures_in a.args.kind) w.window.ensures)
     (sym r.figures-refusal.ensures ∙ e.if1.false) (sym (ap (λ (f : Form). f.services) form) ∙ not-true a.args.form.services c.if2.true))
 
 sub-services-in : tie.Need-overflow-sub-services-in
@@ -55,10 +55,10 @@ returns-4 c =
     let width = ap (λ (f : Form). f.width) form in
     let kind = a.args.kind in
     let s = a.args.s.now in
-    listed-find kind s a.args.start (f.figures-in.ensures ∙ ap (figuresIn kind) w.window.ensures)
+    listed_find kind s a.args.start (f.figures-in.ensures ∙ ap (figures_in kind) w.window.ensures)
     (sym r.figures-refusal.ensures ∙ e.if1.false) (sym (ap (λ (f : Form). f.services) form) ∙ not-false a.args.form.services t.if2.false)
-    (v.services-in.ensures.0 ∙ ap (λ (x : ℕ). servicesIn (x / 2 ^ (33 - a.args.form.width) % 2 ^ 24)) w.window.ensures
-    ∙ ap (λ (k : ℕ). servicesIn (windowAt s a.args.start / 2 ^ (33 - k) % 2 ^ 24)) width)
+    (v.services-in.ensures.0 ∙ ap (λ (x : ℕ). services_in (x / 2 ^ (33 - a.args.form.width) % 2 ^ 24)) w.window.ensures
+    ∙ ap (λ (k : ℕ). services_in (window_at s a.args.start / 2 ^ (33 - k) % 2 ^ 24)) width)
     x.if3.false y.part_in.ensures
     (subst (λ (k : ℕ). Ends (pass (part_of y.part_in.result)) s (a.args.start + k + v.services-in.result) _ c.part-ahead.result) width
     c.part-ahead.ensures)

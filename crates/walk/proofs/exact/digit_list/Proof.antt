@@ -2,11 +2,11 @@
 use mathlib.Core.Path.{◌≡◌, refl, sym, ap, ◌∙◌}
 use native.Mathlib.Omega.{arith}
 use borrow.Author.Rules.{rules}
-use Rattle.bits.specs.Frame.{bitsIn}
+use Rattle.bits.specs.Frame.{bits_in}
 use Rattle.codec.specs.Parts.{element}
-use Rattle.codec.specs.Reading.{elementOf}
+use Rattle.codec.specs.Reading.{element_of}
 use Rattle.codec.proofs.Onward.{number_read, tested-element}
-use Rattle.grammar.specs.SiteSheet.{digitRefusal}
+use Rattle.grammar.specs.SiteSheet.{digit_refusal}
 use Rattle.walk.specs.Inner.{pass, steps}
 use Rattle.walk.proofs.Passes.{pass-read, steps_next, steps-none}
 use Rattle.walk.proofs.exact.digit_list.Statement.{statement}
@@ -14,13 +14,13 @@ use Rattle.walk.proofs.exact.digit_list.Tie as tie
 
 abbrev invariant-loop : tie.invariant-loop
 invariant-loop s n count at₀ left₀ at left =
-    steps (pass (element 4 digitRefusal) (bitsIn n.0 s)) count at₀ ≡ steps (pass (element 4 digitRefusal) (bitsIn n.0 s)) left at
+    steps (pass (element 4 digit_refusal) (bits_in n.0 s)) count at₀ ≡ steps (pass (element 4 digit_refusal) (bits_in n.0 s)) left at
 
 abbrev decreases-loop : tie.decreases-loop
 decreases-loop s n count at₀ left₀ at left = left
 
 loop-again : tie.Need-loop-preserved invariant-loop decreases-loop
-unfolding elementOf
+unfolding element_of
 loop-again c =
     let r = c.before.before in
     r.before.before.loop.invariant ∙ steps_next _ _ _ (omega arith)

@@ -1,17 +1,17 @@
 -- Interrogation result and delivery status, one from where the other stands. Assumes nothing.
 use borrow.Author.Rules.{rules}
 use mathlib.Core.Path.{◌∙◌}
-use Rattle.codec.specs.Reading.{elementOf}
+use Rattle.codec.specs.Reading.{element_of}
 use Rattle.codec.proofs.Onward.{resume-same, go_on, number_read, tested-element}
-use Rattle.grammar.specs.Rows.{partIn}
-use Rattle.walk.specs.Inner.{steeredFrom}
+use Rattle.grammar.specs.Rows.{part_in}
+use Rattle.walk.specs.Inner.{steered_from}
 use Rattle.walk.proofs.Passes.{resume-got}
 use Rattle.walk.proofs.Results.{answer_at}
 use Rattle.walk.proofs.exact.pass_answer.Statement.{statement}
 use Rattle.walk.proofs.exact.pass_answer.Tie as tie
 
 returns : tie.Need-returns
-unfolding elementOf steeredFrom partIn
+unfolding element_of steered_from part_in
 returns c =
     let t = c.before in
     resume-same _ _ _ (answer_at _)

@@ -2,16 +2,16 @@
 use borrow.Author.Rules.{rules}
 use mathlib.Core.Path.{sym, ap, ◌∙◌}
 use Prim.Native.Nat.{ℕ}
-use Rattle.codec.specs.Reading.{elementOf}
+use Rattle.codec.specs.Reading.{element_of}
 use Rattle.codec.proofs.Onward.{placed, resume-same, go_on, number_read, tested-element}
-use Rattle.walk.specs.Inner.{definedFrom}
+use Rattle.walk.specs.Inner.{defined_from}
 use Rattle.walk.proofs.Passes.{resume-got}
 use Rattle.walk.proofs.Results.{definition-at}
 use Rattle.walk.proofs.exact.pass_definition.Statement.{statement}
 use Rattle.walk.proofs.exact.pass_definition.Tie as tie
 
 returns : tie.Need-returns
-unfolding elementOf definedFrom
+unfolding element_of defined_from
 returns c =
     let t = c.before in let a = t.before.before.before in let d = a.before.before.before in
     resume-same _ _ _ (λ at. definition-at _ at _)

@@ -2,7 +2,7 @@
 use mathlib.Core.Path.{◌≡◌, refl, sym, ap, ◌∙◌}
 use native.Mathlib.Omega.{arith}
 use borrow.Author.Rules.{rules}
-use Rattle.bits.specs.Frame.{bitsIn}
+use Rattle.bits.specs.Frame.{bits_in}
 use Rattle.grammar.specs.Grammar.{identity}
 use Rattle.walk.specs.Inner.{pass, steps}
 use Rattle.walk.proofs.Passes.{pass-read, steps_next, steps-none}
@@ -10,7 +10,7 @@ use Rattle.walk.proofs.exact.pass_entries.Statement.{statement}
 use Rattle.walk.proofs.exact.pass_entries.Tie as tie
 
 abbrev invariant-loop : tie.invariant-loop
-invariant-loop s n count at₀ left₀ at left = steps (pass identity (bitsIn n.0 s)) count at₀ ≡ steps (pass identity (bitsIn n.0 s)) left at
+invariant-loop s n count at₀ left₀ at left = steps (pass identity (bits_in n.0 s)) count at₀ ≡ steps (pass identity (bits_in n.0 s)) left at
 
 abbrev decreases-loop : tie.decreases-loop
 decreases-loop s n count at₀ left₀ at left = left

@@ -1,13 +1,13 @@
 -- The count, then as many. Assumes nothing.
 use mathlib.Core.Path.{◌≡◌, sym, ◌∙◌}
 use borrow.Author.Rules.{rules}
-use Rattle.bits.specs.Frame.{bitsIn}
+use Rattle.bits.specs.Frame.{bits_in}
 use Rattle.codec.specs.Parts.{absent, element}
 use Rattle.codec.specs.Places.{places}
-use Rattle.codec.specs.Reading.{readAt, resume, elementOf, numberIs}
-use Rattle.codec.proofs.Reading.{readAt-absent}
-use Rattle.codec.proofs.Onward.{number_read, tested-element, element-bound}
-use Rattle.grammar.specs.SiteSheet.{lengthRefusal, digitRefusal}
+use Rattle.codec.specs.Reading.{read_at, resume, element_of, number_is}
+use Rattle.codec.proofs.Reading.{read_at-absent}
+use Rattle.codec.proofs.Onward.{number_read, tested-element, element_bound}
+use Rattle.grammar.specs.SiteSheet.{length_refusal, digit_refusal}
 use Rattle.grammar.specs.Grammar.{external}
 use Rattle.grammar.proofs.Codes.{between_le}
 use Rattle.grammar.proofs.Steps.{external-at}
@@ -16,17 +16,17 @@ use Rattle.walk.proofs.exact.pass_external.Statement.{statement}
 use Rattle.walk.proofs.exact.pass_external.Tie as tie
 
 count : (c : tie.After-tested) → let a = c.before.before.before.before.args in
-    c.tested.result ≡ numberIs (resume a.start (readAt (element 5 lengthRefusal) (bitsIn a.n.0 a.s.now)))
-unfolding elementOf
+    c.tested.result ≡ number_is (resume a.start (read_at (element 5 length_refusal) (bits_in a.n.0 a.s.now)))
+unfolding element_of
 count c = c.tested.ensures ∙ tested-element 5 _ _ _ c.before.before.number.ensures c.before.between-refusal.ensures
 
 returns : tie.Need-returns
 returns c =
     let t = c.before in
     c.digit-list.ensures
-    ∙ sym (pass-places (element 4 digitRefusal) absent 0 _ (readAt-absent _) 24 _ _
-    (element-bound 5 lengthRefusal _ _ 24 (count t) (λ v h. between_le 1 24 v)))
-    ∙ sym (pass-then external _ _ _ (places (element 4 digitRefusal) absent 24) _ (external-at _) _ _ (number_read _ (count t)))
+    ∙ sym (pass-places (element 4 digit_refusal) absent 0 _ (read_at-absent _) 24 _ _
+    (element_bound 5 length_refusal _ _ 24 (count t) (λ v h. between_le 1 24 v)))
+    ∙ sym (pass-then external _ _ _ (places (element 4 digit_refusal) absent 24) _ (external-at _) _ _ (number_read _ (count t)))
 
 pub pass-external-spec : {M : Type 1} → statement M
 pass-external-spec = tie.close (tie.spec (λ c κs. search rules) (λ c κs. search rules) (λ c κs. search rules) (λ c κs. search rules) returns)

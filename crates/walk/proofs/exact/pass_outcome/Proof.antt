@@ -1,14 +1,14 @@
 -- One element. Assumes nothing.
 use borrow.Author.Rules.{rules}
 use mathlib.Core.Path.{sym, ◌∙◌}
-use Rattle.codec.specs.Reading.{elementOf}
+use Rattle.codec.specs.Reading.{element_of}
 use Rattle.codec.proofs.Onward.{number_read, tested-element}
 use Rattle.walk.proofs.Passes.{pass-read}
 use Rattle.walk.proofs.exact.pass_outcome.Statement.{statement}
 use Rattle.walk.proofs.exact.pass_outcome.Tie as tie
 
 returns : tie.Need-returns
-unfolding elementOf
+unfolding element_of
 returns c =
     sym (pass-read _ _ _ _ _ (number_read _ (c.tested.ensures ∙ tested-element 3 _ _ _ c.before.before.number.ensures
     c.before.reserved-refusal.ensures)))

@@ -1,14 +1,14 @@
 -- SS type, PDU type, and what the type says. Assumes nothing.
 use borrow.Author.Rules.{rules}
 use mathlib.Core.Path.{◌≡◌, ◌∙◌}
-use Rattle.bits.specs.Frame.{bitsIn}
-use Rattle.codec.specs.Reading.{andNext, readAt, resume, elementOf}
+use Rattle.bits.specs.Frame.{bits_in}
+use Rattle.codec.specs.Reading.{and_next, read_at, resume, element_of}
 use Rattle.codec.specs.declared.Reached.TheVariants.{At}
 use Rattle.codec.proofs.Onward.{go_on, number_read, tested-element}
-use Rattle.grammar.specs.Rows.{usersOf, servicesOf}
-use Rattle.walk.specs.Inner.{resultFrom, resultIn}
+use Rattle.grammar.specs.Rows.{users_of, services_of}
+use Rattle.walk.specs.Inner.{result_from, result_in}
 use Rattle.walk.proofs.Passes.{past, resume-got}
-use Rattle.walk.proofs.Results.{steered-on, from-where, pdu-result}
+use Rattle.walk.proofs.Results.{steered-on, from_where, pdu-result}
 use Rattle.walk.proofs.exact.pass_pdu.Statement.{statement}
 use Rattle.walk.proofs.exact.pass_pdu.Tie as tie
 
@@ -16,10 +16,10 @@ use Rattle.walk.proofs.exact.pass_pdu.Tie as tie
 after-kind : (c : tie.After-pdu-type) →
     let k = c.before in
     let a = k.before.before.before.before.before.before.before.args in
-    let l = bitsIn a.n.0 a.s.now in
+    let l = bits_in a.n.0 a.s.now in
     let t = c.pdu-type.result in
-    resultIn l ≡ resume k.tested2.result.reached (λ at. andNext (readAt (usersOf t) l at) (λ u p. resultFrom t l (At (record { at = p }))))
-unfolding elementOf
+    result_in l ≡ resume k.tested2.result.reached (λ at. and_next (read_at (users_of t) l at) (λ u p. result_from t l (At (record { at = p }))))
+unfolding element_of
 after-kind c =
     let k = c.before in let t = k.before.before.before in
     rw c.pdu-type.ensures (pdu-result _
@@ -33,12 +33,12 @@ returns c =
     let v = c.before in let g = v.before in let u = g.before in let f = u.before in let y = f.before in
     let t = y.pdu-type.result in
     let start = y.before.before.before.before.before.before.before.before in
-    let l = bitsIn start.args.n.0 start.args.s.now in
+    let l = bits_in start.args.n.0 start.args.s.now in
     after-kind y
-    ∙ past (usersOf t) l _ u.pass-users.result _ (rw f.form_of.ensures at u.pass-users.ensures)
-    ∙ from-where t l u.pass-users.result
+    ∙ past (users_of t) l _ u.pass-users.result _ (rw f.form_of.ensures at u.pass-users.ensures)
+    ∙ from_where t l u.pass-users.result
     ∙ steered-on t l _ _ _ _ g.pass-figures.ensures
-    ∙ past (servicesOf t) l _ v.pass-served.result _ (rw f.form_of.ensures at v.pass-served.ensures)
+    ∙ past (services_of t) l _ v.pass-served.result _ (rw f.form_of.ensures at v.pass-served.ensures)
     ∙ past _ l _ _ _ c.pass-part.ensures
     ∙ resume-got c.pass-part.result _
 

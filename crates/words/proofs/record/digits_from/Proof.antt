@@ -5,17 +5,17 @@ use Prim.Native.Nat.{ℕ, ◌+◌, ◌-◌}
 use native.Mathlib.Omega.{arith}
 use borrow.Author.Rules.{rules}
 use lib.ListN.{drop, length-drop}
-use Rattle.words.specs.Places.{digitPlaces}
+use Rattle.words.specs.Places.{digit_places}
 use Rattle.words.specs.RecordWords.{word, narrow}
 use Rattle.words.proofs.Filling.{first_word, Filled, filled_none, filled_more, filled-all, words-narrowed}
 use Rattle.words.proofs.record.digits_from.Statement.{statement}
 use Rattle.words.proofs.record.digits_from.Tie as tie
 
 abbrev invariant-loop : tie.invariant-loop
-invariant-loop words at held₀ i₀ held i = Filled (λ (v : List ℕ). narrow (word v 0)) 1 digitPlaces words at i held
+invariant-loop words at held₀ i₀ held i = Filled (λ (v : List ℕ). narrow (word v 0)) 1 digit_places words at i held
 
 abbrev decreases-loop : tie.decreases-loop
-decreases-loop words at held₀ i₀ held i = digitPlaces - i
+decreases-loop words at held₀ i₀ held i = digit_places - i
 
 loop-again : tie.Need-loop-preserved invariant-loop decreases-loop
 loop-again c =
@@ -32,7 +32,7 @@ returns c =
     let a = start.args in
     let w = a.words.now in
     filled-all c.loop-test.false c.before.loop.invariant
-    ∙ words-narrowed digitPlaces (drop a.at w) (omega (arith, length-drop a.at w, start.requires))
+    ∙ words-narrowed digit_places (drop a.at w) (omega (arith, length-drop a.at w, start.requires))
 
 pub digits-from-spec : {M : Type 1} → statement M
 digits-from-spec =

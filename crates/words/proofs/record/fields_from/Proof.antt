@@ -1,11 +1,11 @@
 -- Each part from its place on. Assumes nothing.
 use borrow.Author.Rules.{rules}
-use Rattle.words.specs.RecordWords.{word, recordFrom}
+use Rattle.words.specs.RecordWords.{word, record_from}
 use Rattle.words.proofs.record.fields_from.Statement.{statement}
 use Rattle.words.proofs.record.fields_from.Tie as tie
 
 returns : tie.Need-returns
-unfolding recordFrom
+unfolding record_from
 returns c =
     let services = c.before in
     let figures = services.before in

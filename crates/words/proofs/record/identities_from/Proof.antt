@@ -3,18 +3,18 @@ use mathlib.Core.Path.{◌≡◌, refl, sym, ap, ◌∙◌}
 use Prim.Native.Nat.{◌+◌, ◌-◌, ◌*◌}
 use native.Mathlib.Omega.{arith}
 use lib.Seq.{drop-drop}
-use Rattle.words.specs.Places.{identityWidth, listPlaces}
-use Rattle.words.specs.RecordWords.{entriesFrom, identityFrom, identitiesFrom}
+use Rattle.words.specs.Places.{identity_width, list_places}
+use Rattle.words.specs.RecordWords.{entries_from, identity_from, identities_from}
 use Rattle.words.proofs.Filling.{first_word, Filled, filled_none, filled_more, filled-all}
 use Rattle.words.proofs.record.identities_from.Statement.{statement}
 use Rattle.words.proofs.record.identities_from.Tie as tie
 
 abbrev invariant-loop : tie.invariant-loop
 invariant-loop words at held₀ from₀ i₀ held from i =
-    Filled identityFrom identityWidth listPlaces words (at + 1) i held × (from ≡ at + 1 + identityWidth * i)
+    Filled identity_from identity_width list_places words (at + 1) i held × (from ≡ at + 1 + identity_width * i)
 
 abbrev decreases-loop : tie.decreases-loop
-decreases-loop words at held₀ from₀ i₀ held from i = listPlaces - i
+decreases-loop words at held₀ from₀ i₀ held from i = list_places - i
 
 loop-again : tie.Need-loop-preserved invariant-loop decreases-loop
 loop-again c =
@@ -22,14 +22,14 @@ loop-again c =
     (filled_more c.before.loop-test.true l.1 c.identity-from.ensures l.0, omega arith)
 
 returns : tie.Need-returns invariant-loop decreases-loop
-unfolding identitiesFrom
+unfolding identities_from
 returns c =
     let loop = c.before.before in
     let a = loop.before.before.args in
     let w = a.words.now in
     let e =
     filled-all c.before.loop-test.false loop.loop.invariant.0
-    ∙ ap (entriesFrom identityFrom identityWidth listPlaces) (sym (drop-drop 1 a.at w))
+    ∙ ap (entries_from identity_from identity_width list_places) (sym (drop-drop 1 a.at w))
     in
     λ i. record { code = first_word w a.at i; entries = e i }
 

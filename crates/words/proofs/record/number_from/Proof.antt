@@ -5,19 +5,19 @@ use Prim.Native.Nat.{ℕ}
 use borrow.Author.Rules.{rules}
 use lib.ListN.{take}
 use lib.Seq.{drop-drop}
-use Rattle.words.specs.Places.{digitPlaces}
-use Rattle.words.specs.RecordWords.{narrow, narrowed, numberFrom}
+use Rattle.words.specs.Places.{digit_places}
+use Rattle.words.specs.RecordWords.{narrow, narrowed, number_from}
 use Rattle.words.proofs.Filling.{first_word}
 use Rattle.words.proofs.record.number_from.Statement.{statement}
 use Rattle.words.proofs.record.number_from.Tie as tie
 
 returns : tie.Need-returns
-unfolding numberFrom
+unfolding number_from
 returns c =
     let a = c.before.before.before.before.args in
     let w = a.words.now in
     let l = c.before.narrow-word.ensures ∙ ap narrow (first_word w a.at) in
-    let d = c.digits_from.ensures ∙ ap (λ (s : List ℕ). narrowed (take digitPlaces s)) (sym (drop-drop 1 a.at w)) in
+    let d = c.digits_from.ensures ∙ ap (λ (s : List ℕ). narrowed (take digit_places s)) (sym (drop-drop 1 a.at w)) in
     λ i. record { length = record { 0 = l i }; digits = d i }
 
 pub number-from-spec : {M : Type 1} → statement M

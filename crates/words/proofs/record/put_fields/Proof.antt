@@ -1,13 +1,13 @@
 -- Seven parts, one after the other, and together as long as the slice. Assumes nothing.
 use borrow.Author.Rules.{rules}
 use native.Mathlib.Omega.{arith}
-use Rattle.words.specs.RecordWords.{recordWords}
+use Rattle.words.specs.RecordWords.{record_words}
 use Rattle.words.proofs.Putting.{then, put_whole}
 use Rattle.words.proofs.record.put_fields.Statement.{statement}
 use Rattle.words.proofs.record.put_fields.Tie as tie
 
 returns : tie.Need-returns
-unfolding recordWords
+unfolding record_words
 returns c =
     let outcome = c.before.before in
     let definition = outcome.before.before.before.before in

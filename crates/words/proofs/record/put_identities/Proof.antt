@@ -5,19 +5,19 @@ use native.Mathlib.Omega.{arith}
 use borrow.Author.Rules.{rules}
 use lib.ListN.{length}
 use Rattle.grammar.proofs.Arrays.{identities-length}
-use Rattle.words.specs.Places.{identityWidth, listPlaces}
-use Rattle.words.specs.RecordWords.{identityWords, identitiesWords}
+use Rattle.words.specs.Places.{identity_width, list_places}
+use Rattle.words.specs.RecordWords.{identity_words, identities_words}
 use Rattle.words.proofs.Putting.{then, Turned, turned_none, turned_more, turned-all}
 use Rattle.words.proofs.record.put_identities.Statement.{statement}
 use Rattle.words.proofs.record.put_identities.Tie as tie
 
 abbrev invariant-loop : tie.invariant-loop
-invariant-loop words₀ at entries next₀ i₀ words next i = Turned identityWords entries identityWidth listPlaces words₀ next₀ i words next
+invariant-loop words₀ at entries next₀ i₀ words next i = Turned identity_words entries identity_width list_places words₀ next₀ i words next
 
 abbrev decreases-loop : tie.decreases-loop
-decreases-loop words₀ at entries next₀ i₀ words next i = listPlaces - i
+decreases-loop words₀ at entries next₀ i₀ words next i = list_places - i
 
-long : (c : tie.Start invariant-loop decreases-loop) → length c.args.list.entries ≡ listPlaces
+long : (c : tie.Start invariant-loop decreases-loop) → length c.args.list.entries ≡ list_places
 long c = identities-length c.args.list _ c.well-formed.1.1.0
 
 loop-again : tie.Need-loop-preserved invariant-loop decreases-loop
@@ -29,7 +29,7 @@ loop-again c =
     turned_more _ (long start) (omega arith) turn.loop-test.true turn.before.loop.invariant p.ensures p.auto.0
 
 returns : tie.Need-returns invariant-loop decreases-loop
-unfolding identitiesWords
+unfolding identities_words
 returns c =
     let code = c.before.before.before.before in
     let all = turned-all (long code.before.before.before.before) c.loop-test.false c.before.loop.invariant in

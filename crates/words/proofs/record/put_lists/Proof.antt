@@ -1,13 +1,13 @@
 -- Five lists, one after the other. Assumes nothing.
 use native.Mathlib.Omega.{arith}
 use borrow.Author.Rules.{rules}
-use Rattle.words.specs.RecordWords.{listsWords}
+use Rattle.words.specs.RecordWords.{lists_words}
 use Rattle.words.proofs.Putting.{then}
 use Rattle.words.proofs.record.put_lists.Statement.{statement}
 use Rattle.words.proofs.record.put_lists.Tie as tie
 
 returns : tie.Need-returns
-unfolding listsWords
+unfolding lists_words
 returns c =
     let excepted = c.before.before in
     let numbers = excepted.before.before.before.before in

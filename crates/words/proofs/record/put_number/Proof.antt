@@ -6,19 +6,19 @@ use native.Mathlib.Omega.{arith}
 use borrow.Author.Rules.{rules}
 use lib.ListN.{length}
 use Rattle.grammar.proofs.Arrays.{digits-length}
-use Rattle.words.specs.Places.{digitPlaces}
-use Rattle.words.specs.RecordWords.{numberWords}
-use Rattle.words.proofs.Putting.{then, inTurn-words, Turned, turned_none, turned_more, turned-all}
+use Rattle.words.specs.Places.{digit_places}
+use Rattle.words.specs.RecordWords.{number_words}
+use Rattle.words.proofs.Putting.{then, in_turn_words, Turned, turned_none, turned_more, turned-all}
 use Rattle.words.proofs.record.put_number.Statement.{statement}
 use Rattle.words.proofs.record.put_number.Tie as tie
 
 abbrev invariant-loop : tie.invariant-loop
-invariant-loop words₀ at digits next₀ i₀ words next i = Turned (λ (x : ℕ). x ∷ []) digits 1 digitPlaces words₀ next₀ i words next
+invariant-loop words₀ at digits next₀ i₀ words next i = Turned (λ (x : ℕ). x ∷ []) digits 1 digit_places words₀ next₀ i words next
 
 abbrev decreases-loop : tie.decreases-loop
-decreases-loop words₀ at digits next₀ i₀ words next i = digitPlaces - i
+decreases-loop words₀ at digits next₀ i₀ words next i = digit_places - i
 
-long : (c : tie.Start invariant-loop decreases-loop) → length c.args.e.digits ≡ digitPlaces
+long : (c : tie.Start invariant-loop decreases-loop) → length c.args.e.digits ≡ digit_places
 long c = digits-length c.args.e _ c.well-formed.1.1.0
 
 loop-again : tie.Need-loop-preserved invariant-loop decreases-loop
@@ -29,12 +29,12 @@ loop-again c =
     turned_more _ (long start) (omega arith) turn.loop-test.true turn.before.loop.invariant put.put-word2.ensures put.put-word2.auto.0
 
 returns : tie.Need-returns invariant-loop decreases-loop
-unfolding numberWords
+unfolding number_words
 returns c =
     let count = c.before.before.before.before in
     let start = count.before.before.before.before.before in
     let all = turned-all (long start) c.loop-test.false c.before.loop.invariant in
-    then (omega arith) count.put_word.ensures (rw inTurn-words at all)
+    then (omega arith) count.put_word.ensures (rw in_turn_words at all)
 
 pub put-number-spec : {M : Type 1} → statement M
 put-number-spec =

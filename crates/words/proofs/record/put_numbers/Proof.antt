@@ -5,19 +5,19 @@ use native.Mathlib.Omega.{arith}
 use borrow.Author.Rules.{rules}
 use lib.ListN.{length}
 use Rattle.grammar.proofs.Arrays.{numbers-length}
-use Rattle.words.specs.Places.{numberWidth, listPlaces}
-use Rattle.words.specs.RecordWords.{numberWords, numbersWords}
+use Rattle.words.specs.Places.{number_width, list_places}
+use Rattle.words.specs.RecordWords.{number_words, numbers_words}
 use Rattle.words.proofs.Putting.{then, Turned, turned_none, turned_more, turned-all}
 use Rattle.words.proofs.record.put_numbers.Statement.{statement}
 use Rattle.words.proofs.record.put_numbers.Tie as tie
 
 abbrev invariant-loop : tie.invariant-loop
-invariant-loop words₀ at entries next₀ i₀ words next i = Turned numberWords entries numberWidth listPlaces words₀ next₀ i words next
+invariant-loop words₀ at entries next₀ i₀ words next i = Turned number_words entries number_width list_places words₀ next₀ i words next
 
 abbrev decreases-loop : tie.decreases-loop
-decreases-loop words₀ at entries next₀ i₀ words next i = listPlaces - i
+decreases-loop words₀ at entries next₀ i₀ words next i = list_places - i
 
-long : (c : tie.Start invariant-loop decreases-loop) → length c.args.list.entries ≡ listPlaces
+long : (c : tie.Start invariant-loop decreases-loop) → length c.args.list.entries ≡ list_places
 long c = numbers-length c.args.list _ c.well-formed.1.1.0
 
 loop-again : tie.Need-loop-preserved invariant-loop decreases-loop
@@ -29,7 +29,7 @@ loop-again c =
     turned_more _ (long start) (omega arith) turn.loop-test.true turn.before.loop.invariant p.ensures p.auto.0
 
 returns : tie.Need-returns invariant-loop decreases-loop
-unfolding numbersWords
+unfolding numbers_words
 returns c =
     let code = c.before.before.before.before in
     let all = turned-all (long code.before.before.before.before) c.loop-test.false c.before.loop.invariant in

@@ -6,19 +6,19 @@ use native.Mathlib.Omega.{arith}
 use borrow.Author.Rules.{rules}
 use lib.ListN.{length}
 use Rattle.grammar.proofs.Arrays.{services-length}
-use Rattle.words.specs.Places.{servicePlaces}
-use Rattle.words.specs.RecordWords.{servicesWords}
-use Rattle.words.proofs.Putting.{then, inTurn-words, Turned, turned_none, turned_more, turned-all}
+use Rattle.words.specs.Places.{service_places}
+use Rattle.words.specs.RecordWords.{services_words}
+use Rattle.words.proofs.Putting.{then, in_turn_words, Turned, turned_none, turned_more, turned-all}
 use Rattle.words.proofs.record.put_services.Statement.{statement}
 use Rattle.words.proofs.record.put_services.Tie as tie
 
 abbrev invariant-loop : tie.invariant-loop
-invariant-loop words₀ at list next₀ i₀ words next i = Turned (λ (x : ℕ). x ∷ []) list 1 servicePlaces words₀ next₀ i words next
+invariant-loop words₀ at list next₀ i₀ words next i = Turned (λ (x : ℕ). x ∷ []) list 1 service_places words₀ next₀ i words next
 
 abbrev decreases-loop : tie.decreases-loop
-decreases-loop words₀ at list next₀ i₀ words next i = servicePlaces - i
+decreases-loop words₀ at list next₀ i₀ words next i = service_places - i
 
-long : (c : tie.Start invariant-loop decreases-loop) → length c.args.services.list ≡ servicePlaces
+long : (c : tie.Start invariant-loop decreases-loop) → length c.args.services.list ≡ service_places
 long c = services-length c.args.services _ c.well-formed.1.1.0
 
 loop-again : tie.Need-loop-preserved invariant-loop decreases-loop
@@ -29,11 +29,11 @@ loop-again c =
     turned_more _ (long start) (omega arith) turn.loop-test.true turn.before.loop.invariant put.put-word2.ensures put.put-word2.auto.0
 
 returns : tie.Need-returns invariant-loop decreases-loop
-unfolding servicesWords
+unfolding services_words
 returns c =
     let count = c.before.before.before.before in
     let all = turned-all (long count.before.before.before.before) c.loop-test.false c.before.loop.invariant in
-    then (omega arith) count.put_word.ensures (rw inTurn-words at all)
+    then (omega arith) count.put_word.ensures (rw in_turn_words at all)
 
 pub put-services-spec : {M : Type 1} → statement M
 put-services-spec =

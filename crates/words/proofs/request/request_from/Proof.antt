@@ -2,23 +2,23 @@
 use borrow.Author.Rules.{rules}
 use borrow.Author.Tests.{eq-eqb, ne_eqb}
 use Rattle.bits.proofs.Tests.{said-no, said-yes}
-use Rattle.words.specs.RequestWords.{givenRequest}
+use Rattle.words.specs.RequestWords.{given_request}
 use Rattle.words.proofs.request.request_from.Statement.{statement}
 use Rattle.words.proofs.request.request_from.Tie as tie
 
 returns : tie.Need-returns
-unfolding givenRequest
+unfolding given_request
 returns c = rw (ne_eqb _ _ c.before.if1.true) c.no-request.ensures
 
 returns-2 : tie.Need-returns-2
-unfolding givenRequest
+unfolding given_request
 returns-2 c =
     let test = c.before in
     let are = test.before in
     rw (eq-eqb _ _ are.before.if1.false, said-no are.are-request.ensures test.if2.true) c.no-request2.ensures
 
 returns-3 : tie.Need-returns-3
-unfolding givenRequest
+unfolding given_request
 returns-3 c =
     let test = c.before in
     let are = test.before in

@@ -8,15 +8,15 @@ use Prim.Native.Nat.{ℕ, ◌%◌}
 use lib.ListN.{drop}
 use Rattle.bits.specs.Bits.{bits_of}
 use Rattle.codec.specs.Parts.{number, seq}
-use Rattle.grammar.specs.Grammar.{services, part_of, fromRecord}
-use Rattle.grammar.specs.Rows.{formOf, partIn, width_of, run_of}
+use Rattle.grammar.specs.Grammar.{services, part_of, from_record}
+use Rattle.grammar.specs.Rows.{form_of, part_in, width_of, run_of}
 use Rattle.grammar.specs.declared.figures.Form.{Form}
 use Rattle.grammar.proofs.Rows.{narrow}
-use Rattle.words.specs.RecordWords.{servicesFrom, listsFrom, figuresFrom, recordFrom}
+use Rattle.words.specs.RecordWords.{services_from, lists_from, figures_from, record_from}
 use Rattle.words.proofs.Given.{figures-found}
 use Rattle.writer.specs.Inner.{figured}
 use Rattle.writer.proofs.Puts.{left, right, join}
-use Rattle.writer.proofs.Runs.{room-run, put-as-run}
+use Rattle.writer.proofs.Runs.{room-run, put_as-run}
 use Rattle.writer.proofs.Figured.{lone-print, listed-print}
 use Rattle.writer.proofs.put.put_figured.Statement.{statement}
 use Rattle.writer.proofs.put.put_figured.Tie as tie
@@ -27,18 +27,18 @@ start c = c.before.before.before.before
 wide : (c : tie.After-figures-run) → (start c).args.form.width ≡ width_of (start c).args.kind
 wide c = ap (λ (f : Form). f.width) (start c).requires.1
 
-served : (c : tie.After-figures-run) → (start c).args.form.services ≡ (formOf (start c).args.kind).services
+served : (c : tie.After-figures-run) → (start c).args.form.services ≡ (form_of (start c).args.kind).services
 served c = ap (λ (f : Form). f.services) (start c).requires.1
 
 -- the figures are those of the record
-found : (c : tie.After-figures-from) → c.figures-from.result ≡ figuresFrom c.before.before.before.args.words.now
+found : (c : tie.After-figures-from) → c.figures-from.result ≡ figures_from c.before.before.before.args.words.now
 found c = c.figures-from.ensures ∙ figures-found _ (eq-eqb _ _ c.before.before.before.requires.0)
 
-run : (c : tie.After-figures-run) → c.figures-run.result ≡ run_of (start c).args.kind (figuresFrom (start c).args.words.now)
+run : (c : tie.After-figures-run) → c.figures-run.result ≡ run_of (start c).args.kind (figures_from (start c).args.words.now)
 run c = c.figures-run.ensures ∙ ap (run_of (start c).args.kind) (found c.before)
 
 alone : (c : tie.Then1) → let r = c.before.before in let a = (start r).args in
-    (figured a.kind).print (fromRecord (recordFrom a.words.now)).1.1 ≡ bits_of a.form.width r.figures-run.result
+    (figured a.kind).print (from_record (record_from a.words.now)).1.1 ≡ bits_of a.form.width r.figures-run.result
 alone c = let r = c.before.before in lone-print _ _ (wide r) (run r) (sym (served r) ∙ not-true (start r).args.form.services c.if1.true)
 
 put-run-requires : tie.Need-put-run-requires
@@ -48,12 +48,12 @@ put-run-requires c κs =
     (omega (arith, wide r, narrow (start r).args.kind), room-run _ _ (alone t) (start r).requires.3)
 
 returns : tie.Need-returns
-returns c = let p = c.before.before in put-as-run _ _ (alone p.before.before) p.put-run.ensures
+returns c = let p = c.before.before in put_as-run _ _ (alone p.before.before) p.put-run.ensures
 
-listed : (c : tie.Else1) → let r = c.before.before in let a = (start r).args in (part : ℕ) → part ≡ partIn a.kind (figuresFrom a.words.now)
-    → (figured a.kind).print (fromRecord (recordFrom a.words.now)).1.1
-    ≡ (seq (number a.form.width) (λ x. services)).print (r.figures-run.result % 32, servicesFrom (drop 29 a.words.now))
-    ++ (part_of part).print (listsFrom (drop 37 a.words.now))
+listed : (c : tie.Else1) → let r = c.before.before in let a = (start r).args in (part : ℕ) → part ≡ part_in a.kind (figures_from a.words.now)
+    → (figured a.kind).print (from_record (record_from a.words.now)).1.1
+    ≡ (seq (number a.form.width) (λ x. services)).print (r.figures-run.result % 32, services_from (drop 29 a.words.now))
+    ++ (part_of part).print (lists_from (drop 37 a.words.now))
 listed c part of =
     let r = c.before.before in
     listed-print _ _ (wide r) (run r) (sym (served r) ∙ not-false (start r).args.form.services c.if1.false) part of
@@ -66,17 +66,17 @@ put-services-requires c κs =
       omega arith,
       omega (arith, wide r, narrow (start r).args.kind),
       omega (arith, (start r).requires.0),
-      left (part_of (partIn (start r).args.kind (figuresFrom w))) (listsFrom (drop 37 w)) (listed t _ refl) (start r).requires.3,
+      left (part_of (part_in (start r).args.kind (figures_from w))) (lists_from (drop 37 w)) (listed t _ refl) (start r).requires.3,
     )
 
 part : (c : tie.After-part-in) → let r = c.before.before.before.before.before.before.before.before in
-    c.part_in.result ≡ partIn (start r).args.kind (figuresFrom (start r).args.words.now)
+    c.part_in.result ≡ part_in (start r).args.kind (figures_from (start r).args.words.now)
 part c =
     let r = c.before.before.before.before.before.before.before.before in
-    c.part_in.ensures ∙ ap (partIn (start r).args.kind) (found r.before)
+    c.part_in.ensures ∙ ap (part_in (start r).args.kind) (found r.before)
 
 put-part-requires : tie.Need-put-part-requires
-unfolding recordFrom
+unfolding record_from
 put-part-requires c κs =
     let v = c.before.before.before.before in
     let t = v.before.before in

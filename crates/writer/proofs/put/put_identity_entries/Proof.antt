@@ -1,8 +1,8 @@
 -- None, or the first entry and those that follow it. Assumes nothing.
 use Prim.Native.Nat.{◌+◌}
-use Rattle.grammar.specs.Grammar.{identity, noIdentity}
-use Rattle.grammar.proofs.Sizes.{size-noIdentity}
-use Rattle.words.specs.RecordWords.{identityFrom}
+use Rattle.grammar.specs.Grammar.{identity, no_identity}
+use Rattle.grammar.proofs.Sizes.{size-no_identity}
+use Rattle.words.specs.RecordWords.{identity_from}
 use Rattle.writer.proofs.PutsEntries.{Putting, putting-start, putting-room, putting-next, putting-done}
 use borrow.Author.Rules.{rules}
 use native.Mathlib.Omega.{arith}
@@ -10,11 +10,11 @@ use Rattle.writer.proofs.put.put_identity_entries.Statement.{statement}
 use Rattle.writer.proofs.put.put_identity_entries.Tie as tie
 
 none : (c : tie.Start) → let a = c.args in
-    Putting identity noIdentity identityFrom 3 8 a.n a.words.now a.from a.out.now a.at 0 a.from a.out.now a.at
+    Putting identity no_identity identity_from 3 8 a.n a.words.now a.from a.out.now a.at 0 a.from a.out.now a.at
 none c = putting-start c.requires.2
 
 returns : tie.Need-returns
-returns c = putting-done (none c.before.before.before) size-noIdentity (omega (arith, c.if1.true))
+returns c = putting-done (none c.before.before.before) size-no_identity (omega (arith, c.if1.true))
 
 put-identity-requires : tie.Need-put-identity-requires
 put-identity-requires c κs =
@@ -22,7 +22,7 @@ put-identity-requires c κs =
     (omega (arith, b.requires.0), putting-room (none b) (omega (arith, c.before.if1.false)) b.requires.1)
 
 one : (c : tie.After-put-identity) → let p = c.put-identity in let a = c.before.before.before.before.before.args in
-    Putting identity noIdentity identityFrom 3 8 a.n a.words.now a.from a.out.now a.at 1 (a.from + 3) p.new.0 p.result.at
+    Putting identity no_identity identity_from 3 8 a.n a.words.now a.from a.out.now a.at 1 (a.from + 3) p.new.0 p.result.at
 one c =
     let b = c.before.before.before.before.before in
     putting-next (none b) (omega (arith, c.before.before.if1.false)) b.requires.1 c.put-identity.auto.0 c.put-identity.ensures.0

@@ -1,8 +1,8 @@
 -- Entry by entry, up to the last that is used. Assumes nothing.
 use Prim.Native.Nat.{◌-◌}
-use Rattle.grammar.specs.Grammar.{identity, noIdentity}
-use Rattle.grammar.proofs.Sizes.{size-noIdentity}
-use Rattle.words.specs.RecordWords.{identityFrom}
+use Rattle.grammar.specs.Grammar.{identity, no_identity}
+use Rattle.grammar.proofs.Sizes.{size-no_identity}
+use Rattle.words.specs.RecordWords.{identity_from}
 use Rattle.writer.specs.Inner.{Ended}
 use Rattle.writer.proofs.PutsEntries.{Putting, putting-start, putting-room, putting-next, putting-done}
 use borrow.Author.Rules.{rules}
@@ -12,7 +12,7 @@ use Rattle.writer.proofs.put.put_next_identities.Tie as tie
 
 abbrev invariant-loop : tie.invariant-loop
 invariant-loop out₀ words from n next₀ place₀ i₀ out next place i =
-    Putting identity noIdentity identityFrom 3 7 n words from out₀ next₀.at i place out next.at × Ended out next.at next.last
+    Putting identity no_identity identity_from 3 7 n words from out₀ next₀.at i place out next.at × Ended out next.at next.last
 
 abbrev decreases-loop : tie.decreases-loop
 decreases-loop out₀ words from n next₀ place₀ i₀ out next place i = n - i
@@ -35,7 +35,7 @@ loop-again c =
     (putting-next r.loop.invariant.0 q.loop-test.true s.requires.1 p.auto.0 p.ensures.0, p.ensures.1)
 
 returns : tie.Need-returns invariant-loop decreases-loop
-returns c = putting-done c.before.loop.invariant.0 size-noIdentity c.loop-test.false
+returns c = putting-done c.before.loop.invariant.0 size-no_identity c.loop-test.false
 
 pub put-next-identities-spec : {M : Type 1} → statement M
 put-next-identities-spec =

@@ -9,8 +9,8 @@ use Rattle.grammar.specs.Grammar.{external}
 use Rattle.words.specs.RecordWords.{word}
 use Rattle.words.proofs.LegalRecords.{SmallNumber}
 use Rattle.tally.proofs.Words.{number_at, number-at}
-use Rattle.writer.specs.Inner.{Room, codeBits}
-use Rattle.writer.proofs.Runs.{put-as-run, room-front, room-over, put-over}
+use Rattle.writer.specs.Inner.{Room, code_bits}
+use Rattle.writer.proofs.Runs.{put_as-run, room-front, room-over, put-over}
 use Rattle.writer.proofs.Codes.{length-small, number-front, number-rest}
 use borrow.Author.Rules.{rules}
 use native.Mathlib.Omega.{arith}
@@ -28,7 +28,7 @@ few c = length-small c.args.words.now c.args.from (omega (arith, c.requires.0)) 
 
 -- the digits that the first run does not have
 abbrev others : (c : tie.Start) → ℕ → List Bool
-others c late = codeBits 4 (take late (drop (c.args.from + 13) c.args.words.now))
+others c late = code_bits 4 (take late (drop (c.args.from + 13) c.args.words.now))
 
 front : (c : tie.After-with-twelve) (late : ℕ) → let b = c.before.before.before.before.before.before in
     let early = c.before.bits.result.0 in
@@ -57,12 +57,12 @@ put-run-requires c κs =
     )
 
 returns : tie.Need-returns
-unfolding codeBits
+unfolding code_bits
 returns c =
     let p = c.before.before.before in
     let q = p.before.before in
     rw number-at
-    (put-as-run _ _ (front q 0 (omega (arith, q.before.before.least.ensures, c.if1.true)) ∙ append-nil _) p.put-run.ensures)
+    (put_as-run _ _ (front q 0 (omega (arith, q.before.before.least.ensures, c.if1.true)) ∙ append-nil _) p.put-run.ensures)
 
 cast-least-2 : tie.Need-overflow-cast-least-2
 cast-least-2 c =

@@ -1,8 +1,8 @@
 -- Entry by entry, up to the last that is used. Assumes nothing.
 use Prim.Native.Nat.{◌-◌}
-use Rattle.grammar.specs.Grammar.{external, noExternal}
-use Rattle.grammar.proofs.Sizes.{size-noExternal}
-use Rattle.words.specs.RecordWords.{numberFrom}
+use Rattle.grammar.specs.Grammar.{external, no_external}
+use Rattle.grammar.proofs.Sizes.{size-no_external}
+use Rattle.words.specs.RecordWords.{number_from}
 use Rattle.words.proofs.LegalRecords.{SmallNumber}
 use Rattle.writer.proofs.PutsEntries.{Putting, putting-start, putting-room, putting-next, putting-done, each-entry}
 use borrow.Author.Rules.{rules}
@@ -11,7 +11,7 @@ use Rattle.writer.proofs.put.put_number_entries.Statement.{statement}
 use Rattle.writer.proofs.put.put_number_entries.Tie as tie
 
 abbrev invariant-loop : tie.invariant-loop
-invariant-loop out₀ at words from n next₀ place₀ i₀ out next place i = Putting external noExternal numberFrom 25 8 n words from out₀ at i place out next
+invariant-loop out₀ at words from n next₀ place₀ i₀ out next place i = Putting external no_external number_from 25 8 n words from out₀ at i place out next
 
 abbrev decreases-loop : tie.decreases-loop
 decreases-loop out₀ at words from n next₀ place₀ i₀ out next place i = n - i
@@ -21,7 +21,7 @@ put-number-requires c κs =
     let l = c.before.before.loop in
     let b = c.before.before.before.before.before in (
       omega (arith, l.invariant.there, b.requires.0, b.requires.1, c.before.loop-test.true),
-      each-entry SmallNumber numberFrom 25 8 l.i
+      each-entry SmallNumber number_from 25 8 l.i
           b.args.words.now b.args.from b.requires.2 (omega (arith, b.requires.1, c.before.loop-test.true)) l.invariant.there,
       putting-room
           l.invariant c.before.loop-test.true b.requires.1,
@@ -36,7 +36,7 @@ loop-again c =
     putting-next r.loop.invariant q.loop-test.true s.requires.1 p.auto.0 p.ensures
 
 returns : tie.Need-returns invariant-loop decreases-loop
-returns c = putting-done c.before.loop.invariant size-noExternal c.loop-test.false
+returns c = putting-done c.before.loop.invariant size-no_external c.loop-test.false
 
 pub put-number-entries-spec : {M : Type 1} → statement M
 put-number-entries-spec =

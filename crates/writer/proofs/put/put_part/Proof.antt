@@ -1,6 +1,6 @@
 -- The part says which lists are put. Assumes nothing.
 use borrow.Author.Tests.{eq-eqb, ne_eqb}
-use Rattle.grammar.proofs.Sizes.{size-noPart}
+use Rattle.grammar.proofs.Sizes.{size-no_part}
 use Rattle.writer.proofs.Puts.{put-none}
 use borrow.Author.Rules.{rules}
 use Rattle.writer.proofs.put.put_part.Statement.{statement}
@@ -37,7 +37,7 @@ returns-2 c =
 returns-3 : tie.Need-returns-3
 returns-3 c =
     let r = c.before.before.before.before.args.part in
-    rw (ne_eqb r 1 c.before.if1.false, ne_eqb r 2 c.if2.false) (put-none size-noPart)
+    rw (ne_eqb r 1 c.before.if1.false, ne_eqb r 2 c.if2.false) (put-none size-no_part)
 
 pub put-part-spec : {M : Type 1} → statement M
 put-part-spec =

@@ -6,7 +6,7 @@ use Prim.Native.Nat.{ℕ, ◌+◌}
 use native.Mathlib.Omega.{arith}
 use borrow.Author.Rules.{rules}
 use lib.ListN.{take}
-use Rattle.bits.proofs.Numbers.{length-bitsOf}
+use Rattle.bits.proofs.Numbers.{length-bits_of}
 use Rattle.bits.proofs.Lays.{lay-front}
 use Rattle.codec.specs.Parts.{number}
 use Rattle.writer.proofs.put.put_run.Statement.{statement}
@@ -18,7 +18,7 @@ returns c =
     let p = c.before.before in
     let b = p.before.before.before in
     let a = b.args in
-    let l = length-bitsOf a.width a.run in
+    let l = length-bits_of a.width a.run in
     record {
       there = ap (λ (x : List Bool). take (a.at + a.width) x) p.lay.ensures.1
           ∙ lay-front a.out.now a.at a.width a.run b.requires.0 (omega (arith, b.requires.1.fits));

@@ -4,9 +4,9 @@ use Prim.Native.Nat.{◌+◌, ◌*◌, ◌-◌, ◌/◌, ◌^◌}
 use Rattle.bits.specs.Bits.{bits_of}
 use Rattle.codec.specs.Parts.{number, seq}
 use Rattle.grammar.specs.Grammar.{services}
-use Rattle.tally.proofs.Words.{servicesAt, services-at}
+use Rattle.tally.proofs.Words.{services_at, services-at}
 use Rattle.writer.specs.Inner.{Room}
-use Rattle.writer.proofs.Runs.{room-run, put-as-run}
+use Rattle.writer.proofs.Runs.{room-run, put_as-run}
 use Rattle.writer.proofs.Codes.{services-run}
 use borrow.Author.Rules.{rules}
 use native.Mathlib.Omega.{arith}
@@ -14,11 +14,11 @@ use Rattle.writer.proofs.put.put_services.Statement.{statement}
 use Rattle.writer.proofs.put.put_services.Tie as tie
 
 room : (c : tie.Start) → let a = c.args in
-    Room (seq (number a.width) (λ x. services)) (a.lead, servicesAt a.words.now a.from) a.out.now a.at
+    Room (seq (number a.width) (λ x. services)) (a.lead, services_at a.words.now a.from) a.out.now a.at
 room c = rw services-at at c.requires.3
 
 whole : (c : tie.After-with-codes) → let used = c.before.least.result in let a = c.before.before.before.before.before.args in
-    (seq (number a.width) (λ x. services)).print (a.lead, servicesAt a.words.now a.from)
+    (seq (number a.width) (λ x. services)).print (a.lead, services_at a.words.now a.from)
     ≡ bits_of (a.width + 3 + 3 * used) (c.with-codes.result / 2 ^ (21 - 3 * used))
 whole c =
     let b = c.before.before.before.before.before in
@@ -42,7 +42,7 @@ put-run-requires c κs =
     (omega (arith, c.before.before.least.ensures, p.requires.1), room-run _ _ (whole c.before) (room p))
 
 returns : tie.Need-returns
-returns c = rw services-at (put-as-run _ _ (whole c.before.before.before.before) c.before.before.put-run.ensures)
+returns c = rw services-at (put_as-run _ _ (whole c.before.before.before.before) c.before.before.put-run.ensures)
 
 pub put-services-spec : {M : Type 1} → statement M
 put-services-spec =

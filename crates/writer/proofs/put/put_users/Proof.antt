@@ -2,7 +2,7 @@
 use borrow.Author.Rules.{rules}
 use native.Mathlib.Omega.{arith}
 use Rattle.grammar.specs.declared.site.ListKind.TheVariants.{Users, Identities}
-use Rattle.grammar.proofs.Sizes.{size-noIdentities}
+use Rattle.grammar.proofs.Sizes.{size-no_identities}
 use Rattle.writer.proofs.Puts.{room-listing, put-listing, put-none}
 use Rattle.writer.proofs.put.put_users.Statement.{statement}
 use Rattle.writer.proofs.put.put_users.Tie as tie
@@ -19,7 +19,7 @@ returns c =
     rw p.before.before.if1.true (put-listing Identities Users p.put-identities.ensures)
 
 returns-2 : tie.Need-returns-2
-returns-2 c = rw c.if1.false (put-none size-noIdentities)
+returns-2 c = rw c.if1.false (put-none size-no_identities)
 
 pub put-users-spec : {M : Type 1} → statement M
 put-users-spec = tie.close (tie.spec put-identities-requires (λ c. search rules) returns returns-2)
