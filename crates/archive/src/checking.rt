@@ -13,7 +13,7 @@ use bits::BitCount;
 use walk::BitPlace;
 
 // What a check says of bytes: an archive; or refusal 7, with the first entry whose body is at fault where all else is right.
-#[derive(Drop)]
+#[derive(Clone, Copy)]
 pub enum Checked {
     Archive,
     Refused(Refusal),
@@ -131,7 +131,7 @@ fn rest_has_shape(archive: &[u8], entries: usize, from: usize, bodies: usize, ra
 }
 
 // A contents place and a body place: those of a key's entry, or where they would go, with no entry, no bits and day 0.
-#[derive(Drop)]
+#[derive(Clone, Copy)]
 pub struct Place {
     pub at: usize,
     pub off: usize,

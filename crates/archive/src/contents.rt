@@ -12,7 +12,7 @@ pub(crate) const HEADER: usize = 5;
 pub(crate) const ENTRY: usize = 11;
 
 // A user, by network and SSI, and a part: 1 for identities, 2 for numbers.
-#[derive(Drop)]
+#[derive(Clone, Copy)]
 pub struct Key {
     pub network: u32,
     pub ssi: u32,
@@ -30,7 +30,7 @@ impl Key {
 }
 
 // A contents entry: a key, the bit length of its PDU, and the day on which that was taken, below 65,536.
-#[derive(Drop)]
+#[derive(Clone, Copy)]
 pub struct Entry {
     pub key: Key,
     pub bits: BitCount,

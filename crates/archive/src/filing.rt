@@ -9,7 +9,7 @@ use judging::Judged;
 use walk::{BitPlace, Head, Walked};
 
 // The key under which a PDU is filed; nowhere if no archive entry may hold it.
-#[derive(Drop)]
+#[derive(Clone, Copy)]
 pub enum Filing {
     Under(Key),
     Nowhere,
@@ -46,7 +46,7 @@ fn is_filed_under(home: u32, head: Head, key: Key) -> bool
 }
 
 // Whether a body agrees with its entry; if not, it is at fault, with the bit place where it is refused.
-#[derive(Drop)]
+#[derive(Clone, Copy)]
 pub enum Agreement {
     Agrees,
     Fault(BitPlace),

@@ -1,4 +1,6 @@
 // The archive of INTERROGATE ACKs: an empty one, capture into it, restore from it (document 01, "The archive").
+#![tactic(auto)]
+
 mod checking;
 mod contents;
 mod copying;
@@ -24,21 +26,21 @@ pub use refusal::{EntryPlace, Refusal};
 use walk::Walked;
 
 // The length in bytes of an archive, or of a listing, that was written; or a refusal.
-#[derive(Drop)]
+#[derive(Clone, Copy)]
 pub enum Stored {
     Bytes(usize),
     Refused(Refusal),
 }
 
 // The length in bits of a PDU that was written from an archive, and the day on which it was taken; or a refusal.
-#[derive(Drop)]
+#[derive(Clone, Copy)]
 pub enum Restored {
     Bits(BitCount, u32),
     Refused(Refusal),
 }
 
 // Where the body of a held PDU begins, its length in bits, and its day; or the refusal of what is no archive.
-#[derive(Drop)]
+#[derive(Clone, Copy)]
 pub enum Fetched {
     Body(usize, BitCount, u32),
     NotHeld,
@@ -46,7 +48,7 @@ pub enum Fetched {
 }
 
 // The contents entry at an index, or a refusal.
-#[derive(Drop)]
+#[derive(Clone, Copy)]
 pub enum Listed {
     Entry(Entry),
     Refused(Refusal),

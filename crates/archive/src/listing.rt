@@ -229,7 +229,7 @@ fn write_fault(refusal: Refusal, out: &mut [u8]) -> usize
 }
 
 // How many bytes the program `contents` prints, and how many it tells on standard error.
-#[derive(Drop)]
+#[derive(Clone, Copy)]
 pub struct Reported {
     pub printed: usize,
     pub told: usize,

@@ -6,13 +6,13 @@ ghost use Rattle.archive.specs.Inner.{walked_refusal};
 use walk::{BitPlace, Walked};
 
 // The index of an entry, from 0, or none.
-#[derive(Drop)]
+#[derive(Clone, Copy)]
 pub enum EntryPlace {
     At(usize),
     Nowhere,
 }
 
-#[derive(Drop)]
+#[derive(Clone, Copy)]
 pub struct Refusal {
     pub number: u32,
     pub entry: EntryPlace,

@@ -1,4 +1,6 @@
 // Whether a call is barred: the decision from an archive (document 01, "The barring rule").
+#![tactic(auto)]
+
 ghost use Rattle.std.specs.Prelude.{◌≡◌, ◌+◌, ◌≤◌, length};
 ghost use Rattle.bits.specs.Frame.{bytes_for};
 ghost use Rattle.barring.specs.Decision.{decision_of};
@@ -12,7 +14,7 @@ use rules::Ruling;
 use rules::request::{Destination, Request, request_refusal};
 
 // The answer to a request: allowed; barred, with its cause; the part that judges it is not held; or refused.
-#[derive(Drop)]
+#[derive(Clone, Copy)]
 pub enum Decision {
     Allowed,
     Barred(u32),
@@ -52,7 +54,7 @@ fn ruling_of_body(archive: &[u8], at: usize, n: BitCount, request: Request) -> D
 }
 
 // Where the part stands that judges a request: the place of its body in the archive, and its length in bits. Or the answer, where there is none.
-#[derive(Drop)]
+#[derive(Clone, Copy)]
 pub enum JudgingPart {
     At(usize, BitCount),
     Answered(Decision),

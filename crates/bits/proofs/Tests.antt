@@ -3,7 +3,6 @@ use mathlib.Core.Path.{◌≡◌, refl, sym, ◌∙◌}
 use mathlib.Core.Bool.{Bool, true, false, not, ◌&&◌, true≢false, and-eq-true_iff}
 use Prim.Native.Nat.{ℕ}
 use native.Mathlib.Omega.{arith}
-use borrow.Author.Tests.{not-true, not-false}
 use Rattle.bits.specs.Bits.{pick}
 
 pub differ : {A : Type 0} → true ≡ false → A
@@ -29,11 +28,11 @@ and-false false p = refl
 
 -- a call's answer that is ensured to be x, and the branch taken on it, say x
 module _ {r x : Bool} (e : r ≡ x) where
-  pub said-no : not r ≡ true → x ≡ false
-  said-no t = sym e ∙ not-true r t
+  pub said-no : r ≡ false → x ≡ false
+  said-no t = sym e ∙ t
 
-  pub said-yes : not r ≡ false → x ≡ true
-  said-yes t = sym e ∙ not-false r t
+  pub said-yes : r ≡ true → x ≡ true
+  said-yes t = sym e ∙ t
 
 -- ---- one of two, by a test
 

@@ -1,16 +1,18 @@
 // Bits of bytes, most significant first: a cursor that takes elements, a function that puts one in its place,
 // the counts of bits and digits, and the frame of a PDU (document 01, "The two PDUs").
+#![tactic(auto)]
+
 ghost use Rattle.std.specs.Prelude.{◌≡◌, ◌+◌, ◌-◌, ◌*◌, ◌/◌, ◌%◌, ◌^◌, ◌≤◌, ◌<◌, min, ◌++◌, length, take, drop, get_or, replicate};
 ghost use Rattle.bits.specs.Bits.{bits, bits_of, value, splice};
 ghost use Rattle.bits.specs.Frame.{bytes_for, framed};
 ghost use Rattle.bits.specs.Element.{taken_at, window_at, has_room, put_at, has_eight, lay_at};
 
 // A length in bits: a PDU's.
-#[derive(Drop)]
+#[derive(Clone, Copy)]
 pub struct BitCount(pub usize);
 
 // A length in digits, of four bits each: an external number's.
-#[derive(Drop)]
+#[derive(Clone, Copy)]
 pub struct DigitCount(pub u8);
 
 impl DigitCount {
@@ -31,12 +33,12 @@ impl BitCount {
 }
 
 // A place among the bits of a PDU.
-#[derive(Drop)]
+#[derive(Clone, Copy)]
 pub struct Cursor {
     pub at: usize,
 }
 
-#[derive(Drop)]
+#[derive(Clone, Copy)]
 pub enum Taken {
     // The element, and the cursor after it.
     Element(u32, Cursor),

@@ -1,6 +1,8 @@
 // The public calls for C: each returns 0 or the refusal number; what it answers besides goes through a pointer to one number, which a refusal
 // leaves alone. A refusal of reading, or of an archive's call, says where it stopped through pointers of their own, which a success leaves alone.
 // A slice of words of another length than it should have gives 9, before anything else.
+#![tactic(auto)]
+
 mod serial;
 
 ghost use Rattle.std.specs.Prelude.{◌≡◌, length};

@@ -1,18 +1,20 @@
 // Reading a PDU element by element, left to right: each reader goes on from where the one before it stands, and passes its refusal on.
+#![tactic(auto)]
+
 ghost use Rattle.std.specs.Prelude.{◌≡◌};
 ghost use Rattle.codec.specs.Reading.{resume, element_of, number_is, tested_is};
 
 use bits::{BitCount, Cursor, Taken};
 
 // Where reading stands: at a place; or refused, with the number and the bit place of the element at fault.
-#[derive(Drop)]
+#[derive(Clone, Copy)]
 pub enum Reached {
     At(Cursor),
     Refused(u32, usize),
 }
 
 // A number that was read, and where reading then stands. Beside a refusal it is 0.
-#[derive(Drop)]
+#[derive(Clone, Copy)]
 pub struct NumberRead {
     pub reached: Reached,
     pub value: u32,

@@ -20,7 +20,7 @@ fn main() {
 }
 
 // How many bytes reading brought, and whether it failed: if not, it ended, or the buffer is full.
-#[derive(Drop)]
+#[derive(Clone, Copy)]
 struct Got {
     count: usize,
     failed: bool,

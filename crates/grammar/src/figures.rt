@@ -15,7 +15,7 @@ use crate::site::{PduType, between_refusal, defined_part, reserved_refusal};
 use crate::zero::zero_figures;
 
 // What a PDU of a type has: affected users, services, and so many bits of figures.
-#[derive(Drop)]
+#[derive(Clone, Copy)]
 pub struct Form {
     pub users: bool,
     pub services: bool,

@@ -2,7 +2,7 @@
 use bits::DigitCount;
 
 // A user, group or destination: its SSI, whether an extension is present, and the extension.
-#[derive(Drop)]
+#[derive(Clone, Copy)]
 pub struct Identity {
     pub ssi: u32,
     pub present: u32,
@@ -10,34 +10,34 @@ pub struct Identity {
 }
 
 // A range type and its entries.
-#[derive(Drop)]
+#[derive(Clone, Copy)]
 pub struct Identities {
     pub code: u32,
     pub entries: [Identity; 8],
 }
 
 // An external subscriber number.
-#[derive(Drop)]
+#[derive(Clone, Copy)]
 pub struct Number {
     pub length: DigitCount,
     pub digits: [u8; 24],
 }
 
-#[derive(Drop)]
+#[derive(Clone, Copy)]
 pub struct Numbers {
     pub code: u32,
     pub entries: [Number; 8],
 }
 
 // The number of services and the services.
-#[derive(Drop)]
+#[derive(Clone, Copy)]
 pub struct Services {
     pub count: u32,
     pub list: [u32; 7],
 }
 
 // The lists: closed user groups, restricted identities and exceptions to them, restricted external numbers and exceptions to those.
-#[derive(Drop)]
+#[derive(Clone, Copy)]
 pub struct Lists {
     pub groups: Identities,
     pub restricted: Identities,
@@ -48,7 +48,7 @@ pub struct Lists {
 
 // The figures of a PDU, of which each type carries at most three: interrogation type, interrogation result, delivery status;
 // delivery to affected users, acknowledgement from them, definition type; definition result, distribution result, rejection cause.
-#[derive(Drop)]
+#[derive(Clone, Copy)]
 pub struct Figures {
     pub asked: u32,
     pub result: u32,
@@ -62,7 +62,7 @@ pub struct Figures {
 }
 
 // PDU type, affected users, figures, services, lists.
-#[derive(Drop)]
+#[derive(Clone, Copy)]
 pub struct Record {
     pub kind: u32,
     pub affected: Identities,

@@ -17,7 +17,7 @@ pub fn ss_refusal(code: u32) -> u32
 }
 
 // What a range type says of the entries that follow it.
-#[derive(Drop)]
+#[derive(Clone, Copy)]
 pub enum RangeType {
     Empty,
     Single(u32),
@@ -26,7 +26,7 @@ pub enum RangeType {
 }
 
 // The three kinds of list, by which a range type may be refused.
-#[derive(Drop)]
+#[derive(Clone, Copy)]
 pub enum ListKind {
     Users,
     Identities,
@@ -34,7 +34,7 @@ pub enum ListKind {
 }
 
 // A row of the site sheet: how many entries follow, and whether the code is refused.
-#[derive(Drop)]
+#[derive(Clone, Copy)]
 pub struct Row {
     pub entries: u32,
     pub refused: bool,
@@ -153,7 +153,7 @@ pub fn range_refusal(list: ListKind, code: u32) -> u32
 }
 
 // A digit of an external number.
-#[derive(Drop)]
+#[derive(Clone, Copy)]
 pub enum Digit {
     Decimal(u32),
     Star,
@@ -195,7 +195,7 @@ pub fn are_digits(w: u64) -> bool
 }
 
 // A service (table 42).
-#[derive(Drop)]
+#[derive(Clone, Copy)]
 pub enum Service {
     All,
     Speech,
@@ -229,7 +229,7 @@ pub fn service_refusal(code: u32) -> u32
 }
 
 // A BOC PDU type (table 23) that has a PDU.
-#[derive(Drop)]
+#[derive(Clone, Copy)]
 pub enum PduType {
     Define,
     DefineAck,

@@ -15,7 +15,7 @@ use grammar::record::Identity;
 use rules::request::{Group, User};
 
 // An entry, and where it ends.
-#[derive(Drop)]
+#[derive(Clone, Copy)]
 pub struct Entry {
     pub identity: Identity,
     pub end: usize,

@@ -1,5 +1,7 @@
 // Whether a call is barred, decided without unpacking: the bits of the part that judges it are walked in the archive, and each entry is
 // compared as it passes (document 02, request 2026-14). No record is made, and no list is kept.
+#![tactic(auto)]
+
 mod identities;
 mod numbers;
 mod services;
@@ -25,7 +27,7 @@ const SERVICES: usize = 45;
 const EXTENSION: usize = 24;
 
 // What a list says of a call: whether it has the destination, or the group; whether it is empty; and where it ends.
-#[derive(Drop)]
+#[derive(Clone, Copy)]
 pub struct Seen {
     pub has: bool,
     pub empty: bool,
@@ -33,7 +35,7 @@ pub struct Seen {
 }
 
 // Whether something that was looked for stands among what was passed, and where that ends.
-#[derive(Drop)]
+#[derive(Clone, Copy)]
 pub struct Passed {
     pub has: bool,
     pub end: usize,

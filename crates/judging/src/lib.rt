@@ -1,4 +1,6 @@
 // Judging an accepted PDU: whether an archive may hold it, for which user, and as which part.
+#![tactic(auto)]
+
 ghost use Rattle.std.specs.Prelude.{◌≡◌};
 ghost use Rattle.judging.specs.Judge.{judged_is};
 
@@ -6,7 +8,7 @@ use grammar::record::Identity;
 use walk::Head;
 
 // A PDU that an archive may hold: its affected user and its interrogation result. Any other PDU is none.
-#[derive(Drop)]
+#[derive(Clone, Copy)]
 pub enum Judged {
     Part(Identity, u32),
     Other,

@@ -1,4 +1,6 @@
 // Reading a PDU: the walk decides; only from an accepted PDU are values stored, straight from its bits into the lent words.
+#![tactic(auto)]
+
 mod identities;
 mod lists;
 mod numbers;
@@ -17,14 +19,14 @@ use walk::{BitPlace, Refusal, Walked};
 use words::record::{RECORD_WORDS, record_from};
 
 // Whether a PDU is accepted, or the number with which it is refused and the bit place of the element at fault.
-#[derive(Drop)]
+#[derive(Clone, Copy)]
 pub enum Answer {
     Accepted,
     Refused(Refusal),
 }
 
 // The answer, and the record of an accepted PDU. Beside a refusal all of it is zero.
-#[derive(Drop)]
+#[derive(Clone, Copy)]
 pub struct Reading {
     pub answer: Answer,
     pub found: Record,

@@ -1,4 +1,6 @@
 // A held part put back into a switch: the DEFINE or DEFINE EXTERNAL that is written for it (document 02, requests 2026-01 and 2026-06).
+#![tactic(auto)]
+
 ghost use Rattle.std.specs.Prelude.{◌≡◌, ◌+◌, ◌≤◌, length};
 ghost use Rattle.bits.specs.Frame.{bytes_for};
 ghost use Rattle.archive.specs.Refusals.{plain};
@@ -13,14 +15,14 @@ use grammar::site;
 use pdu::{BitPlace, Written};
 
 // The PDU in which a part is put back: a DEFINE has lists of identities, a DEFINE EXTERNAL lists of numbers.
-#[derive(Drop)]
+#[derive(Clone, Copy)]
 pub enum Target {
     Define,
     DefineExternal,
 }
 
 // What is asked for: the definition type, delivery to the affected user, acknowledgement from it.
-#[derive(Drop)]
+#[derive(Clone, Copy)]
 pub struct Definition {
     pub definition: u32,
     pub delivery: u32,
@@ -28,7 +30,7 @@ pub struct Definition {
 }
 
 // The length in bits of the PDU that was written, or a refusal.
-#[derive(Drop)]
+#[derive(Clone, Copy)]
 pub enum Reloaded {
     Bits(BitCount),
     Refused(Refusal),

@@ -1,4 +1,6 @@
 // What a part says of a call: the request and the six rules (document 01, "The barring rule").
+#![tactic(auto)]
+
 mod lists;
 mod matching;
 pub mod request;
@@ -21,7 +23,7 @@ pub const RESTRICTED_SERVICE: u32 = 1;
 pub const RESTRICTED_ADDRESS: u32 = 2;
 
 // What a part says of a call: allowed; or barred, with its cause.
-#[derive(Drop)]
+#[derive(Clone, Copy)]
 pub enum Ruling {
     Allowed,
     Barred(u32),

@@ -6,26 +6,26 @@ ghost use Rattle.rules.specs.Request.{is_user, is_service, is_destination, is_gr
 use bits::DigitCount;
 
 // A network and an SSI in it.
-#[derive(Drop)]
+#[derive(Clone, Copy)]
 pub struct User {
     pub network: u32,
     pub ssi: u32,
 }
 
 // An identity, or an external number of so many digits; the digits stand beside it in the request.
-#[derive(Drop)]
+#[derive(Clone, Copy)]
 pub enum Destination {
     Identity(User),
     Number(DigitCount),
 }
 
-#[derive(Drop)]
+#[derive(Clone, Copy)]
 pub enum Group {
     Of(User),
     NoGroup,
 }
 
-#[derive(Drop)]
+#[derive(Clone, Copy)]
 pub struct Request {
     pub user: User,
     pub service: u32,

@@ -1,5 +1,7 @@
 // What the words of a record come to before anything is stored, part by part in the order of reading: whether all that its PDU does not
 // carry is zero, the first refusal, and the length of the PDU.
+#![tactic(auto)]
+
 mod elements;
 mod identities;
 mod lists;
@@ -24,7 +26,7 @@ use words::record::{RECORD_WORDS, figures_from};
 
 // What the parts so far come to: all is zero that must be, the first refusal number or 0, and the length in bits.
 // Each function counts one part more, from `start` on.
-#[derive(Drop)]
+#[derive(Clone, Copy)]
 pub struct Tally {
     pub clean: bool,
     pub refusal: u32,

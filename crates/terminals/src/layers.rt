@@ -7,7 +7,7 @@ ghost use Rattle.terminals.specs.Inner.{Has};
 pub(crate) const PLACES: usize = 269;
 
 // A layer: its places stand in the table from `start` on, `count` of them; if it takes a third field, the values from `first` on name them.
-#[derive(Drop)]
+#[derive(Clone, Copy)]
 pub struct Layer {
     pub start: usize,
     pub count: usize,
@@ -16,14 +16,14 @@ pub struct Layer {
 }
 
 // The third field of a line, or of a place: service layer 2, or PID.
-#[derive(Drop)]
+#[derive(Clone, Copy)]
 pub enum Third {
     Given(usize),
     Missing,
 }
 
 // A place: its layer, and the third field that names it.
-#[derive(Drop)]
+#[derive(Clone, Copy)]
 pub struct Place {
     pub layer: usize,
     pub third: Third,

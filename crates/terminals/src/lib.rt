@@ -1,5 +1,7 @@
 // Terminals on the serial port: +CTSP lines are read, and a table of service profiles is kept by them (document 02, request 2026-10; EN 300 392-5,
 // clause 6.14.4).
+#![tactic(auto)]
+
 mod layers;
 mod lines;
 mod profiles;
@@ -13,7 +15,7 @@ pub use layers::Third;
 use lines::{Fields, Line};
 
 // What a line is answered with: the length in bytes of the text that was written, or a refusal number.
-#[derive(Drop)]
+#[derive(Clone, Copy)]
 pub enum Answer {
     Length(usize),
     Refused(u32),

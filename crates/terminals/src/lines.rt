@@ -6,7 +6,7 @@ use crate::layers::Third;
 use text::Field;
 
 // The fields of a set line. A fourth one is refused whatever it says.
-#[derive(Drop)]
+#[derive(Clone, Copy)]
 pub struct Fields {
     pub profile: usize,
     pub layer: usize,
@@ -15,7 +15,7 @@ pub struct Fields {
 }
 
 // What a line says.
-#[derive(Drop)]
+#[derive(Clone, Copy)]
 pub enum Line {
     Read,
     Set(Fields),

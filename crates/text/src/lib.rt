@@ -1,4 +1,6 @@
 // Text in a lent buffer: bytes and decimal numbers laid from a place on, and the decimal field that begins at a place.
+#![tactic(auto)]
+
 ghost use Rattle.std.specs.Prelude.{◌≡◌, ◌∷◌, [], ◌+◌, ◌≤◌, ◌<◌, length, take, drop, leb};
 ghost use Rattle.bits.specs.Inner.{Laid};
 ghost use Rattle.text.specs.Laying.{end_at, laid_at};
@@ -92,7 +94,7 @@ pub fn write_number(out: &mut [u8], at: usize, n: usize) -> usize
 }
 
 // The number that a field says, and the place after it; or no field.
-#[derive(Drop)]
+#[derive(Clone, Copy)]
 pub enum Field {
     Number(u32, usize),
     None,

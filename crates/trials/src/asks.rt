@@ -172,7 +172,7 @@ fn verify(archive: &[u8]) {
 }
 
 // What an engine tells: its answer, and the decision.
-#[derive(Drop)]
+#[derive(Clone, Copy)]
 pub struct Told {
     pub number: u32,
     pub entry: usize,

@@ -6,7 +6,7 @@ use bits::BitCount;
 const FULL_WORD: u32 = 0xa5a5a5a5;
 
 // The answer, and the record.
-#[derive(Drop)]
+#[derive(Clone, Copy)]
 pub struct Reading {
     pub answer: Answer,
     pub words: [u32; 520],
@@ -34,7 +34,7 @@ pub(crate) fn read(bytes: [u8; 520], count: usize, n: usize) -> Reading {
 }
 
 // The refusal number, 0 for none, and the PDU.
-#[derive(Drop)]
+#[derive(Clone, Copy)]
 pub struct Writing {
     pub number: u32,
     pub bits: BitCount,

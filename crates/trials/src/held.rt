@@ -3,7 +3,7 @@ use crate::show::Answer;
 use crate::{input, show};
 
 // A buffer, and the length of the archive in it.
-#[derive(Drop)]
+#[derive(Clone, Copy)]
 pub struct Held {
     pub length: usize,
     pub bytes: [u8; 70000],
@@ -54,7 +54,7 @@ fn empty(line: &[u8], held: Held) -> Held {
 }
 
 // The PDU given at a place of a line: its bit length and its day in decimal, its bytes in hexadecimal.
-#[derive(Drop)]
+#[derive(Clone, Copy)]
 struct Pdu {
     bits: usize,
     day: u32,

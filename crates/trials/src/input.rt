@@ -16,7 +16,7 @@ pub(crate) fn letter_at(line: &[u8], at: usize) -> u8 {
 }
 
 // A decimal number, and where the word after it begins.
-#[derive(Drop)]
+#[derive(Clone, Copy)]
 pub struct Word {
     pub value: u32,
     pub next: usize,

@@ -4,7 +4,7 @@ use crate::{calls, input, show};
 use bits::BitCount;
 
 // The PDU given last, and its record.
-#[derive(Drop)]
+#[derive(Clone, Copy)]
 pub struct Last {
     pub bits: usize,
     pub bytes: [u8; 520],

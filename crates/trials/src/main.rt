@@ -49,7 +49,7 @@ fn main() {
 }
 
 // What the lines after one speak of: the PDU given last, and the archive.
-#[derive(Drop)]
+#[derive(Clone, Copy)]
 pub struct State {
     pub last: Last,
     pub held: Held,

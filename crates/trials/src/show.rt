@@ -9,7 +9,7 @@ pub(crate) const FULL_PLACE: usize = 0xa5a5a5a5;
 pub(crate) const NOWHERE: usize = 18446744073709551615;
 
 // The refusal number of a call, 0 for none, and where a refusal stopped.
-#[derive(Drop)]
+#[derive(Clone, Copy)]
 pub struct Answer {
     pub number: u32,
     pub entry: usize,

@@ -196,7 +196,7 @@ fn part_ahead(s: &[u8], start: usize, part: u32) -> usize
 }
 
 // The interrogation result, and where the PDU ends if all of it is there and legal.
-#[derive(Drop)]
+#[derive(Clone, Copy)]
 pub struct Ahead {
     pub result: u32,
     pub end: usize,

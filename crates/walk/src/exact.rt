@@ -18,7 +18,7 @@ use grammar::site::{ListKind, PduType};
 use grammar::{figures, site};
 
 // An identity, and where reading then stands; it says nothing beside a refusal.
-#[derive(Drop)]
+#[derive(Clone, Copy)]
 pub struct IdentityRead {
     pub reached: Reached,
     pub value: Identity,
@@ -212,7 +212,7 @@ fn pass_served(s: &[u8], n: BitCount, start: Reached, served: bool) -> Reached
 }
 
 // Where reading stands after the figures, and what they steer; it says nothing beside a refusal.
-#[derive(Drop)]
+#[derive(Clone, Copy)]
 pub struct Steered {
     pub reached: Reached,
     pub result: u32,

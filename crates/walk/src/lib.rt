@@ -1,5 +1,7 @@
 // The walk over a PDU: it keeps only what steers it, and answers with the head of an accepted PDU, or with the refusal number
 // and the bit place of the element at fault.
+#![tactic(auto)]
+
 ghost use Rattle.std.specs.Prelude.{◌≡◌, ◌<◌, ◌^◌, true};
 ghost use Rattle.bits.specs.Frame.{framed};
 ghost use Rattle.walk.specs.Walk.{walk_is};
@@ -15,20 +17,20 @@ mod ahead;
 mod exact;
 
 // Where in a PDU a refusal stands.
-#[derive(Drop)]
+#[derive(Clone, Copy)]
 pub enum BitPlace {
     At(usize),
     Nowhere,
 }
 
-#[derive(Drop)]
+#[derive(Clone, Copy)]
 pub struct Refusal {
     pub number: u32,
     pub place: BitPlace,
 }
 
 // What steers the reading of a PDU: PDU type, range type of the affected users, the first of them, interrogation result; zero where it has none.
-#[derive(Drop)]
+#[derive(Clone, Copy)]
 pub struct Head {
     pub kind: u32,
     pub code: u32,
@@ -36,7 +38,7 @@ pub struct Head {
     pub result: u32,
 }
 
-#[derive(Drop)]
+#[derive(Clone, Copy)]
 pub enum Walked {
     Accepted(Head),
     Refused(Refusal),

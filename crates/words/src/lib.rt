@@ -1,3 +1,5 @@
 // Records and requests as words of 32 bits, the form in which they cross to C.
+#![tactic(auto)]
+
 pub mod record;
 pub mod request;

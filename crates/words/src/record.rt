@@ -69,7 +69,7 @@ const REJECTION_CAUSE: usize = DISTRIBUTION_RESULT + 1;
 pub const RECORD_WORDS: usize = REJECTION_CAUSE + 1;
 
 // Whether words are a record's, and that record. Beside other words all of it is zero.
-#[derive(Drop)]
+#[derive(Clone, Copy)]
 pub struct GivenRecord {
     pub given: bool,
     pub found: Record,

@@ -33,7 +33,7 @@ const GROUP_SSI: usize = GROUP_NETWORK + 1;
 const REQUEST_WORDS: usize = GROUP_SSI + 1;
 
 // Whether words are a request's, and that request. Beside other words all of it is zero.
-#[derive(Drop)]
+#[derive(Clone, Copy)]
 pub struct GivenRequest {
     pub given: bool,
     pub asked: Request,

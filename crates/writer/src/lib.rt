@@ -1,5 +1,7 @@
 // A record written as a PDU into a lent buffer, straight from its words. Everything is checked before the first bit is stored, so a refusal
 // changes no byte.
+#![tactic(auto)]
+
 mod put;
 
 ghost use Rattle.std.specs.Prelude.{◌≡◌, ◌++◌, ◌≤◌, length, drop, leb};
@@ -19,7 +21,7 @@ use words::record;
 use words::record::RECORD_WORDS;
 
 // The length of a PDU that was written, or the number with which its record is refused.
-#[derive(Drop)]
+#[derive(Clone, Copy)]
 pub enum Written {
     Bits(BitCount),
     Refused(u32),

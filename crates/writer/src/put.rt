@@ -85,14 +85,14 @@ fn entries_of(code: u32) -> usize
 // ---- identities
 
 // An identity as a run of bits, after a lead.
-#[derive(Drop)]
+#[derive(Clone, Copy)]
 struct Run {
     width: usize,
     bits: u64,
 }
 
 // A place, and a number that ends in the bits before it.
-#[derive(Drop)]
+#[derive(Clone, Copy)]
 struct Step {
     at: usize,
     last: u64,

@@ -5,11 +5,7 @@ use native.Mathlib.Nat.{one-mul}
 use native.Mathlib.Omega.{arith}
 use lib.Pow.{shl_exact}
 use borrow.Author.Rules.{rules}
-use Rattle.bits.proofs.pow2.Statement.{statement}
-use Rattle.bits.proofs.pow2.Tie as tie
+use Rattle.bits.proofs.pow2.Goals as goal
 
-returns : tie.Need-returns
+pub returns : goal.returns
 returns c = shl_exact {a = 1} 1 c.args.n 64 (omega arith) (omega arith) ∙ one-mul (2 ^ c.args.n)
-
-pub pow2-spec : {M : Type 1} → statement M
-pow2-spec = tie.close (tie.spec (λ c. search rules) returns)

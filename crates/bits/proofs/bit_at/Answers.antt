@@ -8,30 +8,17 @@ use Rattle.bits.specs.Bits.{bits, value}
 use Rattle.bits.proofs.Numbers.{value-bits_of}
 use Rattle.bits.proofs.Shares.{read-within}
 use Rattle.bits.proofs.Windows.{none-there}
-use Rattle.bits.proofs.bit_at.Statement.{statement}
-use Rattle.bits.proofs.bit_at.Tie as tie
+use Rattle.bits.proofs.bit_at.Goals as goal
 
-returns : tie.Need-returns
-returns c = let a = c.before.args in sym (none-there a.s.now a.at 1 (omega arith))
+pub returns-then-s-at : goal.returns-then-s-at
+returns-then-s-at c = let a = c.args in sym (none-there a.s.now a.at 1 (omega arith))
 
-returns-2 : tie.Need-returns-2
-returns-2 c =
-    let a = c.before.before.args in
+pub returns : goal.returns
+returns c =
+    let a = c.args in
     let s = a.s.now in
     let k : ℕ = 7 - a.at % 8 in
     let place : 8 * (a.at / 8) + a.at % 8 ≡ a.at = omega arith in
     sym (ap (λ (x : ℕ). value (take 1 (drop x (bits s)))) (sym place)
     ∙ ap value (read-within s (a.at / 8) (a.at % 8) 1 k (omega arith) (omega arith))
     ∙ value-bits_of 1 (get_or s (a.at / 8) 0 / 2 ^ k))
-
-pub bit-at-spec : {M : Type 1} → statement M
-bit-at-spec =
-    tie.close
-    (tie.spec
-    returns
-    (λ c. search rules)
-    (λ c. search rules)
-    (λ c. search rules)
-    (λ c. search rules)
-    (λ c. search rules)
-    returns-2)

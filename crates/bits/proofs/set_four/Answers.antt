@@ -9,10 +9,9 @@ use lib.ListN.{length, set, length-set}
 use Rattle.bits.specs.Bits.{bits, bits_of, splice}
 use Rattle.bits.proofs.Bytes.{bits-set}
 use Rattle.bits.proofs.Stores.{store-more}
-use Rattle.bits.proofs.set_four.Statement.{statement}
-use Rattle.bits.proofs.set_four.Tie as tie
+use Rattle.bits.proofs.set_four.Goals as goal
 
-returns : tie.Need-returns
+pub returns : goal.returns
 returns c =
     let s = c.args.buf.now in
     let q : ℕ = c.args.from in
@@ -32,20 +31,14 @@ returns c =
     ∙ store-more s s₃ (8 * q) 24 (q + 3) 0 x e₃ (omega arith) (omega (arith, n₃)) (omega arith)
     ∙ ap (λ (y : ℕ). splice (bits s) (8 * q) (bits_of 32 y)) (div-one x)
 
-pub set-four-spec : {M : Type 1} → statement M
-set-four-spec =
-    tie.close
-    (tie.spec
-    (λ c. search rules)
-    (λ c. search rules)
-    (λ c. search rules)
-    (λ c. search rules)
-    (λ c. simp length-set (omega arith))
-    (λ c. search rules)
-    (λ c. search rules)
-    (λ c. simp length-set (omega arith))
-    (λ c. search rules)
-    (λ c. search rules)
-    (λ c. simp length-set (omega arith))
-    (λ c. search rules)
-    returns)
+pub bounds-buf-from-2 : goal.bounds-buf-from-2
+bounds-buf-from-2 c =
+    simp length-set (omega arith)
+
+pub bounds-buf-from-3 : goal.bounds-buf-from-3
+bounds-buf-from-3 c =
+    simp length-set (omega arith)
+
+pub bounds-buf-from-4 : goal.bounds-buf-from-4
+bounds-buf-from-4 c =
+    simp length-set (omega arith)

@@ -7,8 +7,7 @@ use borrow.Author.Rules.{rules}
 use lib.ListN.{length, take, get_or, set, replicate}
 use native.Mathlib.Numerals.{add-one}
 use lib.Seq.{take_all, take-suc, length-take-le, set-append_seam}
-use Rattle.bits.proofs.padded.Statement.{statement}
-use Rattle.bits.proofs.padded.Tie as tie
+use Rattle.bits.proofs.padded.Goals as goal
 
 -- one more place of an array filled from another, zeros after it
 one_more : (s : List ℕ) (i m : ℕ) → i < length s → i < m → set (take i s ++ replicate (m - i) 0) i (get_or s i 0) ≡ take (i + 1) s ++ replicate (m - (i + 1)) 0
@@ -21,37 +20,21 @@ one_more s i m hs hm =
     ∙ ap (λ (x : List ℕ). x ++ replicate (m - (i + 1)) 0) (take-suc s i 0 hs)
     ∙ append_assoc (take i s) (get_or s i 0 ∷ []) (replicate (m - (i + 1)) 0))
 
-abbrev invariant-loop : tie.invariant-loop
-invariant-loop s held₀ i₀ held i = (i ≤ length s) × (held ≡ take i s ++ replicate (8 - i) 0)
-
-abbrev decreases-loop : tie.decreases-loop
-decreases-loop s held₀ i₀ held i = length s - i
-
-loop-again : tie.Need-loop-preserved invariant-loop decreases-loop
-loop-again c =
-    let l = c.before.before.loop in
-    let s = c.before.before.before.args.s.now in (
+pub loop-i-preserved : goal.loop-i-preserved
+loop-i-preserved c =
+    let l = c.loop-i in
+    let s = c.args.s.now in (
       omega arith,
       ap (λ (h : List ℕ). set h l.i (get_or s l.i 0)) l.invariant.1 ∙ one_more s l.i 8 (omega arith) (omega arith),
     )
 
-returns : tie.Need-returns invariant-loop decreases-loop
+pub returns : goal.returns
 returns c =
-    let s = c.before.before.args.s.now in
-    let l = c.before.loop in
+    let s = c.args.s.now in
+    let l = c.loop-i in
     let all : l.i ≡ length s = omega arith in
     l.invariant.1 ∙ ap (λ (n : ℕ). take n s ++ replicate (8 - n) 0) all ∙ ap (λ (x : List ℕ). x ++ replicate (8 - length s) 0) (take_all (length s) s (omega arith))
 
-pub padded-spec : {M : Type 1} → statement M
-padded-spec =
-    tie.close
-    (tie.spec
-    invariant-loop
-    decreases-loop
-    (λ c. (omega arith, refl))
-    (λ c. search rules)
-    (λ c. search rules)
-    (λ c. search rules)
-    (λ c. search rules)
-    loop-again
-    returns)
+pub loop-i-init : goal.loop-i-init
+loop-i-init c =
+    (omega arith, refl)
