@@ -44,14 +44,14 @@ pub size-shaped : {A B : Type 0} (c : Codec A) (to : A → B) (from : B → A) (
 unfolding shaped
 size-shaped c to from there back h = record { size = λ b. h.size (from b) }
 
-size-cons : {A : Type 0} (c : Codec A) (d : Codec (List A)) (k n : ℕ) → Within k c → Within n d → Within (k + n) (cons c d)
+cons-size : {A : Type 0} (c : Codec A) (d : Codec (List A)) (k n : ℕ) → Within k c → Within n d
+    → (l : List A) → length ((cons c d).print l) ≤ k + n
 unfolding cons
-size-cons c d k n h hd = record {
-  size = λ l. elim l [
-    | [] ↦ omega arith
-    | a ∷ t ↦ omega (arith, h.size a, hd.size t, length-append (c.print a) (d.print t))
-  ];
-}
+cons-size c d k n h hd [] = omega arith
+cons-size c d k n h hd (a ∷ t) = omega (arith, h.size a, hd.size t, length-append (c.print a) (d.print t))
+
+size-cons : {A : Type 0} (c : Codec A) (d : Codec (List A)) (k n : ℕ) → Within k c → Within n d → Within (k + n) (cons c d)
+size-cons c d k n h hd = record { size = cons-size c d k n h hd }
 
 pub size-places : {A : Type 0} (c z : Codec A) (k : ℕ) → Within k c → Within k z → (m n : ℕ) → Within (m * k) (places c z m n)
 unfolding places nil

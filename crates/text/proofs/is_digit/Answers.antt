@@ -1,0 +1,13 @@
+-- The two tests in turn. Assumes nothing.
+use native.Mathlib.Omega.{arith}
+use borrow.Author.Tests.{le-leb, lt-leb}
+use Rattle.text.specs.Field.{is_digit}
+use Rattle.text.proofs.is_digit.Goals as goal
+
+pub returns-then-byte-lt48 : goal.returns-then-byte-lt48
+unfolding is_digit
+returns-then-byte-lt48 c = rw (lt-leb 48 c.args.byte (omega arith))
+
+pub returns : goal.returns
+unfolding is_digit
+returns c = rw (le-leb 48 c.args.byte (omega arith))
