@@ -1,0 +1,18 @@
+-- At each turn one line more. Assumes nothing.
+use mathlib.Core.Path.{◌≡◌, ap, ◌∙◌}
+use Prim.Native.Nat.{◌+◌, ◌-◌, ◌*◌, ◌≤◌}
+use native.Mathlib.Omega.{arith}
+use borrow.Author.Rules.{rules}
+use lib.ListN.{length, get_or, drop, length-append}
+use Rattle.terminals.specs.Layers.{places, nowhere}
+use Rattle.terminals.specs.Reading.{line_text, lines_text}
+use Rattle.terminals.specs.declared.layers.Place.{Place}
+use Rattle.terminals.proofs.Texts.{lines_next, lines-over}
+use Rattle.terminals.proofs.reading.lines_length.Given as goal
+
+abbrev pub invariant-loop-index : goal.invariant-loop-index
+invariant-loop-index l =
+    (l.index ≤ 269) × (l.size ≤ 64 * l.index) × (l.size + length (lines_text (drop l.index places) (drop l.index l.table)) ≡ length (lines_text places l.table))
+
+abbrev pub decreases-loop-index : goal.decreases-loop-index
+decreases-loop-index l = 269 - l.index
