@@ -1,0 +1,18 @@
+-- Each test is the definition's own, and so is each case of the group. Assumes nothing.
+use borrow.Author.Rules.{rules}
+use borrow.Author.Tests.{eq-eqb, ne_eqb}
+use Rattle.rules.specs.Rule.{is_outside}
+use Rattle.rules.proofs.lists.is_outside.Goals as goal
+
+pub returns-then-groups-eq0 : goal.returns-then-groups-eq0
+unfolding is_outside
+returns-then-groups-eq0 c = rw (eq-eqb _ _ c.if-groups-eq0.true)
+
+pub returns-in-Of : goal.returns-in-Of
+unfolding is_outside
+returns-in-Of c =
+    rw (ne_eqb _ _ c.if-groups-eq0.false, c.in-Of.is, c.identity_among.ensures)
+
+pub returns-in-NoGroup : goal.returns-in-NoGroup
+unfolding is_outside
+returns-in-NoGroup c = rw (ne_eqb _ _ c.if-groups-eq0.false, c.in-NoGroup.is)

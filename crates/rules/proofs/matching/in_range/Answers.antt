@@ -1,0 +1,19 @@
+-- Each test is the definition's own. Assumes nothing.
+use borrow.Author.Rules.{rules}
+use borrow.Author.Tests.{eq-eqb, ne_eqb, le-leb, lt-leb}
+use Rattle.rules.specs.Matching.{in_range}
+use Rattle.rules.proofs.matching.in_range.Goals as goal
+
+pub returns-then-network_of-u : goal.returns-then-network_of-u
+unfolding in_range
+returns-then-network_of-u c = rw (← c.network_of.ensures, ne_eqb _ _ c.if-network_of-u.true)
+
+pub returns-then-u-first : goal.returns-then-u-first
+unfolding in_range
+returns-then-u-first c =
+    rw (← c.network_of.ensures, eq-eqb _ _ c.if-network_of-u.false, lt-leb _ _ c.if-u-first.true)
+
+pub returns : goal.returns
+unfolding in_range
+returns c =
+    rw (← c.network_of.ensures, eq-eqb _ _ c.if-network_of-u.false, le-leb _ _ c.if-u-first.false)

@@ -1,0 +1,20 @@
+-- Each arm of the match is the definition's own case. Assumes nothing.
+use native.Mathlib.Omega.{arith}
+use borrow.Author.Rules.{rules}
+use borrow.Author.Tests.{le-leb}
+use Rattle.rules.specs.Request.{is_destination}
+use Rattle.rules.proofs.request.is_destination.Goals as goal
+
+pub returns-then-length-eq0 : goal.returns-then-length-eq0
+unfolding is_destination
+returns-then-length-eq0 c = rw (c.in-Number.is, c.if-length-eq0.true)
+
+pub returns-in-Identity : goal.returns-in-Identity
+unfolding is_destination
+returns-in-Identity c = rw (c.in-Identity.is, c.is_user.ensures)
+
+pub returns-else-length-eq0 : goal.returns-else-length-eq0
+unfolding is_destination
+returns-else-length-eq0 c =
+    let d = c.destination-in-Number-1.given in
+    rw (d.1, le-leb 1 d.0.0.0 (omega arith))

@@ -1,0 +1,26 @@
+-- A loop of one element each; a refusal stays. Assumes nothing.
+use mathlib.Core.Path.{◌≡◌, refl, sym, ap, ◌∙◌}
+use native.Mathlib.Omega.{arith}
+use borrow.Author.Rules.{rules}
+use Rattle.bits.specs.Frame.{bits_in}
+use Rattle.codec.specs.Parts.{element}
+use Rattle.codec.specs.Reading.{element_of}
+use Rattle.codec.proofs.Onward.{number_read, tested-element}
+use Rattle.grammar.specs.SiteSheet.{digit_refusal}
+use Rattle.walk.specs.Inner.{pass, steps}
+use Rattle.walk.proofs.Passes.{pass-read, steps_next, steps-none}
+use Rattle.walk.proofs.exact.digit_list.Goals as goal
+
+pub loop-left-preserved : goal.loop-left-preserved
+unfolding element_of
+loop-left-preserved c =
+    c.loop-left.invariant ∙ steps_next _ _ _ (omega arith)
+    ∙ ap (steps _ _) (pass-read _ _ _ _ _ (number_read _ (c.tested-digit.ensures
+    ∙ tested-element 4 _ _ _ c.number-read.ensures c.digit_refusal.ensures)))
+
+pub returns : goal.returns
+returns c = sym (c.loop-left.invariant ∙ steps-none _ _ _ (omega arith))
+
+pub loop-left-init : goal.loop-left-init
+loop-left-init c =
+    refl
