@@ -8,17 +8,13 @@ use lib.Dec.{ltb}
 use Rattle.bits.proofs.Tests.{false-unless}
 use Rattle.codec.specs.Parts.{number_fault}
 use Rattle.tally.proofs.Parts.{in_width}
-use Rattle.tally.proofs.elements.width_refusal.Statement.{statement}
-use Rattle.tally.proofs.elements.width_refusal.Tie as tie
+use Rattle.tally.proofs.elements.width_refusal.Goals as goal
 
 wide : (w v : ℕ) → (v / 2 ^ w ≡ 0 → ⊥) → 3 ≡ number_fault w v
 wide w v h = rw (false-unless (ltb v (2 ^ w)) (λ e. h (div-eq_of_lt (ltb-true v (2 ^ w) e))))
 
-returns : tie.Need-returns
-returns c = sym (in_width c.before.args.width c.before.args.value c.if1.true)
+pub returns-then-value-width-eq0 : goal.returns-then-value-width-eq0
+returns-then-value-width-eq0 c = sym (in_width c.args.width c.args.value c.if-value-width-eq0.true)
 
-returns-2 : tie.Need-returns-2
-returns-2 c = wide c.before.args.width c.before.args.value c.if1.false
-
-pub width-refusal-spec : {M : Type 1} → statement M
-width-refusal-spec = tie.close (tie.spec (λ c. search rules) (λ c. search rules) returns returns-2)
+pub returns-else-value-width-eq0 : goal.returns-else-value-width-eq0
+returns-else-value-width-eq0 c = wide c.args.width c.args.value c.if-value-width-eq0.false
