@@ -22,7 +22,7 @@ use Rattle.tally.proofs.tally_rest.Goals.{After-figures_from-figures, After-part
 use Rattle.tally.proofs.tally_rest.Goals as goal
 
 abbrev start : After-figures_from-figures → Start
-start c = c
+start c = (goal.at.After-figures_from-figures c).Start
 
 abbrev kind : After-figures_from-figures → PduType
 kind c = (start c).args.kind

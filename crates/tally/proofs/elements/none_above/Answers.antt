@@ -1,7 +1,6 @@
 -- Word by word. Assumes nothing.
 use mathlib.Core.Path.{◌≡◌, refl, ◌∙◌, ap, sym}
 use mathlib.Core.Bool.{Bool, ◌&&◌, and-true, and-false}
-use mathlib.Core.Logic.{⊎_elim}
 use mathlib.Core.List.{[], ◌∷◌, ◌++◌}
 use Prim.Native.Nat.{ℕ, ◌+◌, ◌-◌, ◌≤◌}
 use native.Mathlib.Numerals.{add-one}
@@ -13,7 +12,7 @@ use lib.Dec.{leb}
 use Rattle.bits.specs.Lists.{every}
 use Rattle.tally.specs.Inner.{none_above}
 use Rattle.tally.proofs.Unused.{none_append}
-use Rattle.tally.proofs.elements.none_above.Goals.{Joined-most-words}
+use Rattle.tally.proofs.elements.none_above.Goals.{Joined-most-words, then-most-words, else-most-words}
 use Rattle.tally.proofs.elements.none_above.Goals as goal
 
 -- by either arm, the word is tested
@@ -22,9 +21,10 @@ tested : (c : Joined-most-words) →  let a = c.args in
 tested c =
     let a = c.args in
     let d : ℕ = get_or a.words.now (a.from + c.loop-i.i) 0 in
-    ⊎_elim (λ w. w.1 ∙ sym (ap (λ (b : Bool). c.loop-i.none && b) (lt-leb d a.most w.0.taken) ∙ and-false c.loop-i.none))
-    (λ w. w.1 ∙ sym (ap (λ (b : Bool). c.loop-i.none && b) (le-leb d a.most w.0.left) ∙ and-true c.loop-i.none))
-    c.if-most-words.branch
+    elim c.if-most-words.branch [
+      | then-most-words w ↦ w.none-is ∙ sym (ap (λ (b : Bool). c.loop-i.none && b) (lt-leb d a.most w.if-most-words.true) ∙ and-false c.loop-i.none)
+      | else-most-words w ↦ w.none-is ∙ sym (ap (λ (b : Bool). c.loop-i.none && b) (le-leb d a.most w.if-most-words.false) ∙ and-true c.loop-i.none)
+    ]
 
 pub loop-i-init : goal.loop-i-init
 unfolding none_above every

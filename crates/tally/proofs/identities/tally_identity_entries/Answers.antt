@@ -14,7 +14,7 @@ use Rattle.tally.proofs.identities.tally_identity_entries.Goals.{Else-not-are_al
 use Rattle.tally.proofs.identities.tally_identity_entries.Goals as goal
 
 alike : (c : Else-not-are_alike) → let a = c.args in Alike a.n (get_or a.words.now (a.from + 1) 0) a.from a.words.now
-alike c = c.are_alike.ensures (not-false _ c.if-not-are_alike.false)
+alike c = c.are_alike.ensures c.if-not-are_alike.false
 
 -- they have at most 392 bits
 size : (c : Else-not-are_alike) → let a = c.args in (25 + 24 * get_or a.words.now (a.from + 1) 0) * a.n ≤ 49 * 8

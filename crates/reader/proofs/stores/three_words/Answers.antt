@@ -6,10 +6,9 @@ use Prim.Native.Nat.{◌+◌}
 use lib.ListN.{set, length-set}
 use Rattle.words.proofs.Putting.{word-put, then}
 use Rattle.reader.proofs.Entries.{put_as}
-use Rattle.reader.proofs.stores.three_words.Statement.{statement}
-use Rattle.reader.proofs.stores.three_words.Tie as tie
+use Rattle.reader.proofs.stores.three_words.Goals as goal
 
-returns : tie.Need-returns
+pub returns : goal.returns
 returns c =
     let a = c.args in
     let w = a.words.now in
@@ -20,8 +19,10 @@ returns c =
     (word-put (set v (a.to + 1) a.b) (a.to + 1 + 1) a.c (omega (arith, length-set v (a.to + 1) a.b)))) in
     put_as p refl refl (omega arith)
 
-pub three-words-spec : {M : Type 1} → statement M
-three-words-spec =
-    tie.close
-    (tie.spec (λ c. search rules) (λ c. search rules) (λ c. search rules) (λ c. search rules) (λ c. search rules) (λ c. simp length-set (omega arith))
-    (λ c. search rules) (λ c. simp length-set (omega arith)) (λ c. search rules) returns)
+pub bounds-words-second : goal.bounds-words-second
+bounds-words-second c =
+    simp length-set (omega arith)
+
+pub bounds-words-third : goal.bounds-words-third
+bounds-words-third c =
+    simp length-set (omega arith)

@@ -5,10 +5,9 @@ use native.Mathlib.Omega.{arith}
 use borrow.Author.Rules.{rules}
 use lib.Pow.{shl_exact, shr_lt}
 use Rattle.reader.specs.Inner.{held_in}
-use Rattle.reader.proofs.stores.held.Statement.{statement}
-use Rattle.reader.proofs.stores.held.Tie as tie
+use Rattle.reader.proofs.stores.held.Goals as goal
 
-returns : tie.Need-returns
+pub returns : goal.returns
 unfolding held_in
 returns c =
     let a = c.args in
@@ -16,7 +15,3 @@ returns c =
     let back : ℕ = 57 - a.skip - a.used in
     let size : 57 ≡ front + back = omega arith in
     shl_exact front (a.whole - a.used) 64 (shr_lt front back (subst (λ (x : ℕ). a.window < 2 ^ x) size c.requires.0)) (omega arith)
-
-pub held_spec : {M : Type 1} → statement M
-held_spec =
-    tie.close (tie.spec (λ c. search rules) (λ c. search rules) (λ c. search rules) (λ c. search rules) (λ c. search rules) returns)
