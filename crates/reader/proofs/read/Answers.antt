@@ -13,7 +13,7 @@ pub returns : goal.returns
 unfolding read_words_is
 returns c = 
     let a = c.args in
-    let found = ap (λ (x : GivenRecord). x.found-1) c.record_from-spelt.ensures
-    ∙ ap (λ (w : List ℕ). (given_record w).found-1) c.read_words-answer.ensures.words_after
+    let found = ap (λ (x : GivenRecord). x.found) c.record_from-spelt.ensures
+    ∙ ap (λ (w : List ℕ). (given_record w).found) c.read_words-answer.ensures.words_after
     ∙ found_back a.s.now a.n.0 in
     λ i. record { answer = c.read_words-answer.ensures.value i; found = found i }

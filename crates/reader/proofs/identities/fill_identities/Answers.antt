@@ -41,7 +41,7 @@ fill_entries-requires c =   (
 pub returns : goal.returns
 unfolding identities identities_words
 returns c =   
-    headed_fill _ _ _ _ _ _ _ c.requires.reads (λ l. refl) (omega (arith, c.requires.room)) c.number_at-code.ensures c.store.ensures
+    headed_fill _ _ _ _ _ _ _ c.requires.reads (λ _. refl) (omega (arith, c.requires.room)) c.number_at-code.ensures c.store.ensures
     (fill-tested _ _ _ (rest-reads _ _ _ _ _ _ _ c.requires.reads c.number_at-code.ensures)
     (fill-used identity no_identity 8 c.entries_of-count.ensures c.fill_entries.ensures))
 

@@ -40,7 +40,7 @@ returns c =
     let p = c in let b = p in
     let k = p.fill_identities-restricted.auto.words in
     let l = c.fill_identities-exceptions.auto.words in
-    fill-shaped _ _ _ _ _ (λ a. refl)
+    fill-shaped _ _ _ _ _ (λ _. refl)
     (fill-then _ _ identities_words (omega (arith, b.requires.room)) p.fill_identities-restricted.ensures.read p.fill_identities-restricted.ensures.put
     (fill-then _ _ identities_words (omega (arith, b.requires.room, k)) c.fill_identities-exceptions.ensures.read c.fill_identities-exceptions.ensures.put
     (fill-then _ _ identities_words (omega (arith, b.requires.room, k, l)) c.fill_identities-end.ensures.read c.fill_identities-end.ensures.put

@@ -54,7 +54,7 @@ pub returns : goal.returns
 unfolding number_part records
 returns c =    
     let k = c.fill_identities-numbers.auto.words in
-    fill-shaped _ _ _ _ _ (λ a. refl)
+    fill-shaped _ _ _ _ _ (λ _. refl)
     (fill-then _ _ identities_words (omega (arith, c.requires.room)) c.fill_identities-numbers.ensures.read c.fill_identities-numbers.ensures.put
     (fill-then _ _ identities_words (omega (arith, c.requires.room, k)) (no-identities _ _) (put_as c.zero_words.ensures refl refl refl)
     (fill-then _ _ identities_words (omega (arith, c.requires.room, k, c.zero_words.auto.words)) (no-identities _ _)

@@ -64,17 +64,16 @@ put_twelve-requires-2 c =
     omega (arith, c.requires.room, c.store.auto.words, c.put_twelve.auto.words)
 
 abbrev window-of : After-slice_known-4-1 → After-window-window
-window-of c = c
+window-of c = (goal.at.After-slice_known-4-1 c).After-window-window
 
 pub returns : goal.returns
 unfolding external number_words
-returns c =     let l = c in let w = l in
-    let b = w in
-    let digits = digits-read (pdu w) (at w) (count w) l.least-first.result l.least-first.ensures (few w) (rest w) w.window-window.ensures
+returns c =      
+    let digits = digits-read (pdu (goal.at.returns c).After-window-window) (at (goal.at.returns c).After-window-window) (count (goal.at.returns c).After-window-window) c.least-first.result c.least-first.ensures (few (goal.at.returns c).After-window-window) (rest (goal.at.returns c).After-window-window) c.window-window.ensures
     c.window.ensures c.held-high.ensures c.held-low.ensures in
-    let ends : b.args.to + 1 + 12 + 12 ≡ b.args.to + 1 + 24 = omega arith in
-    let put = put_as (then (omega (arith, b.requires.room, c.store.auto.words)) c.put_twelve.ensures c.put_twelve-2.ensures) refl refl ends in
-    headed_fill _ _ _ _ _ _ _ b.requires.reads (λ l. refl) (omega (arith, b.requires.room)) (count-read w) c.store.ensures
+    let ends : c.args.to + 1 + 12 + 12 ≡ c.args.to + 1 + 24 = omega arith in
+    let put = put_as (then (omega (arith, c.requires.room, c.store.auto.words)) c.put_twelve.ensures c.put_twelve-2.ensures) refl refl ends in
+    headed_fill _ _ _ _ _ _ _ c.requires.reads (λ _. refl) (omega (arith, c.requires.room)) (count-read (goal.at.returns c).After-window-window) c.store.ensures
     (fill-list digits put)
 
 pub overflow_mul-first : goal.overflow_mul-first

@@ -41,7 +41,7 @@ fill_number_entries-requires c =   (
 pub returns : goal.returns
 unfolding externals numbers_words
 returns c =   
-    headed_fill _ _ _ _ _ _ _ c.requires.reads (λ l. refl) (omega (arith, c.requires.room)) c.number_at-code.ensures c.store.ensures
+    headed_fill _ _ _ _ _ _ _ c.requires.reads (λ _. refl) (omega (arith, c.requires.room)) c.number_at-code.ensures c.store.ensures
     (fill-used external no_external 8 c.entries_of-count.ensures c.fill_number_entries.ensures)
 
 pub number_at-code-requires : goal.number_at-code-requires

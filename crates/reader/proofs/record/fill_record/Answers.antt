@@ -27,14 +27,14 @@ abbrev kind : After-form_of-form → PduType
 kind f = f.pdu_type-kind.result
 
 abbrev start : After-form_of-form → Start
-start f = f
+start f = (goal.at.After-form_of-form f).Start
 
 abbrev pdu-bits : After-form_of-form → List Bool
 pdu-bits f = bits (start f).args.s.now
 
 -- the form of the PDU whose affected users were stored
 abbrev formed : After-fill_users-rest → After-form_of-form
-formed u = u
+formed u = (goal.at.After-fill_users-rest u).After-form_of-form
 
 kind-reads : (b : Start) → Reads (number 5) (bits b.args.s.now) 6
 unfolding pdu
@@ -77,13 +77,13 @@ pub overflow_add-listed : goal.overflow_add-listed
 overflow_add-listed c = let f = formed (goal.at.overflow_add-listed c).After-fill_users-rest in
     let s = (start f).args.s.now in
     let there = figures-there (kind f) s c.fill_users-rest.result.at (inside (goal.at.overflow_add-listed c).After-fill_users-rest) (from-figures (goal.at.overflow_add-listed c).After-fill_users-rest) in
-    omega (arith, there, length-bits s, (start f).pre.few, ap (λ (x : Form). x.width) f.form_of-form.ensures)
+    omega (arith, there, length-bits s, (start f).requires.few, ap (λ (x : Form). x.width) f.form_of-form.ensures)
 
 pub fill_listed-end-requires : goal.fill_listed-end-requires
 fill_listed-end-requires c =   let f = formed (goal.at.fill_listed-end-requires c).After-fill_users-rest in
     record {
-      few = (start f).pre.few;
-      room = omega (arith, (start f).pre.room, c.store.auto.words, c.fill_users-rest.auto.words, c.three_words.auto.words);
+      few = (start f).requires.few;
+      room = omega (arith, (start f).requires.room, c.store.auto.words, c.fill_users-rest.auto.words, c.three_words.auto.words);
       reads = rw c.part_in.ensures (listed-reads (kind f) f.form_of-form.ensures (row f) c.fill_users-rest.ensures.read (figures-found (goal.at.fill_listed-end-requires c).After-figures_in-f));
     }
 
@@ -105,13 +105,13 @@ shape_of-words c =
 pub returns : goal.returns
 unfolding pdu record_words
 returns c =      let f = formed (goal.at.returns c).After-fill_users-rest in
-    let users = c.fill_users-rest.ensures in let room = (start f).pre.room in
+    let users = c.fill_users-rest.ensures in let room = (start f).requires.room in
     let rest = row_fill (kind f) f.form_of-form.ensures (row f) users.read (figures-found (goal.at.returns c).After-figures_in-f) c.part_in.ensures
     (omega (arith, room, c.store.auto.words)) c.fill_users-rest.auto.words c.three_words.auto.words c.fill_listed-end.auto.words
     users.put c.three_words.ensures c.fill_listed-end.ensures c.three_words-2.ensures c.three_words-3.ensures
     in
-    fill-mark 6 ss_type _ (start f).pre.reads
-    (headed_fill _ _ _ _ _ _ _ (reads-mark 6 ss_type _ (start f).pre.reads) (λ q. refl) (omega (arith, room)) f.number_at-code.ensures
+    fill-mark 6 ss_type _ (start f).requires.reads
+    (headed_fill _ _ _ _ _ _ _ (reads-mark 6 ss_type _ (start f).requires.reads) (λ _. refl) (omega (arith, room)) f.number_at-code.ensures
     c.store.ensures (fill-by (ap (λ (x : PduType). rest_of x) (sym f.pdu_type-kind.ensures)) rest))
 
 pub number_at-code-requires : goal.number_at-code-requires

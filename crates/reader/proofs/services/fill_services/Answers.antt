@@ -51,13 +51,13 @@ put_seven-requires c =
     omega (arith, c.requires.room, c.store.auto.words)
 
 abbrev window-of : After-slice_known-3-1 → After-window-window
-window-of c = c
+window-of c = (goal.at.After-slice_known-3-1 c).After-window-window
 
 pub returns : goal.returns
 unfolding services services_words
 returns c =   
     let list = services-read (pdu (goal.at.returns c).After-window-window) (at (goal.at.returns c).After-window-window) (count (goal.at.returns c).After-window-window) (few (goal.at.returns c).After-window-window) (rest (goal.at.returns c).After-window-window) c.window-window.ensures refl c.held-list.ensures in
-    headed_fill _ _ _ _ _ _ _ c.requires.reads (λ l. refl) (omega (arith, c.requires.room)) (count-read (goal.at.returns c).After-window-window) c.store.ensures
+    headed_fill _ _ _ _ _ _ _ c.requires.reads (λ _. refl) (omega (arith, c.requires.room)) (count-read (goal.at.returns c).After-window-window) c.store.ensures
     (fill-list list c.put_seven.ensures)
 
 pub overflow_add-result : goal.overflow_add-result
