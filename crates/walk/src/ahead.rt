@@ -226,7 +226,7 @@ fn services_in(run: u64) -> usize
 
 fn beyond(start: usize) -> Ahead
     requires { start ≤ 10000 }
-    ensures* { λ r. ⌜ r ≡ record { result = 0; end = start + 4097 } ⌝ }
+    ensures { result ≡ record { result = 0; end = start + 4097 } }
 {
     Ahead {
         result: 0,

@@ -221,7 +221,7 @@ pub struct Steered {
 
 // Figures that steer nothing.
 fn unsteered(reached: Reached) -> Steered
-    ensures* { λ r. ⌜ r ≡ record { reached = reached; result = 0; part = 0 } ⌝ }
+    ensures { result ≡ record { reached = reached; result = 0; part = 0 } }
 {
     Steered {
         reached,

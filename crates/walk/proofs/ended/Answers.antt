@@ -1,5 +1,4 @@
 -- A refusal is passed on; bits may be left, or not. Assumes nothing.
-use borrow.Author.Rules.{rules}
 use borrow.Author.Tests.{lt-ltb, le-ltb}
 use native.Mathlib.Omega.{arith}
 use Rattle.walk.specs.Inner.{ended_is}

@@ -1,6 +1,5 @@
 -- The answer where reading ends. Assumes nothing.
 use mathlib.Core.Path.{sym, ◌∙◌}
-use borrow.Author.Rules.{rules}
 use Rattle.walk.proofs.Ending.{ending}
 use Rattle.walk.proofs.exactly.Goals as goal
 

@@ -1,7 +1,6 @@
 -- The head, where the walk ahead ends with the PDU; or the exact walk's answer. Assumes nothing.
 use mathlib.Core.Path.{sym, ap, ◌∙◌}
 use native.Mathlib.Omega.{arith}
-use borrow.Author.Rules.{rules}
 use Rattle.bits.proofs.Frames.{framed-says, length-bits_in}
 use Rattle.walk.specs.declared.Walked.TheVariants.{Accepted}
 use Rattle.walk.proofs.Ending.{accepted}

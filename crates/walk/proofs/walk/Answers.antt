@@ -1,7 +1,6 @@
 -- Refusal 1, or the answer by the walk ahead. Assumes nothing.
 use mathlib.Core.Path.{◌≡◌, sym}
 use mathlib.Core.Bool.{true}
-use borrow.Author.Rules.{rules}
 use Rattle.bits.specs.Frame.{framed}
 use Rattle.bits.proofs.Tests.{said-no, said-yes}
 use Rattle.walk.proofs.Ending.{not-framed}

@@ -16,7 +16,7 @@ use Rattle.rules.proofs.matching.covers.Goals as goal
 
 -- the array's length, and that the count takes what the search goes through
 long : (c : Start) → length c.args.services.list ≡ 7
-long c = services-length c.args.services _ c.well-formed.0
+long c = services-length c.args.services _ c.well_formed.0
 
 whole : (c : After-least-count)
     → some (is_covering c.args.service) (take c.least-count.result c.args.services.list)

@@ -18,7 +18,7 @@ use Rattle.grammar.specs.declared.record.Number.{Number}
 use Rattle.grammar.proofs.Arrays.{numbers-length, each-digits-length}
 use Rattle.rules.specs.Matching.{same, is_number, number_among}
 use Rattle.rules.proofs.Search.{passed, found, some_end, agrees, differs, same_end}
-use Rattle.rules.proofs.matching.number_among.Goals.{At-entries, In-entries, Joined-e-length, Start}
+use Rattle.rules.proofs.matching.number_among.Goals.{then-e-length+else-j-places+then-e-j, else-e-length, At-entries, In-entries, Joined-e-length, Start}
 use Rattle.rules.proofs.matching.number_among.Goals as goal
 
 -- what stands past the end of the entries
@@ -27,15 +27,15 @@ blank = record { length = record { 0 = 0 }; digits = [] }
 
 -- the entries that the search goes through are those that the range type means
 long : (c : Start) → list.length c.args.list.entries ≡ 8
-long c = numbers-length c.args.list _ c.well-formed.0
+long c = numbers-length c.args.list _ c.well_formed.0
 
 whole : (c : At-entries)
     → let a = c.args in
-    some (is_number a.length.0 a.t3) (take c.least-count.result a.list.entries)
-    ≡ number_among a.list a.length.0 a.t3
+    some (is_number a.length.0 a.digits) (take c.least-count.result a.list.entries)
+    ≡ number_among a.list a.length.0 a.digits
 unfolding number_among
 whole c =
-    ap (some (is_number c.args.length.0 c.args.t3))
+    ap (some (is_number c.args.length.0 c.args.digits))
     (take-used c.args.list.entries (entries_of c.args.list.code) (long (goal.at.At-entries c).Start)
     (c.least-count.ensures ∙ ap (λ (r : Row). min r.entries 8) c.row_of.ensures))
 
@@ -46,10 +46,10 @@ entry c = get_or c.args.list.entries c.entries.i blank
 -- the places that are compared are there
 there : (c : In-entries)
     → let a = c.args in
-    (list.length (entry (goal.at.In-entries c).At-entries).digits ≡ 24) × (list.length a.t3 ≡ 24) × (c.least-places.result ≤ 24)
+    (list.length (entry (goal.at.In-entries c).At-entries).digits ≡ 24) × (list.length a.digits ≡ 24) × (c.least-places.result ≤ 24)
 unfolding entry
 there c =
-    (each-digits-length c.args.list _ c.well-formed.0 blank (omega arith), omega arith, omega arith)
+    (each-digits-length c.args.list _ c.well_formed.0 blank (omega arith), omega arith, omega arith)
 
 pub loop-j-init : goal.loop-j-init
 unfolding entry is_number
@@ -57,7 +57,7 @@ loop-j-init c =
     let a = c.args in
     let alike : (entry (goal.at.loop-j-init c).At-entries).length.0 ≡ a.length.0 = c.if-e-length.true in
     let whole-entry = take-used (entry (goal.at.loop-j-init c).At-entries).digits a.length.0 (there (goal.at.loop-j-init c).In-entries).0 c.least-places.ensures in
-    let whole-number = take-used a.t3 a.length.0 (there (goal.at.loop-j-init c).In-entries).1 c.least-places.ensures in
+    let whole-number = take-used a.digits a.length.0 (there (goal.at.loop-j-init c).In-entries).1 c.least-places.ensures in
     (omega arith, (c.entries.invariant.1.0, rw (eq-eqb _ _ alike, whole-entry, whole-number)))
 
 pub loop-j-preserved : goal.loop-j-preserved
@@ -71,16 +71,18 @@ loop-j-preserved c =
 other : (c : Joined-e-length)
     → 
     let a = c.args in
-    (c.if-e-length.found ≡ false) × (is_number a.length.0 a.t3 (entry (goal.at.Joined-e-length c).At-entries) ≡ false)
+    (c.if-e-length.found ≡ false) × (is_number a.length.0 a.digits (entry (goal.at.Joined-e-length c).At-entries) ≡ false)
 unfolding entry is_number
-other c =
-    ⊎_elim
-    (λ w.
-    let more : w.1.j < c.least-places.result = omega arith in (
-      w.5 ∙ w.1.inv.1.0,
-      sym (differs (entry (goal.at.Joined-e-length c).At-entries).digits _ more (omega (arith, there (goal.at.Joined-e-length c).In-entries)) (omega (arith, there (goal.at.Joined-e-length c).In-entries)) (ne_eqb _ _ w.4.taken) w.1.inv.1.1),
-    ))
-    (λ w. (w.1 ∙ c.entries.invariant.1.0, rw (ne_eqb _ _ w.0.left))) c.if-e-length.branch
+other c = elim c.if-e-length.branch [
+  | then-e-length+else-j-places+then-e-j w ↦
+    let more : w.loop-j.j < c.least-places.result = omega arith in (
+      w.found-is ∙ w.loop-j.invariant.1.0,
+      sym (differs (entry (goal.at.Joined-e-length c).At-entries).digits _ more
+        (omega (arith, there (goal.at.Joined-e-length c).In-entries)) (omega (arith, there (goal.at.Joined-e-length c).In-entries))
+        (ne_eqb _ _ w.if-e-j.true) w.loop-j.invariant.1.1),
+    )
+  | else-e-length w ↦ (w.found-is ∙ c.entries.invariant.1.0, rw (ne_eqb _ _ w.if-e-length.false))
+]
 
 pub entries-preserved : goal.entries-preserved
 unfolding entry
@@ -88,7 +90,7 @@ entries-preserved c = (
       omega arith,
       (
         (other c).0,
-        passed (is_number c.args.length.0 c.args.t3) c.args.list.entries blank c.entries-test.true
+        passed (is_number c.args.length.0 c.args.digits) c.args.list.entries blank c.entries-test.true
             (omega (arith, long (goal.at.entries-preserved c).Start)) (other c).1 c.entries.invariant.1.1,
       ),
     )
@@ -96,14 +98,14 @@ entries-preserved c = (
 pub returns-after-entries : goal.returns-after-entries
 returns-after-entries c =
     let l = c.entries.invariant in
-    l.1.0 ∙ some_end c.entries-test.false (is_number c.args.length.0 c.args.t3) c.args.list.entries l.1.1 ∙ whole (goal.at.returns-after-entries c).At-entries
+    l.1.0 ∙ some_end c.entries-test.false (is_number c.args.length.0 c.args.digits) c.args.list.entries l.1.1 ∙ whole (goal.at.returns-after-entries c).At-entries
 
 pub returns-then-j-places : goal.returns-then-j-places
 unfolding entry
 returns-then-j-places c =
     let done : c.least-places.result ≤ c.loop-j.j = omega arith in
-    found (is_number c.args.length.0 c.args.t3) c.args.list.entries blank c.entries-test.true (omega (arith, long (goal.at.returns-then-j-places c).Start))
-    (sym (same_end done (entry (goal.at.returns-then-j-places c).At-entries).digits c.args.t3 c.loop-j.invariant.1.1)) c.entries.invariant.1.1 ∙ whole (goal.at.returns-then-j-places c).At-entries
+    found (is_number c.args.length.0 c.args.digits) c.args.list.entries blank c.entries-test.true (omega (arith, long (goal.at.returns-then-j-places c).Start))
+    (sym (same_end done (entry (goal.at.returns-then-j-places c).At-entries).digits c.args.digits c.loop-j.invariant.1.1)) c.entries.invariant.1.1 ∙ whole (goal.at.returns-then-j-places c).At-entries
 
 pub entries-init : goal.entries-init
 entries-init c =

@@ -16,5 +16,4 @@ returns-in-Identity c = rw (c.in-Identity.is, c.is_user.ensures)
 pub returns-else-length-eq0 : goal.returns-else-length-eq0
 unfolding is_destination
 returns-else-length-eq0 c =
-    let d = c.destination-in-Number-1.given in
-    rw (d.1, le-leb 1 d.0.0.0 (omega arith))
+    rw (c.in-Number.is, le-leb 1 c.in-Number.length.0 (omega arith))

@@ -16,9 +16,9 @@ use Rattle.rules.proofs.request.unused_are_zero.Goals as goal
 
 -- what is not used is what the length leaves
 rest : (c : After-least-i)
-    → every is_unused (slice c.least-i.result 24 c.args.t1)
-    ≡ every is_unused (drop c.args.length.0 c.args.t1)
-rest c = let a = c.args in ap (every is_unused) (drop-used a.t1 a.length.0 (omega arith) c.least-i.ensures)
+    → every is_unused (slice c.least-i.result 24 c.args.digits)
+    ≡ every is_unused (drop c.args.length.0 c.args.digits)
+rest c = let a = c.args in ap (every is_unused) (drop-used a.digits a.length.0 (omega arith) c.least-i.ensures)
 
 pub loop-i-preserved : goal.loop-i-preserved
 unfolding is_unused
@@ -27,7 +27,7 @@ loop-i-preserved c =
       omega arith,
       (
         omega arith,
-        summed is_unused c.args.t1 0 more (omega arith) c.loop-i.sum c.wide-sum.result
+        summed is_unused c.args.digits 0 more (omega arith) c.loop-i.sum c.wide-sum.result
             (ap (λ (x : ℕ). eqb x 0) (sym c.wide-sum.ensures.0)) c.loop-i.invariant.1.1,
       ),
     )
@@ -35,7 +35,7 @@ loop-i-preserved c =
 pub returns : goal.returns
 returns c =
     let done : 24 ≤ c.loop-i.i = omega arith in
-    sum-end done is_unused c.args.t1 c.loop-i.sum c.loop-i.invariant.1.1 ∙ rest (goal.at.returns c).After-least-i
+    sum-end done is_unused c.args.digits c.loop-i.sum c.loop-i.invariant.1.1 ∙ rest (goal.at.returns c).After-least-i
 
 pub loop-i-init : goal.loop-i-init
 loop-i-init c =

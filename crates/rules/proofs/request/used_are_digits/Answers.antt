@@ -19,9 +19,9 @@ use Rattle.rules.proofs.request.used_are_digits.Goals as goal
 
 -- the places that are used have the digits that the length takes
 whole : (c : After-least-n)
-    → every is_digit (take c.least-n.result c.args.t1)
-    ≡ every is_digit (take c.args.length.0 c.args.t1)
-whole c = let a = c.args in ap (every is_digit) (take-used a.t1 a.length.0 (omega arith) c.least-n.ensures)
+    → every is_digit (take c.least-n.result c.args.digits)
+    ≡ every is_digit (take c.args.length.0 c.args.digits)
+whole c = let a = c.args in ap (every is_digit) (take-used a.digits a.length.0 (omega arith) c.least-n.ensures)
 
 small : (d : ℕ) {r : ℕ} → r ≡ digit_refusal d → r ≤ 3
 small d e = subst (λ (x : ℕ). x ≤ 3) (sym (e ∙ digit-refusal d)) (by-test (λ (x : ℕ). x ≤ 3) (leb d 12) (omega arith) (omega arith))
@@ -34,7 +34,7 @@ loop-i-preserved c =
       omega arith,
       (
         omega (arith, small _ c.digit_refusal-refused.ensures),
-        summed is_digit a.t1 0 c.loop-i-test.true (omega arith) c.loop-i.refused
+        summed is_digit a.digits 0 c.loop-i-test.true (omega arith) c.loop-i.refused
             c.digit_refusal-refused.result (ap (λ (x : ℕ). eqb x 0) (sym c.digit_refusal-refused.ensures)) inv.1.1,
       ),
     )
@@ -42,7 +42,7 @@ loop-i-preserved c =
 pub returns : goal.returns
 returns c =
     let a = c.args in
-    sum-end c.loop-i-test.false is_digit a.t1 c.loop-i.refused c.loop-i.invariant.1.1 ∙ whole (goal.at.returns c).After-least-n
+    sum-end c.loop-i-test.false is_digit a.digits c.loop-i.refused c.loop-i.invariant.1.1 ∙ whole (goal.at.returns c).After-least-n
 
 pub loop-i-init : goal.loop-i-init
 loop-i-init c =

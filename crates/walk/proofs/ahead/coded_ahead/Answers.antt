@@ -1,6 +1,5 @@
 -- A range, or single entries. Assumes nothing.
 use native.Mathlib.Omega.{arith}
-use borrow.Author.Rules.{rules}
 use Rattle.grammar.specs.SiteSheet.{row_of, range_type}
 use Rattle.walk.specs.Inner.{coded, range}
 use Rattle.walk.proofs.Aheads.{ends_as}

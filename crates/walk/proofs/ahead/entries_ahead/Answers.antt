@@ -1,11 +1,10 @@
 -- As long as no present bit is another than the first, each entry ends where it was expected to. Assumes nothing.
 use mathlib.Core.Path.{◌≡◌, refl, subst}
 use mathlib.Core.List.{List}
-use Prim.Native.Nat.{ℕ, ◌+◌, ◌-◌, ◌*◌, ◌≤◌, ◌<◌}
+use Prim.Native.Nat.{ℕ, ◌+◌, ◌*◌, ◌<◌}
 use native.Mathlib.Omega.{arith}
-use borrow.Author.Rules.{rules}
 use Rattle.grammar.specs.Grammar.{identity}
-use Rattle.walk.specs.Inner.{pass, steps, Ends}
+use Rattle.walk.specs.Inner.{pass, Ends}
 use Rattle.walk.proofs.Passes.{steps-count}
 use Rattle.walk.proofs.Aheads.{ends_as, ends-none, ends_more}
 use Rattle.walk.proofs.Sights.{bit_lt, identity-ends}
@@ -20,7 +19,7 @@ first : (c : After-bit_at-present) → c.bit_at-present.result < 2
 first c = let a = c.args in bit_lt a.s.now (a.start + 24) c.bit_at-present.ensures
 
 next : (c : After-bit_at) → c.bit_at.result < 2
-next c =  bit_lt (s-of (goal.at.After-bit_at c).At-loop-done) (c.loop-done.at + 24) c.bit_at.ensures
+next c = bit_lt (s-of (goal.at.After-bit_at c).At-loop-done) (c.loop-done.at + 24) c.bit_at.ensures
 
 pub loop-done-preserved : goal.loop-done-preserved
 loop-done-preserved c =

@@ -2,7 +2,6 @@
 use mathlib.Core.Path.{◌≡◌, sym, ap, ◌∙◌}
 use Prim.Native.Nat.{ℕ, ◌-◌, ◌/◌, ◌%◌, ◌^◌, ◌≤◌}
 use native.Mathlib.Omega.{arith}
-use borrow.Author.Rules.{rules}
 use Rattle.bits.proofs.Tests.{said-yes}
 use Rattle.grammar.specs.SiteSheet.{all_digits, length_refusal}
 use Rattle.walk.proofs.Aheads.{off}
@@ -17,13 +16,13 @@ few : (c : Else-between_refusal-ne0) → c.window-window.result / 2 ^ 52 ≤ 24
 few c = (within 24 (c.window-window.result / 2 ^ 52) (counted c)).1
 
 pub returns-then-are_digits : goal.returns-then-are_digits
-returns-then-are_digits c =  
+returns-then-are_digits c =
     external-few (ap (λ (x : ℕ). x / 2 ^ 52) c.window-window.ensures) (counted (goal.at.returns-then-are_digits c).Else-between_refusal-ne0) c.bits-size.ensures (omega (arith, c.if-count-le13.true))
     (ap (λ (x : ℕ). all_digits 16 (x % 2 ^ 52 / 2 ^ (52 - c.bits-size.result.0))) (sym c.window-window.ensures) ∙ sym c.are_digits.ensures
     ∙ c.if-are_digits.true)
 
 pub returns-then-are_digits-2 : goal.returns-then-are_digits-2
-returns-then-are_digits-2 c =    
+returns-then-are_digits-2 c =
     external-many (ap (λ (x : ℕ). x / 2 ^ 52) c.window-window.ensures) (counted (goal.at.returns-then-are_digits-2 c).Else-between_refusal-ne0) c.bits-size.ensures (omega (arith, c.if-count-le13.false))
     (ap (λ (x : ℕ). all_digits 16 (x % 2 ^ 52)) (sym c.window-window.ensures) ∙ said-yes c.are_digits-2.ensures c.if-not-are_digits.false)
     (ap (λ (x : ℕ). all_digits 16 (x / 2 ^ (109 - c.bits-size.result.0))) (sym c.window.ensures) ∙ sym c.are_digits-3.ensures ∙ c.if-are_digits-2.true)

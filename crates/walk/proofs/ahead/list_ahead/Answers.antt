@@ -2,7 +2,6 @@
 use mathlib.Core.Path.{refl, sym, ap, ◌∙◌}
 use Prim.Native.Nat.{ℕ, ◌/◌, ◌^◌}
 use native.Mathlib.Omega.{arith}
-use borrow.Author.Rules.{rules}
 use Rattle.grammar.specs.declared.site.ListKind.TheVariants as of
 use Rattle.walk.proofs.Aheads.{off, in-front}
 use Rattle.walk.proofs.Sights.{legal-code, list-ends}
@@ -14,7 +13,7 @@ returns-then-code-eq0 c =
     no-identities c.if-code-eq0.true (in-front _ _ 4 53 refl (omega arith) (ap (λ (w : ℕ). w / 2 ^ 53) c.window.ensures)) (omega arith)
 
 pub returns : goal.returns
-returns c = 
+returns c =
     list-ends of.Identities (in-front _ _ 4 53 refl (omega arith) (ap (λ (w : ℕ). w / 2 ^ 53) c.window.ensures))
     (sym c.range_refusal.ensures ∙ c.if-range_refusal-ne0.false) c.coded_ahead.ensures
 

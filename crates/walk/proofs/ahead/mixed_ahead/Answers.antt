@@ -1,10 +1,9 @@
 -- The present bits say where the last entry ends. Assumes nothing.
 use mathlib.Core.Path.{refl}
-use Prim.Native.Nat.{◌+◌, ◌-◌, ◌*◌, ◌≤◌, ◌<◌}
+use Prim.Native.Nat.{◌+◌, ◌<◌}
 use native.Mathlib.Omega.{arith}
-use borrow.Author.Rules.{rules}
 use Rattle.grammar.specs.Grammar.{identity}
-use Rattle.walk.specs.Inner.{pass, steps, Ends}
+use Rattle.walk.specs.Inner.{pass}
 use Rattle.walk.proofs.Passes.{steps-count}
 use Rattle.walk.proofs.Aheads.{ends_as, ends-none, ends_more}
 use Rattle.walk.proofs.Sights.{bit_lt, identity-ends}
@@ -12,7 +11,7 @@ use Rattle.walk.proofs.ahead.mixed_ahead.Goals.{After-bit_at}
 use Rattle.walk.proofs.ahead.mixed_ahead.Goals as goal
 
 small : (c : After-bit_at) → c.bit_at.result < 2
-small c =  bit_lt c.args.s.now (c.loop-done.at + 24) c.bit_at.ensures
+small c = bit_lt c.args.s.now (c.loop-done.at + 24) c.bit_at.ensures
 
 pub loop-done-preserved : goal.loop-done-preserved
 loop-done-preserved c = (omega arith, ends_more _ _ refl c.loop-done.invariant.1 (identity-ends c.bit_at.ensures))

@@ -1,10 +1,8 @@
 -- One number after the other. Assumes nothing.
 use mathlib.Core.Path.{refl}
-use Prim.Native.Nat.{◌-◌, ◌*◌, ◌≤◌}
 use native.Mathlib.Omega.{arith}
-use borrow.Author.Rules.{rules}
 use Rattle.grammar.specs.Grammar.{external}
-use Rattle.walk.specs.Inner.{pass, steps, Ends}
+use Rattle.walk.specs.Inner.{pass}
 use Rattle.walk.proofs.Passes.{steps-count}
 use Rattle.walk.proofs.Aheads.{ends_as, ends-none, ends_more}
 use Rattle.walk.proofs.ahead.mixed_numbers_ahead.Goals as goal

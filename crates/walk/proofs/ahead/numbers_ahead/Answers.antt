@@ -1,10 +1,9 @@
 -- As long as each number ends where it was expected to. Assumes nothing.
 use mathlib.Core.Path.{refl, subst}
-use Prim.Native.Nat.{ℕ, ◌-◌, ◌*◌, ◌≤◌}
+use Prim.Native.Nat.{ℕ}
 use native.Mathlib.Omega.{arith}
-use borrow.Author.Rules.{rules}
 use Rattle.grammar.specs.Grammar.{external}
-use Rattle.walk.specs.Inner.{pass, steps, Ends}
+use Rattle.walk.specs.Inner.{pass, Ends}
 use Rattle.walk.proofs.Passes.{steps-count}
 use Rattle.walk.proofs.Aheads.{ends_as, ends-none, ends_more}
 use Rattle.walk.proofs.ahead.numbers_ahead.Goals as goal

@@ -3,7 +3,6 @@ use mathlib.Core.Path.{refl, ap, sym, ◌∙◌}
 use mathlib.Core.List.{List}
 use Prim.Native.Nat.{ℕ, ◌/◌, ◌^◌, ◌≤◌}
 use native.Mathlib.Omega.{arith}
-use borrow.Author.Rules.{rules}
 use borrow.Author.Tests.{ne_eqb}
 use Rattle.grammar.specs.Grammar.{identities, externals, identity_part, number_part, no_part, part_of}
 use Rattle.grammar.specs.Zero.{zero_lists}
@@ -32,7 +31,7 @@ returns-then-codes-eq0 c =
     (λ h. no-identities refl h (omega arith)) (λ h. no-identities refl h (omega arith)) (λ h. no-identities refl h (omega arith))))
 
 pub returns-then-part-eq1 : goal.returns-then-part-eq1
-returns-then-part-eq1 c = 
+returns-then-part-eq1 c =
     rw c.if-part-eq1.true (identity-part (omega arith)
     (ends-then (ends-then c.list_ahead.ensures c.list_ahead-then-part-eq1.ensures) c.list_ahead-then-part-eq1-2.ensures))
 
@@ -43,7 +42,7 @@ returns-then-codes-eq0-2 c =
     (λ h. no-identities refl h (omega arith)) (λ h. no-numbers refl h (omega arith)) (λ h. no-numbers refl h (omega arith))))
 
 pub returns-then-part-eq2 : goal.returns-then-part-eq2
-returns-then-part-eq2 c = 
+returns-then-part-eq2 c =
     rw c.if-part-eq2.true (number-part (omega arith)
     (ends-then (ends-then c.list_ahead-then-part-eq2.ensures c.externals_ahead.ensures) c.externals_ahead-then-part-eq2.ensures))
 

@@ -2,7 +2,6 @@
 use mathlib.Core.Path.{refl, sym, ap, ◌∙◌}
 use Prim.Native.Nat.{◌<◌}
 use native.Mathlib.Omega.{arith}
-use borrow.Author.Rules.{rules}
 use Rattle.bits.proofs.Windows.{window_lt}
 use Rattle.walk.specs.Inner.{identity_in}
 use Rattle.walk.proofs.Aheads.{off}
@@ -17,7 +16,7 @@ last-lt : (c : After-identity_in-last) → c.identity_in-last.result.present < 2
 last-lt c = present_lt _ c.identity_in-last.ensures
 
 pub returns : goal.returns
-returns c =   
+returns c =
     range-ends (c.identity_in-first.ensures ∙ ap identity_in c.window.ensures) refl
     (c.identity_in-last.ensures ∙ ap identity_in c.window-2.ensures) (sym c.ends_refusal.ensures ∙ c.if-ends_refusal-ne0.false)
 

@@ -1,9 +1,8 @@
 -- One window up to the lists, and the lists. Assumes nothing.
-use borrow.Author.Rules.{rules}
+use borrow.Author.Tests.{not-true, not-false}
 use mathlib.Core.Path.{sym, ap, ◌∙◌, subst}
 use Prim.Native.Nat.{ℕ, ◌+◌, ◌-◌, ◌/◌, ◌%◌, ◌^◌, ◌≤◌}
 use native.Mathlib.Omega.{arith}
-use borrow.Author.Tests.{not-true, not-false}
 use Rattle.bits.specs.Element.{window_at}
 use Rattle.grammar.specs.Grammar.{part_of}
 use Rattle.grammar.specs.Rows.{figures_in}
@@ -26,10 +25,10 @@ pub overflow_add-result : goal.overflow_add-result
 overflow_add-result c = omega (arith, few (goal.at.overflow_add-result c).Start)
 
 pub returns-then-not-form : goal.returns-then-not-form
-returns-then-not-form c =    
+returns-then-not-form c =
     let form = c.requires.1 in
     rw form (figures_find c.args.kind _ c.args.start (c.figures_in-f.ensures ∙ ap (figures_in c.args.kind) c.window-window.ensures)
-    (sym c.figures_refusal.ensures ∙ c.if-figures_refusal-ne0.false) (sym (ap (λ (f : Form). c.services) form) ∙ not-true c.args.form.services c.if-not-form.true))
+    (sym c.figures_refusal.ensures ∙ c.if-figures_refusal-ne0.false) (sym (ap (λ (f : Form). f.services) form) ∙ not-true _ c.if-not-form.true))
 
 pub overflow_sub-width : goal.overflow_sub-width
 overflow_sub-width c = omega (arith, few (goal.at.overflow_sub-width c).Start)
@@ -47,13 +46,13 @@ pub part_ahead-requires : goal.part_ahead-requires
 part_ahead-requires c = omega (arith, few (goal.at.part_ahead-requires c).Start, c.services_in-services_width.ensures.1)
 
 pub returns : goal.returns
-returns c =       
+returns c =
     let form = c.requires.1 in
-    let width = ap (λ (f : Form). c.width) form in
+    let width = ap (λ (f : Form). f.width) form in
     let kind = c.args.kind in
     let s = c.args.s.now in
     listed_find kind s c.args.start (c.figures_in-f.ensures ∙ ap (figures_in kind) c.window-window.ensures)
-    (sym c.figures_refusal.ensures ∙ c.if-figures_refusal-ne0.false) (sym (ap (λ (f : Form). c.services) form) ∙ not-false c.args.form.services c.if-not-form.false)
+    (sym c.figures_refusal.ensures ∙ c.if-figures_refusal-ne0.false) (sym (ap (λ (f : Form). f.services) form) ∙ not-false _ c.if-not-form.false)
     (c.services_in-services_width.ensures.0 ∙ ap (λ (x : ℕ). services_in (x / 2 ^ (33 - c.args.form.width) % 2 ^ 24)) c.window-window.ensures
     ∙ ap (λ (k : ℕ). services_in (window_at s c.args.start / 2 ^ (33 - k) % 2 ^ 24)) width)
     c.if-services_width-eq0.false c.part_in.ensures

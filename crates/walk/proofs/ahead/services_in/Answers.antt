@@ -1,7 +1,6 @@
 -- The number of services, then the services, each with its test. Assumes nothing.
 use mathlib.Core.Path.{sym, ◌∙◌, refl}
 use native.Mathlib.Omega.{arith}
-use borrow.Author.Rules.{rules}
 use borrow.Author.Tests.{eq-eqb, ne_eqb}
 use Rattle.bits.proofs.Tests.{said-yes, said-no}
 use Rattle.walk.specs.Inner.{services_in}
@@ -13,10 +12,10 @@ returns-then-between_refusal-ne0 c = rw (ne_eqb _ _ (λ h. c.if-between_refusal-
 
 pub returns-then-not-are_services : goal.returns-then-not-are_services
 unfolding services_in
-returns-then-not-are_services c = 
+returns-then-not-are_services c =
     rw (eq-eqb _ _ (sym c.between_refusal.ensures ∙ c.if-between_refusal-ne0.false), said-no c.are_services.ensures c.if-not-are_services.true) (refl, omega arith)
 
 pub returns : goal.returns
 unfolding services_in
-returns c = 
+returns c =
     rw (eq-eqb _ _ (sym c.between_refusal.ensures ∙ c.if-between_refusal-ne0.false), said-yes c.are_services.ensures c.if-not-are_services.false) (refl, omega arith)

@@ -1,9 +1,7 @@
 -- None, or a range type and the users that it says. Assumes nothing.
-use borrow.Author.Rules.{rules}
 use mathlib.Core.Path.{refl, sym, ap, ◌∙◌}
 use Prim.Native.Nat.{ℕ, ◌/◌, ◌%◌, ◌^◌}
 use native.Mathlib.Omega.{arith}
-use borrow.Author.Tests.{not-true, not-false}
 use Rattle.grammar.specs.SiteSheet.{range_type, range_refusal}
 use Rattle.grammar.specs.Grammar.{no_identities}
 use Rattle.grammar.specs.Zero.{zero_identities}
@@ -15,7 +13,7 @@ use Rattle.walk.proofs.Sights.{legal-code, singles_end, list-ends}
 use Rattle.walk.proofs.ahead.users_ahead.Goals as goal
 
 pub returns-then-not-users : goal.returns-then-not-users
-returns-then-not-users c = rw (not-true c.args.users c.if-not-users.true) (record {
+returns-then-not-users c = rw c.if-not-users.true (record {
   after = omega arith;
   near = omega arith;
   there = λ n few i. pass-nothing no_identities zero_identities _ (no_identities-at _) _;
@@ -23,8 +21,8 @@ returns-then-not-users c = rw (not-true c.args.users c.if-not-users.true) (recor
 
 pub returns-then-code-eq1 : goal.returns-then-code-eq1
 unfolding range_type range_refusal
-returns-then-code-eq1 c = 
-    rw (not-false c.args.users c.if-not-users.false)
+returns-then-code-eq1 c =
+    rw c.if-not-users.false
     (ends_as (λ l r. refl) (omega arith) (list-ends of.Users {code = 1} (in_window _ 0 11 4 11 refl (omega arith) (omega arith)
     (sym c.if-code-eq1.true ∙ ap (λ (x : ℕ). x / 2 ^ 42 % 16) c.requires)) refl
     (singles_end {k = 392} (omega arith) (omega arith) c.mixed_ahead.ensures)))
@@ -36,7 +34,7 @@ pub coded_ahead-requires : goal.coded_ahead-requires
 coded_ahead-requires c = (omega arith, legal-code of.Users _ (sym c.range_refusal.ensures ∙ c.if-range_refusal-ne0.false))
 
 pub returns : goal.returns
-returns c =  
-    rw (not-false c.args.users c.if-not-users.false)
+returns c =
+    rw c.if-not-users.false
     (list-ends of.Users (in_window _ 0 11 4 11 refl (omega arith) (omega arith) (ap (λ (x : ℕ). x / 2 ^ 42 % 16) c.requires))
     (sym c.range_refusal.ensures ∙ c.if-range_refusal-ne0.false) c.coded_ahead.ensures)

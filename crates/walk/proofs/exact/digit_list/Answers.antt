@@ -1,13 +1,9 @@
 -- A loop of one element each; a refusal stays. Assumes nothing.
-use mathlib.Core.Path.{◌≡◌, refl, sym, ap, ◌∙◌}
+use mathlib.Core.Path.{refl, sym, ap, ◌∙◌}
 use native.Mathlib.Omega.{arith}
-use borrow.Author.Rules.{rules}
-use Rattle.bits.specs.Frame.{bits_in}
-use Rattle.codec.specs.Parts.{element}
 use Rattle.codec.specs.Reading.{element_of}
 use Rattle.codec.proofs.Onward.{number_read, tested-element}
-use Rattle.grammar.specs.SiteSheet.{digit_refusal}
-use Rattle.walk.specs.Inner.{pass, steps}
+use Rattle.walk.specs.Inner.{steps}
 use Rattle.walk.proofs.Passes.{pass-read, steps_next, steps-none}
 use Rattle.walk.proofs.exact.digit_list.Goals as goal
 

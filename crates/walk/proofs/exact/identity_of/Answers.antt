@@ -1,6 +1,5 @@
 -- SSI, present bit, and the extension exactly if that is 1. Assumes nothing.
 use mathlib.Core.Path.{◌≡◌, ◌∙◌}
-use borrow.Author.Rules.{rules}
 use borrow.Author.Tests.{ne_eqb}
 use Rattle.bits.specs.Frame.{bits_in}
 use Rattle.codec.specs.Reading.{got, and_next, read_at, resume, element_of}

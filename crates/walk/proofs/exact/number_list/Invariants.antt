@@ -1,11 +1,8 @@
 -- A loop of one pass a number; a refusal stays. Assumes nothing.
-use mathlib.Core.Path.{◌≡◌, refl, sym, ap, ◌∙◌}
-use native.Mathlib.Omega.{arith}
-use borrow.Author.Rules.{rules}
+use mathlib.Core.Path.{◌≡◌}
 use Rattle.bits.specs.Frame.{bits_in}
 use Rattle.grammar.specs.Grammar.{external}
 use Rattle.walk.specs.Inner.{pass, steps}
-use Rattle.walk.proofs.Passes.{steps_next, steps-none}
 use Rattle.walk.proofs.exact.number_list.Given as goal
 
 abbrev pub invariant-loop-left : goal.invariant-loop-left

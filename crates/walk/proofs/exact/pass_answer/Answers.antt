@@ -1,5 +1,4 @@
 -- Interrogation result and delivery status, one from where the other stands. Assumes nothing.
-use borrow.Author.Rules.{rules}
 use mathlib.Core.Path.{◌∙◌}
 use Rattle.codec.specs.Reading.{element_of}
 use Rattle.codec.proofs.Onward.{resume-same, go_on, number_read, tested-element}

@@ -1,5 +1,4 @@
 -- One element. Assumes nothing.
-use borrow.Author.Rules.{rules}
 use mathlib.Core.Path.{sym, ◌∙◌}
 use Rattle.codec.specs.Reading.{element_of}
 use Rattle.codec.proofs.Onward.{number_read, tested-element}

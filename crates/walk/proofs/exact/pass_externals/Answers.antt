@@ -1,6 +1,5 @@
 -- The range type, and as many numbers as it says. Assumes nothing.
 use mathlib.Core.Path.{sym, ap, ◌∙◌}
-use borrow.Author.Rules.{rules}
 use Rattle.codec.specs.Places.{places}
 use Rattle.codec.specs.Reading.{element_of}
 use Rattle.codec.proofs.Onward.{number_read, tested-element}

@@ -1,5 +1,4 @@
 -- Each type has its figures. Assumes nothing.
-use borrow.Author.Rules.{rules}
 use Rattle.grammar.specs.Rows.{part_in}
 use Rattle.walk.specs.Inner.{steered_from, defined_from}
 use Rattle.walk.proofs.Results.{asked_steers, defined_steers, distributed_steers, cause_steers, nothing_steers}

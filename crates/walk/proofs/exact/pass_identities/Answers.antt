@@ -1,6 +1,5 @@
 -- The range type, then a range or single entries. Assumes nothing.
 use mathlib.Core.Path.{◌≡◌, sym, ap, ◌∙◌}
-use borrow.Author.Rules.{rules}
 use Rattle.bits.specs.Frame.{bits_in}
 use Rattle.codec.specs.Parts.{tested}
 use Rattle.codec.specs.Places.{places}
@@ -30,7 +29,7 @@ after-code c =
 
 pub returns-then-code-eq9 : goal.returns-then-code-eq9
 unfolding range row_of range_type
-returns-then-code-eq9 c =  c.pass_range.ensures ∙ rw c.if-code-eq9.true at (after-code (goal.at.returns-then-code-eq9 c).After-tested-code)
+returns-then-code-eq9 c = c.pass_range.ensures ∙ rw c.if-code-eq9.true at (after-code (goal.at.returns-then-code-eq9 c).After-tested-code)
 
 pub returns : goal.returns
 returns c =

@@ -1,6 +1,5 @@
 -- Three lists, one after the other, or none. Assumes nothing.
 use mathlib.Core.Path.{sym, ap, ◌∙◌}
-use borrow.Author.Rules.{rules}
 use borrow.Author.Tests.{ne_eqb}
 use Rattle.grammar.specs.Grammar.{identities, externals, identity_part, number_part, no_part}
 use Rattle.grammar.specs.Zero.{zero_lists}
@@ -11,7 +10,7 @@ use Rattle.walk.proofs.Passes.{pass-three, pass-nothing}
 use Rattle.walk.proofs.exact.pass_part.Goals as goal
 
 pub returns-then-part-eq1 : goal.returns-then-part-eq1
-returns-then-part-eq1 c = 
+returns-then-part-eq1 c =
     rw c.if-part-eq1.true
     (c.pass_identities.ensures
     ∙ ap (pass _ _) (c.pass_identities-restricted.ensures ∙ ap (pass _ _) c.pass_identities-groups.ensures)
@@ -19,7 +18,7 @@ returns-then-part-eq1 c =
     (identity_part-at _)))
 
 pub returns-then-part-eq2 : goal.returns-then-part-eq2
-returns-then-part-eq2 c = 
+returns-then-part-eq2 c =
     rw c.if-part-eq2.true
     (c.pass_externals.ensures
     ∙ ap (pass _ _) (c.pass_externals-numbers.ensures ∙ ap (pass _ _) c.pass_identities-groups-then-part-eq2.ensures)

@@ -1,5 +1,4 @@
 -- SS type, PDU type, and what the type says. Assumes nothing.
-use borrow.Author.Rules.{rules}
 use mathlib.Core.Path.{◌≡◌, ◌∙◌}
 use Rattle.bits.specs.Frame.{bits_in}
 use Rattle.codec.specs.Reading.{and_next, read_at, resume, element_of}
@@ -19,7 +18,7 @@ after-kind : (c : After-pdu_type-kind) →
     let t = c.pdu_type-kind.result in
     result_in l ≡ resume c.tested-code.result.reached (λ at. and_next (read_at (users_of t) l at) (λ u p. result_from t l (At (record { at = p }))))
 unfolding element_of
-after-kind c = 
+after-kind c =
     rw c.pdu_type-kind.ensures (pdu-result _
     ∙ go_on _ _ _ _ _ (number_read _ (c.tested-ss_type.ensures ∙ tested-element 6 _ _ _ c.number-ss_read.ensures
     c.ss_refusal.ensures))
@@ -27,7 +26,7 @@ after-kind c =
     c.kind_refusal.ensures)))
 
 pub returns : goal.returns
-returns c =    
+returns c =
     let t = c.pdu_type-kind.result in
     let l = bits_in c.args.n.0 c.args.s.now in
     after-kind (goal.at.returns c).After-pdu_type-kind

@@ -1,5 +1,4 @@
 -- There, or not. Assumes nothing.
-use borrow.Author.Rules.{rules}
 use mathlib.Core.Path.{sym}
 use Rattle.grammar.specs.Grammar.{no_services}
 use Rattle.grammar.specs.Zero.{zero_services}

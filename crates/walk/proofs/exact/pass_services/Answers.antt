@@ -1,6 +1,5 @@
 -- The count, then as many. Assumes nothing.
 use mathlib.Core.Path.{◌≡◌, sym, ◌∙◌}
-use borrow.Author.Rules.{rules}
 use Rattle.bits.specs.Frame.{bits_in}
 use Rattle.codec.specs.Parts.{absent, element}
 use Rattle.codec.specs.Places.{places}

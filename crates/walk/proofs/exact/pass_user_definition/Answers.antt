@@ -1,5 +1,4 @@
 -- Acknowledgement and definition type, each from where the one before it stands. Assumes nothing.
-use borrow.Author.Rules.{rules}
 use mathlib.Core.Path.{sym, ap, ◌∙◌}
 use Prim.Native.Nat.{ℕ}
 use Rattle.codec.specs.Reading.{element_of}
@@ -11,7 +10,7 @@ use Rattle.walk.proofs.exact.pass_user_definition.Goals as goal
 
 pub returns : goal.returns
 unfolding element_of defined_from
-returns c = 
+returns c =
     resume-same _ _ _ (λ at. user_definition-at _ at _)
     ∙ go_on _ _ _ _ _ (number_read _ c.number-acknowledgement.ensures)
     ∙ go_on _ _ _ _ _ (number_read _ (c.tested-definition.ensures ∙ tested-element 2 _ _ _ c.number-read.ensures

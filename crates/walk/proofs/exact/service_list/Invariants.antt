@@ -1,14 +1,9 @@
 -- A loop of one element each; a refusal stays. Assumes nothing.
-use mathlib.Core.Path.{◌≡◌, refl, sym, ap, ◌∙◌}
-use native.Mathlib.Omega.{arith}
-use borrow.Author.Rules.{rules}
+use mathlib.Core.Path.{◌≡◌}
 use Rattle.bits.specs.Frame.{bits_in}
 use Rattle.codec.specs.Parts.{element}
-use Rattle.codec.specs.Reading.{element_of}
-use Rattle.codec.proofs.Onward.{number_read, tested-element}
 use Rattle.grammar.specs.SiteSheet.{service_refusal}
 use Rattle.walk.specs.Inner.{pass, steps}
-use Rattle.walk.proofs.Passes.{pass-read, steps_next, steps-none}
 use Rattle.walk.proofs.exact.service_list.Given as goal
 
 abbrev pub invariant-loop-left : goal.invariant-loop-left

@@ -1,0 +1,54 @@
+-- The range type, then as many entries as it says. Assumes nothing.
+use mathlib.Core.Path.{refl}
+use Prim.Native.Nat.{◌+◌, ◌≤◌}
+use native.Mathlib.Omega.{arith}
+use borrow.Author.Rules.{rules}
+use Rattle.bits.specs.Bits.{bits}
+use Rattle.codec.specs.Parts.{number}
+use Rattle.grammar.specs.Grammar.{identity, no_identity, identities}
+use Rattle.grammar.proofs.Codes.{entries_of_le}
+use Rattle.walk.proofs.Sights.{legal-code}
+use Rattle.words.specs.RecordWords.{identities_words}
+use Rattle.reader.specs.Inner.{Reads}
+use Rattle.reader.proofs.Elements.{number_fits}
+use Rattle.reader.proofs.Parts.{head-reads, head_passed, rest-reads, headed_fill, reads-tested, fill-tested, reads-used, fill-used}
+use Rattle.reader.proofs.identities.fill_identities.Goals.{Start}
+use Rattle.reader.proofs.identities.fill_identities.Goals as goal
+
+coded : (b : Start) → Reads (number 4) (bits b.args.s.now) b.args.c.at
+unfolding identities
+coded b = head-reads _ _ _ _ _ _ _ b.requires.reads
+
+near : (b : Start) → b.args.c.at + 4 ≤ 4096
+near b = number_fits b.args.s.now b.args.c.at 4 (omega arith) b.requires.few (coded b)
+
+pub entries_of-count-requires : goal.entries_of-count-requires
+unfolding identities
+entries_of-count-requires c = legal-code _ _ (head_passed _ _ _ _ _ _ _ c.requires.reads c.number_at-code.ensures)
+
+pub fill_entries-requires : goal.fill_entries-requires
+unfolding identities
+fill_entries-requires c =   (
+      omega (arith, c.entries_of-count.ensures, entries_of_le c.number_at-code.result),
+      record {
+        few = c.requires.few;
+        room = omega (arith, c.requires.room, c.store.auto.words);
+        reads = reads-used identity no_identity 8 c.entries_of-count.ensures
+            (reads-tested _ _ _ (rest-reads _ _ _ _ _ _ _ c.requires.reads c.number_at-code.ensures));
+      },
+    )
+
+pub returns : goal.returns
+unfolding identities identities_words
+returns c =   
+    headed_fill _ _ _ _ _ _ _ c.requires.reads (λ _. refl) (omega (arith, c.requires.room)) c.number_at-code.ensures c.store.ensures
+    (fill-tested _ _ _ (rest-reads _ _ _ _ _ _ _ c.requires.reads c.number_at-code.ensures)
+    (fill-used identity no_identity 8 c.entries_of-count.ensures c.fill_entries.ensures))
+
+pub number_at-code-requires : goal.number_at-code-requires
+number_at-code-requires c =
+    (omega arith, omega arith, coded (goal.at.number_at-code-requires c).Start)
+
+pub overflow_add-at : goal.overflow_add-at
+overflow_add-at c =
+    omega (arith, near (goal.at.overflow_add-at c).Start)

@@ -1,0 +1,57 @@
+-- 520 words or 9; then the walk's refusal, or the words of the record that it accepts. Assumes nothing.
+use mathlib.Core.Path.{◌≡◌, sym, ap, ◌∙◌}
+use mathlib.Core.Bool.{true, false}
+use native.Mathlib.Omega.{arith}
+use borrow.Author.Rules.{rules}
+use borrow.Author.Tests.{eq-eqb, ne_eqb}
+use lib.ListN.{length}
+use Rattle.words.specs.RecordWords.{are_record}
+use Rattle.words.proofs.Putting.{put_whole}
+use Rattle.reader.specs.Words.{read_words_is, read_words}
+use Rattle.reader.proofs.Parts.{fills-is}
+use Rattle.reader.proofs.Walked.{answer_of, same_answer, Accepts, accepts}
+use Rattle.reader.proofs.read_words.Goals.{Else-words-ne-RECORD_WORDS, In-Accepted}
+use Rattle.reader.proofs.read_words.Goals as goal
+
+pub returns-then-words-ne-RECORD_WORDS : goal.returns-then-words-ne-RECORD_WORDS
+unfolding read_words_is read_words
+returns-then-words-ne-RECORD_WORDS c =
+    let e : are_record (length c.args.words.now) ≡ false = ne_eqb _ _ c.if-words-ne-RECORD_WORDS.true in record {
+  value = rw e;
+  words_after = rw e;
+}
+
+-- there are 520 words
+whole : (c : Else-words-ne-RECORD_WORDS) → are_record (length c.args.words.now) ≡ true
+whole c = eq-eqb _ _ c.if-words-ne-RECORD_WORDS.false
+
+-- the walk accepts
+accepted : (c : In-Accepted) → let a = c.args in Accepts a.s.now a.n.0
+accepted c = accepts _ _ (sym c.walk.ensures ∙ c.in-Accepted.is)
+
+pub fill_record-requires : goal.fill_record-requires
+fill_record-requires c =
+    let a = accepted (goal.at.fill_record-requires c).In-Accepted in
+    record {
+      few = a.few;
+      room = omega (arith, c.if-words-ne-RECORD_WORDS.false);
+      reads = record { value = a.found; end = a.end; read = a.read };
+    }
+
+pub returns-in-Accepted : goal.returns-in-Accepted
+unfolding read_words_is read_words
+returns-in-Accepted c =  
+    let a = accepted (goal.at.returns-in-Accepted c).In-Accepted in
+    let left = put_whole c.if-words-ne-RECORD_WORDS.false (fills-is c.fill_record.ensures a.read).1 in record {
+  value = rw (whole (goal.at.returns-in-Accepted c).Else-words-ne-RECORD_WORDS, a.same);
+  words_after = rw (whole (goal.at.returns-in-Accepted c).Else-words-ne-RECORD_WORDS, a.same) left;
+}
+
+pub returns-in-Refused : goal.returns-in-Refused
+unfolding read_words_is read_words
+returns-in-Refused c = 
+    let a = c.args in
+    let q = same_answer a.s.now a.n.0 ∙ ap answer_of (sym c.walk.ensures ∙ c.in-Refused.is) in record {
+  value = rw (whole (goal.at.returns-in-Refused c).Else-words-ne-RECORD_WORDS, q);
+  words_after = rw (whole (goal.at.returns-in-Refused c).Else-words-ne-RECORD_WORDS, q);
+}

@@ -1,0 +1,14 @@
+-- Its width's refusal, then its own, after those before it. Assumes nothing.
+use mathlib.Core.Path.{ap, ◌∙◌}
+use Prim.Native.Nat.{ℕ}
+use borrow.Author.Rules.{rules}
+use Rattle.codec.specs.Codec.{first}
+use Rattle.tally.proofs.Parts.{element-is}
+use Rattle.tally.proofs.elements.tally_element.Goals as goal
+
+pub returns : goal.returns
+returns c =
+    let a = c.args in
+    element-is a.start a.value a.width a.refusal
+    (c.first_refusal-own.ensures ∙ ap (λ (n : ℕ). first n a.refusal) c.width_refusal.ensures)
+    c.first_refusal.ensures

@@ -1,0 +1,21 @@
+-- Only code 9 is a range, of the first two entries. Assumes nothing.
+use mathlib.Core.Path.{sym, ap₂, ◌∙◌}
+use lib.Seq.{drop-drop}
+use borrow.Author.Tests.{eq-eqb}
+use Rattle.grammar.specs.Grammar.{ends_refusal, range_ends}
+use Rattle.grammar.proofs.Codes.{not-nine}
+use Rattle.words.specs.RecordWords.{entries_from, identity_from}
+use borrow.Author.Rules.{rules}
+use Rattle.tally.proofs.identities.range_ends.Goals as goal
+
+pub returns-then-code-ne9 : goal.returns-then-code-ne9
+returns-then-code-ne9 c = sym (not-nine _ c.if-code-ne9.true _)
+
+pub returns : goal.returns
+unfolding range_ends entries_from
+returns c =
+    let a = c.args in
+    let w = a.words.now in
+    rw (eq-eqb a.code 9 c.if-code-ne9.false)
+    (c.ends_refusal.ensures ∙ ap₂ ends_refusal c.identity_from-first.ensures
+    (c.identity_from-last.ensures ∙ (λ i. identity_from (sym (drop-drop 3 a.from w) i))))

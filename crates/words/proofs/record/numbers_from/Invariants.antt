@@ -1,0 +1,15 @@
+-- Each turn fills one place. Assumes nothing.
+use mathlib.Core.Path.{◌≡◌, refl, sym, ap, ◌∙◌}
+use Prim.Native.Nat.{◌+◌, ◌-◌, ◌*◌}
+use native.Mathlib.Omega.{arith}
+use lib.Seq.{drop-drop}
+use Rattle.words.specs.Places.{number_width, list_places}
+use Rattle.words.specs.RecordWords.{entries_from, number_from, numbers_from}
+use Rattle.words.proofs.Filling.{first_word, Filled, filled_none, filled_more, filled-all}
+use Rattle.words.proofs.record.numbers_from.Given as goal
+
+abbrev pub invariant-loop-i : goal.invariant-loop-i
+invariant-loop-i l = Filled number_from number_width list_places l.words (l.at + 1) l.i l.held × (l.from ≡ l.at + 1 + number_width * l.i)
+
+abbrev pub decreases-loop-i : goal.decreases-loop-i
+decreases-loop-i l = list_places - l.i

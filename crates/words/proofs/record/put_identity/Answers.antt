@@ -1,0 +1,8 @@
+-- Three words. Assumes nothing.
+use borrow.Author.Rules.{rules}
+use Rattle.words.specs.RecordWords.{identity_words}
+use Rattle.words.proofs.record.put_identity.Goals as goal
+
+pub returns : goal.returns
+unfolding identity_words
+returns c = c.put_three.ensures
