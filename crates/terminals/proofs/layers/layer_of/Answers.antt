@@ -27,5 +27,5 @@ pub returns-in_default : goal.returns-in_default
 unfolding layer_at
 returns-in_default c =
     let v = c.args.layer in
-    let m = c.in_default.rest in
+    let m = c.in_default.in_default-own.rest in
     rw (ne_eqb v 0 m.0.0.0.0.1, ne_eqb v 1 m.0.0.0.1, ne_eqb v 2 m.0.0.1, ne_eqb v 3 m.0.1, ne_eqb v 4 m.1)

@@ -1,9 +1,9 @@
 -- What is left decides, byte by byte. Assumes nothing.
 use mathlib.Core.Path.{◌≡◌, refl, sym, ◌∙◌}
-use Prim.Native.Nat.{◌+◌, ◌-◌, ◌≤◌}
+use Prim.Native.Nat.{◌+◌}
 use native.Mathlib.Omega.{arith}
 use borrow.Author.Tests.{eq-eqb, ne_eqb}
-use lib.ListN.{length, get_or, drop}
+use lib.ListN.{get_or, drop}
 use Rattle.terminals.specs.Lines.{same_bytes}
 use Rattle.terminals.proofs.Bytes.{other_length, same_next, same_over}
 use Rattle.terminals.proofs.lines.same_bytes.Goals as goal

@@ -1,9 +1,7 @@
 -- Whatever fills the places that are left fills them all. Assumes nothing.
 use mathlib.Core.Path.{◌≡◌, refl, sym, ◌∙◌}
-use Prim.Native.Nat.{◌+◌, ◌-◌, ◌≤◌}
 use native.Mathlib.Omega.{arith}
-use lib.ListN.{length, set, replicate, length-set}
-use Rattle.bits.specs.Bits.{splice}
+use lib.ListN.{length, set, length-set}
 use Rattle.terminals.proofs.Storing.{fill_one, fill_none}
 use Rattle.terminals.proofs.profiles.fill.Goals as goal
 
