@@ -25,7 +25,7 @@ loop-left-preserved c =
     let l = c.loop-left in
     let p = c.args.profile in
     let n : length (set l.table l.at p) ≡ length l.table = length-set l.table l.at p in (
-      fill_one l.table l.at l.left p c.loop-left-test.true (omega (arith, l.invariant.1)) ∙ l.invariant.0,
+      fill_one l.table l.at l.left p (omega arith) (omega (arith, l.invariant.1)) ∙ l.invariant.0,
       omega (arith, l.invariant.1),
       n ∙ l.invariant.2,
     )
@@ -36,4 +36,4 @@ shape_of-table c = c.loop-left.invariant.2
 pub returns : goal.returns
 returns c =
     let l = c.loop-left in
-    sym (fill_none l.table l.at l.left c.args.profile c.loop-left-test.false) ∙ l.invariant.0
+    sym (fill_none l.table l.at l.left c.args.profile (omega arith)) ∙ l.invariant.0
