@@ -33,8 +33,7 @@ append-requires c =
     omega (
       arith,
       l,
-      middle
-          c,
+      middle (goal.at.append-requires c).After-next_of-next,
       c.append-body_at.ensures.ends,
       c.append-body_at.auto.out,
       c.append-rest_at.ensures.ends,

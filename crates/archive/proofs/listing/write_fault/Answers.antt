@@ -6,7 +6,7 @@ use Rattle.archive.proofs.listing.write_fault.Goals as goal
 
 pub returns-in_default : goal.returns-in_default
 unfolding fault_text
-returns-in_default c = rw c.in_default.is (nothing _)
+returns-in_default c = record { value = rw c.in_default.is (nothing (c.args.out.now)).0; out_after = rw c.in_default.is (nothing c.args.out.now).1 }
 
 pub returns-in-At-place : goal.returns-in-At-place
 returns-in-At-place c =

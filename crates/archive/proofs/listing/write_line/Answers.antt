@@ -15,10 +15,10 @@ abbrev from_bits : Entry → List ℕ
 from_bits e = item e.bits.0 day_word ++ item e.day line_end
 
 abbrev from-part : Entry → List ℕ
-from-part e = item e.key-1.part bits_word ++ from_bits e
+from-part e = item e.key.part bits_word ++ from_bits e
 
 abbrev from-ssi : Entry → List ℕ
-from-ssi e = item e.key-1.ssi part_word ++ from-part e
+from-ssi e = item e.key.ssi part_word ++ from-part e
 
 -- the entry, and the room for them
 abbrev entry_of : After-write_item-ssi_at → Entry
@@ -49,12 +49,12 @@ write_item-ssi_at-requires c =
 pub write_item-part_at-requires : goal.write_item-part_at-requires
 write_item-part_at-requires c =
     let e = entry_of (goal.at.write_item-part_at-requires c).After-write_item-ssi_at in
-    first_fits (item e.key-1.ssi part_word) (from-part e) c.write_item-ssi_at.result (room-ssi (goal.at.write_item-part_at-requires c).After-write_item-ssi_at)
+    first_fits (item e.key.ssi part_word) (from-part e) c.write_item-ssi_at.result (room-ssi (goal.at.write_item-part_at-requires c).After-write_item-ssi_at)
 
 pub write_item-bits_at-requires : goal.write_item-bits_at-requires
 write_item-bits_at-requires c =
     let e = entry_of (first_of (goal.at.write_item-bits_at-requires c).After-write_item-part_at) in
-    first_fits (item e.key-1.part bits_word) (from_bits e) c.write_item-part_at.result (room-part (goal.at.write_item-bits_at-requires c).After-write_item-part_at)
+    first_fits (item e.key.part bits_word) (from_bits e) c.write_item-part_at.result (room-part (goal.at.write_item-bits_at-requires c).After-write_item-part_at)
 
 pub write_item-day_at-requires : goal.write_item-day_at-requires
 write_item-day_at-requires c =
