@@ -35,8 +35,8 @@ judged s =   let a = s.args in
 pub returns-then-not-stand_in : goal.returns-then-not-stand_in
 returns-then-not-stand_in c =  
     let a = c.args in
-    rw c.refused.ensures
-    (lost a.target a.archive.now a.at a.n.0 a.wanted a.out.now (part-is (goal.at.returns-then-not-stand_in c).After-read-reading) (said-no (judged (goal.at.returns-then-not-stand_in c).After-stand_in) c.if-not-stand_in.true))
+    let all = lost a.target a.archive.now a.at a.n.0 a.wanted a.out.now (part-is (goal.at.returns-then-not-stand_in c).After-read-reading) (said-no (judged (goal.at.returns-then-not-stand_in c).After-stand_in) c.if-not-stand_in.true) in
+    record { value = c.refused.ensures ∙ all.0; out_after = all.1 }
 
 -- what was written is the answer, and what was left
 wrote : (w : After-write) {left : List ℕ} → 
