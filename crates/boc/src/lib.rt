@@ -1,6 +1,6 @@
-// The calls for C, which the crate boc_c exports: each returns 0 or the refusal number; what it answers besides goes through a pointer to one number, which a refusal
-// leaves alone. A refusal of reading, or of an archive's call, says where it stopped through pointers of their own, which a success leaves alone.
-// A slice of words of another length than it should have gives 9, before anything else.
+// The calls for C, which boc_c exports: each returns 0 or the refusal number; what it answers besides goes through a pointer to one number, which a
+// refusal leaves alone. A refusal of reading, or of an archive's call, says where it stopped through pointers of their own, which a success leaves
+// alone. A slice of words of another length than it should have gives 9, before anything else.
 #![tactic(auto)]
 
 pub mod serial;

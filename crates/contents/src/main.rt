@@ -5,9 +5,8 @@
 ghost use Rattle.std.specs.Prelude.{◌≡◌, ◌≤◌, length};
 ghost use Rattle.bits.specs.Bits.{pick};
 
-use std::io::{Read, Write};
-
 use archive::listing;
+use std::io::{Read, Write};
 
 // A write that fails changes nothing but what is printed.
 fn main(rt: HostRuntime) {
