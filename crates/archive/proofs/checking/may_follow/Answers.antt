@@ -1,5 +1,4 @@
 -- The key's rank, then the room. Assumes nothing.
-use borrow.Author.Rules.{rules}
 use borrow.Author.Tests.{le-ltb, lt-ltb}
 use Rattle.archive.specs.Inner.{may_follow}
 use Rattle.archive.proofs.checking.may_follow.Goals as goal

@@ -1,5 +1,4 @@
 -- Each test is the definition's own. Assumes nothing.
-use borrow.Author.Rules.{rules}
 use borrow.Author.Tests.{eq-eqb, ne_eqb, le-leb, lt-leb}
 use Rattle.rules.specs.Matching.{in_range}
 use Rattle.rules.proofs.matching.in_range.Goals as goal
