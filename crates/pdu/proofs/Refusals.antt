@@ -1,6 +1,6 @@
 -- What is refused in writing: 3 or 4, before the buffer is looked at. Assumes nothing.
 use mathlib.Core.Bool.{◌&&◌}
-use mathlib.Core.List.{[], ◌∷◌}
+use mathlib.Core.List.{List, [], ◌∷◌}
 use Prim.Native.Nat.{ℕ, ◌^◌}
 use lib.Dec.{ltb}
 use Rattle.bits.proofs.Tests.{by-test}
@@ -29,15 +29,20 @@ firstly four k = four
 abbrev Within : (A : Type 0) → Codec A → Type 0
 Within A c = (a : A) → ThreeOrFour (c.fault a)
 
+within-cons : {A : Type 0} (c : Codec A) (d : Codec (List A)) → Within A c → Within (List A) d → Within (List A) (cons c d)
+unfolding cons
+within-cons c d h k [] = none
+within-cons c d h k (a ∷ t) = firstly (h a) (k t)
+
 within : Kept ThreeOrFour Within
-unfolding number absent tested seq nil cons shaped
+unfolding number absent tested seq nil shaped
 within = record {
   number = λ w v. by-test ThreeOrFour (ltb v (2 ^ w)) none three;
   absent = λ v. none;
   tested = λ c test into codes h a. firstly (h a) (codes a);
   seq = λ c d h k p. firstly (h p.0) (k p.0 p.1);
   nil = λ l. none;
-  cons = λ c d h k l. elim l [ [] ↦ none | a ∷ t ↦ firstly (h a) (k t) ];
+  cons = within-cons;
   shaped = λ c to from there back h b. h (from b);
 }
 

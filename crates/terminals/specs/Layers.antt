@@ -1,7 +1,7 @@
 -- The service layers 1 and the places of the table, one for each pair of layer 1 and layer 2, or PID where layer 1 is SDS-TL (EN 300 392-5,
 -- clauses 6.17.40, 6.17.41 and 6.17.28). Layer 2 comes in groups of ten, of which the first three go by layer 1; Packet Data has neither, and one
 -- place.
-use Rattle.std.specs.Prelude.{true, false, List, [], ◌∷◌, ◌++◌, ℕ, zero, suc, ◌+◌, eqb}
+use Rattle.std.specs.Prelude.{true, false, List, [], ◌∷◌, ◌++◌, ℕ, zero, suc, eqb}
 use Rattle.bits.specs.Bits.{pick}
 use Rattle.terminals.specs.declared.layers.Layer.{Layer}
 use Rattle.terminals.specs.declared.layers.Place.{Place}

@@ -1,10 +1,11 @@
 -- What owning a record tells of it: every list is as long as its array, and the lengths and digits of numbers are bytes. Assumes nothing.
-use mathlib.Core.List.{List, [], ◌∷◌, map}
+use mathlib.Core.List.{List, [], ◌∷◌}
 use Prim.Native.Nat.{ℕ, zero, suc, ◌<◌}
 use native.Mathlib.Omega.{arith}
 use mir.Val.{Val}
 use base.Fml.{Fml}
 use denote.Array.{each}
+use denote.Builtin.{u8}
 use denote.Shadow.{shadow}
 use denote.Laws.{Is}
 use denote.Struct.Declared.{row}
@@ -22,11 +23,11 @@ use Rattle.grammar.proofs.Arrays.{identities-length, numbers-length, services-le
 use Rattle.words.specs.Sized.{SizedNumber, SizedNumbers, SizedLists, SizedRecord}
 
 -- what is told of each element of an array is so of all
-all : {A D : Type 0} (P : A → Type 0) (f : D → List Val → Fml) (g : A → D) → ((x : A) (u : List Val) → shadow (f (g x) u) → P x)
-    → (xs : List A) (us : List Val) → shadow (each D f (map g xs) us) → Each P xs
-all P f g h [] us t = tt
-all P f g h (x ∷ xs) [] t = absurd t
-all P f g h (x ∷ xs) (u ∷ us) t = (h x (u ∷ []) t.0, all P f g h xs us t.1)
+all : {A : Type 0} (P : A → Type 0) (f : A → List Val → Fml) → ((x : A) (u : List Val) → shadow (f x u) → P x)
+    → (xs : List A) (us : List Val) → shadow (each A f xs us) → Each P xs
+all P f h [] us t = tt
+all P f h (x ∷ xs) [] t = absurd t
+all P f h (x ∷ xs) (u ∷ us) t = (h x (u ∷ []) t.0, all P f h xs us t.1)
 
 bytes : (s : List ℕ) → Each (λ (b : ℕ). b < 256) s → Bytes s
 bytes [] e i = omega arith
@@ -39,14 +40,14 @@ module _ (x : Number) (vs : List Val) (t : Is (row number-type.the_type) x vs) w
     digits = digits-length x vs t;
     bytes = bytes (x.length.0 ∷ x.digits) (
       t.1.1.0.1.1.0.1,
-      all (λ (b : ℕ). b < 256) _ (λ v. v) (λ v u h. h.1) x.digits _
+      all (λ (b : ℕ). b < 256) u8.own_val (λ v u h. h.1) x.digits _
           t.1.1.1.0.1.1,
     );
   }
 
 module _ (x : Numbers) (vs : List Val) (t : Is (row numbers-type.the_type) x vs) where
   sized-numbers : SizedNumbers x
-  sized-numbers = (numbers-length x vs t, all SizedNumber _ _ (λ e u h. sized-number e u h) x.entries _ t.1.1.1.0.1.1)
+  sized-numbers = (numbers-length x vs t, all SizedNumber (row number-type.the_type).own_val (λ e u h. sized-number e u h) x.entries _ t.1.1.1.0.1.1)
 
 module _ (x : Lists) (vs : List Val) (t : Is (row lists-type.the_type) x vs) where
   sized-lists : SizedLists x

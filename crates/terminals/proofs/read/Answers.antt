@@ -3,7 +3,6 @@ use mathlib.Core.Path.{◌≡◌, sym, ap, ◌∙◌}
 use mathlib.Core.List.{List}
 use Prim.Native.Nat.{ℕ, ◌+◌, ◌<◌}
 use native.Mathlib.Omega.{arith}
-use borrow.Author.Rules.{rules}
 use lib.ListN.{length, length-append}
 use Rattle.terminals.specs.Layers.{places}
 use Rattle.terminals.specs.Reading.{lead, lines_text, text_of}
@@ -18,9 +17,9 @@ table_of c = c.args.table.now
 pub returns-then-lines-eq0 : goal.returns-then-lines-eq0
 returns-then-lines-eq0 c = let all =
     read_none (table_of (goal.at.returns-then-lines-eq0 c).After-lines_length-lines) c.args.out.now (text-none (table_of (goal.at.returns-then-lines-eq0 c).After-lines_length-lines) (sym c.lines_length-lines.ensures.0 ∙ c.if-lines-eq0.true)) in record {
-  value = all.0;
-  out_after = all.1;
-}
+      value = all.0;
+      out_after = all.1;
+    }
 
 -- there is a line
 some : (c : Else-lines-eq0) → 0 < length (lines_text places (table_of (goal.at.Else-lines-eq0 c).After-lines_length-lines))
@@ -34,9 +33,9 @@ size c =
 pub returns-then-out-lines : goal.returns-then-out-lines
 returns-then-out-lines c = let all =
     read_short (table_of (goal.at.returns-then-out-lines c).After-lines_length-lines) c.args.out.now (omega (arith, size (goal.at.returns-then-out-lines c).Else-lines-eq0, c.if-out-lines.true)) in record {
-  value = all.0;
-  out_after = all.1;
-}
+      value = all.0;
+      out_after = all.1;
+    }
 
 pub write_text-requires : goal.write_text-requires
 write_text-requires c = record {
@@ -48,9 +47,9 @@ pub returns : goal.returns
 returns c = let all =
     read-written (table_of (goal.at.returns c).After-lines_length-lines) c.args.out.now (omega (arith, size (goal.at.returns c).Else-lines-eq0, c.if-out-lines.false))
     c.write_text.ensures in record {
-  value = all.0;
-  out_after = all.1;
-}
+      value = all.0;
+      out_after = all.1;
+    }
 
 pub lines_length-lines-requires : goal.lines_length-lines-requires
 lines_length-lines-requires c =

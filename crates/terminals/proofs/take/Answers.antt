@@ -1,7 +1,6 @@
 -- No table, no line, a set line, the read form: each is the definition's own case. Assumes nothing.
 use mathlib.Core.Path.{◌≡◌, sym, ◌∙◌}
 use mathlib.Core.Bool.{true}
-use borrow.Author.Rules.{rules}
 use Rattle.bits.proofs.Tests.{said-no, said-yes}
 use Rattle.terminals.specs.Profiles.{is_table}
 use Rattle.terminals.specs.Answers.{line_is, table_after, out_after}
@@ -30,28 +29,28 @@ pub returns-in-Unreadable : goal.returns-in-Unreadable
 unfolding line_is table_after out_after
 returns-in-Unreadable c =
     let e = table (goal.at.returns-in-Unreadable c).After-line_of in
-    let s = sym c.Line-of.ensures ∙ c.in-Unreadable.is in record {
-  value = rw (e, s);
-  table_after = rw (e, s);
-  out_after = rw (e, s);
-}
+    let s = sym c.line_of.ensures ∙ c.in-Unreadable.is in record {
+      value = rw (e, s);
+      table_after = rw (e, s);
+      out_after = rw (e, s);
+    }
 
 pub returns-in-Set : goal.returns-in-Set
 unfolding line_is table_after out_after
 returns-in-Set c =
     let e = table (goal.at.returns-in-Set c).After-line_of in
-    let s = sym c.Line-of.ensures ∙ c.in-Set.is in record {
-  value = rw (e, s) c.set.ensures.value;
-  table_after = rw (e, s) c.set.ensures.table_after;
-  out_after = rw (e, s);
-}
+    let s = sym c.line_of.ensures ∙ c.in-Set.is in record {
+      value = rw (e, s) c.set.ensures.value;
+      table_after = rw (e, s) c.set.ensures.table_after;
+      out_after = rw (e, s);
+    }
 
 pub returns-in-Read : goal.returns-in-Read
 unfolding line_is table_after out_after
 returns-in-Read c =
     let e = table (goal.at.returns-in-Read c).After-line_of in
-    let s = sym c.Line-of.ensures ∙ c.in-Read.is in record {
-  value = rw (e, s) c.read.ensures.value;
-  table_after = rw (e, s);
-  out_after = rw (e, s) c.read.ensures.out_after;
-}
+    let s = sym c.line_of.ensures ∙ c.in-Read.is in record {
+      value = rw (e, s) c.read.ensures.value;
+      table_after = rw (e, s);
+      out_after = rw (e, s) c.read.ensures.out_after;
+    }

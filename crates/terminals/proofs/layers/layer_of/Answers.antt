@@ -1,4 +1,5 @@
 -- Each arm of the match is the definition's own case. Assumes nothing.
+use native.Mathlib.Omega.{arith}
 use borrow.Author.Tests.{ne_eqb}
 use Rattle.terminals.specs.Layers.{layer_at}
 use Rattle.terminals.proofs.layers.layer_of.Goals as goal
@@ -27,5 +28,4 @@ pub returns-in_default : goal.returns-in_default
 unfolding layer_at
 returns-in_default c =
     let v = c.args.layer in
-    let m = c.in_default.rest in
-    rw (ne_eqb v 0 m.0.0.0.0.1, ne_eqb v 1 m.0.0.0.1, ne_eqb v 2 m.0.0.1, ne_eqb v 3 m.0.1, ne_eqb v 4 m.1)
+    rw (ne_eqb v 0 (omega arith), ne_eqb v 1 (omega arith), ne_eqb v 2 (omega arith), ne_eqb v 3 (omega arith), ne_eqb v 4 (omega arith))

@@ -1,8 +1,7 @@
 -- Each turn passes a layer whose places end before the index. Assumes nothing.
 use mathlib.Core.Path.{◌≡◌, ap}
-use Prim.Native.Nat.{ℕ, ◌+◌, ◌-◌, ◌≤◌, ◌<◌}
+use Prim.Native.Nat.{ℕ, ◌+◌, ◌≤◌, ◌<◌}
 use native.Mathlib.Omega.{arith}
-use borrow.Author.Rules.{rules}
 use Rattle.terminals.specs.Layers.{layer_at}
 use Rattle.terminals.specs.declared.layers.Layer.{Layer}
 use Rattle.terminals.proofs.Places.{ends, goes_on}

@@ -3,7 +3,6 @@ use mathlib.Core.Path.{◌≡◌, sym, ap, ◌∙◌}
 use mathlib.Core.Bool.{Bool, true, false}
 use Prim.Native.Nat.{ℕ, ◌+◌, ◌-◌, ◌≤◌}
 use native.Mathlib.Omega.{arith}
-use borrow.Author.Rules.{rules}
 use borrow.Author.Tests.{not-true, not-false}
 use Rattle.bits.specs.Bits.{pick}
 use lib.ListN.{get_or}
@@ -39,7 +38,7 @@ found c =
     ap (place_by l i) c.layer_of-row.ensures ∙ sym (place_at l i c.layer_with-layer.ensures)
 
 pub returns-then-not-row : goal.returns-then-not-row
-returns-then-not-row c =  by_row _ c.args.index false c.layer_of-row.result (not-true _ c.if-not-row.true) ∙ found (goal.at.returns-then-not-row c).After-layer_of-row
+returns-then-not-row c = by_row _ c.args.index false c.layer_of-row.result (not-true _ c.if-not-row.true) ∙ found (goal.at.returns-then-not-row c).After-layer_of-row
 
 pub overflow_sub-result : goal.overflow_sub-result
 overflow_sub-result c =

@@ -1,18 +1,18 @@
 -- What is left decides, byte by byte. Assumes nothing.
 use mathlib.Core.Path.{◌≡◌, refl, sym, ◌∙◌}
-use Prim.Native.Nat.{◌+◌, ◌-◌, ◌≤◌}
+use Prim.Native.Nat.{◌+◌}
 use native.Mathlib.Omega.{arith}
 use borrow.Author.Tests.{eq-eqb, ne_eqb}
-use lib.ListN.{length, get_or, drop}
+use lib.ListN.{get_or, drop}
 use Rattle.terminals.specs.Lines.{same_bytes}
 use Rattle.terminals.proofs.Bytes.{other_length, same_next, same_over}
 use Rattle.terminals.proofs.lines.same_bytes.Goals as goal
 
 pub returns-then-s-t : goal.returns-then-s-t
-returns-then-s-t c = sym (other_length _ _ c.if-s-t.true)
+returns-then-s-t c = sym (other_length c.args.s.now c.args.t.now (omega arith))
 
 pub loop-i-init : goal.loop-i-init
-loop-i-init c = (omega arith, c.if-s-t.false, refl)
+loop-i-init c = (omega arith, omega arith, refl)
 
 pub returns-then-s-i : goal.returns-then-s-i
 returns-then-s-i c =

@@ -1,11 +1,8 @@
 -- What is left decides, byte by byte. Assumes nothing.
-use mathlib.Core.Path.{◌≡◌, refl, sym, ◌∙◌}
-use Prim.Native.Nat.{◌+◌, ◌-◌, ◌≤◌}
-use native.Mathlib.Omega.{arith}
-use borrow.Author.Tests.{eq-eqb, ne_eqb}
-use lib.ListN.{length, get_or, drop}
+use mathlib.Core.Path.{◌≡◌}
+use Prim.Native.Nat.{◌-◌, ◌≤◌}
+use lib.ListN.{length, drop}
 use Rattle.terminals.specs.Lines.{same_bytes}
-use Rattle.terminals.proofs.Bytes.{other_length, same_next, same_over}
 use Rattle.terminals.proofs.lines.same_bytes.Given as goal
 
 abbrev pub invariant-loop-i : goal.invariant-loop-i

@@ -1,11 +1,10 @@
 -- Each way out is the definition's own. Assumes nothing.
 use mathlib.Core.Path.{sym, ◌∙◌}
-use borrow.Author.Rules.{rules}
 use Rattle.terminals.proofs.Steps.{first-none, second_none, second-ends, goes_on}
 use Rattle.terminals.proofs.lines.set_from.Goals as goal
 
 pub returns-in_default : goal.returns-in_default
-returns-in_default c =  sym (first-none _ (sym c.field_at.ensures ∙ c.in_default.is))
+returns-in_default c = sym (first-none _ (sym c.field_at.ensures ∙ c.in_default.is))
 
 pub returns-in_default-next_field : goal.returns-in_default-next_field
 returns-in_default-next_field c =

@@ -1,12 +1,11 @@
 -- Each way out is the definition's own. Assumes nothing.
 use mathlib.Core.Path.{sym, ◌∙◌}
-use borrow.Author.Rules.{rules}
 use Rattle.bits.proofs.Tests.{said-no, said-yes}
 use Rattle.terminals.proofs.Steps.{third-none, third-ends, fourth-none, fourth-is}
 use Rattle.terminals.proofs.lines.third_from.Goals as goal
 
 pub returns-in_default : goal.returns-in_default
-returns-in_default c =  sym (third-none _ _ _ _ (sym c.next_field.ensures ∙ c.in_default.is))
+returns-in_default c = sym (third-none _ _ _ _ (sym c.next_field.ensures ∙ c.in_default.is))
 
 pub returns-then-ends_at : goal.returns-then-ends_at
 returns-then-ends_at c =

@@ -1,9 +1,9 @@
 -- The rest of the table decides, place by place. Assumes nothing.
 use mathlib.Core.Path.{◌≡◌, refl, sym, ◌∙◌}
-use Prim.Native.Nat.{◌+◌, ◌-◌, ◌≤◌}
+use Prim.Native.Nat.{◌+◌}
 use native.Mathlib.Omega.{arith}
 use borrow.Author.Tests.{le-leb, lt-leb}
-use lib.ListN.{length, drop}
+use lib.ListN.{drop}
 use Rattle.terminals.specs.Profiles.{are_profiles}
 use Rattle.terminals.proofs.Storing.{profile-next, profile-none}
 use Rattle.terminals.proofs.profiles.are_profiles.Goals as goal

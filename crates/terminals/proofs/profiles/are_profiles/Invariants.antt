@@ -1,11 +1,8 @@
 -- The rest of the table decides, place by place. Assumes nothing.
-use mathlib.Core.Path.{◌≡◌, refl, sym, ◌∙◌}
-use Prim.Native.Nat.{◌+◌, ◌-◌, ◌≤◌}
-use native.Mathlib.Omega.{arith}
-use borrow.Author.Tests.{le-leb, lt-leb}
+use mathlib.Core.Path.{◌≡◌}
+use Prim.Native.Nat.{◌-◌, ◌≤◌}
 use lib.ListN.{length, drop}
 use Rattle.terminals.specs.Profiles.{are_profiles}
-use Rattle.terminals.proofs.Storing.{profile-next, profile-none}
 use Rattle.terminals.proofs.profiles.are_profiles.Given as goal
 
 abbrev pub invariant-loop-i : goal.invariant-loop-i

@@ -1,9 +1,7 @@
 -- Whatever fills the places that are left fills them all. Assumes nothing.
 use mathlib.Core.Path.{◌≡◌, refl, sym, ◌∙◌}
-use Prim.Native.Nat.{◌+◌, ◌-◌, ◌≤◌}
 use native.Mathlib.Omega.{arith}
-use lib.ListN.{length, set, replicate, length-set}
-use Rattle.bits.specs.Bits.{splice}
+use lib.ListN.{length, set, length-set}
 use Rattle.terminals.proofs.Storing.{fill_one, fill_none}
 use Rattle.terminals.proofs.profiles.fill.Goals as goal
 
@@ -27,7 +25,7 @@ loop-left-preserved c =
     let l = c.loop-left in
     let p = c.args.profile in
     let n : length (set l.table l.at p) ≡ length l.table = length-set l.table l.at p in (
-      fill_one l.table l.at l.left p c.loop-left-test.true (omega (arith, l.invariant.1)) ∙ l.invariant.0,
+      fill_one l.table l.at l.left p (omega arith) (omega (arith, l.invariant.1)) ∙ l.invariant.0,
       omega (arith, l.invariant.1),
       n ∙ l.invariant.2,
     )
@@ -38,4 +36,4 @@ shape_of-table c = c.loop-left.invariant.2
 pub returns : goal.returns
 returns c =
     let l = c.loop-left in
-    sym (fill_none l.table l.at l.left c.args.profile c.loop-left-test.false) ∙ l.invariant.0
+    sym (fill_none l.table l.at l.left c.args.profile (omega arith)) ∙ l.invariant.0

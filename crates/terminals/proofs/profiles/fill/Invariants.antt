@@ -1,10 +1,8 @@
 -- Whatever fills the places that are left fills them all. Assumes nothing.
-use mathlib.Core.Path.{◌≡◌, refl, sym, ◌∙◌}
-use Prim.Native.Nat.{◌+◌, ◌-◌, ◌≤◌}
-use native.Mathlib.Omega.{arith}
-use lib.ListN.{length, set, replicate, length-set}
+use mathlib.Core.Path.{◌≡◌}
+use Prim.Native.Nat.{◌+◌, ◌≤◌}
+use lib.ListN.{length, replicate}
 use Rattle.bits.specs.Bits.{splice}
-use Rattle.terminals.proofs.Storing.{fill_one, fill_none}
 use Rattle.terminals.proofs.profiles.fill.Given as goal
 
 abbrev pub invariant-loop-left : goal.invariant-loop-left

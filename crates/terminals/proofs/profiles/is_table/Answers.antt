@@ -1,5 +1,4 @@
 -- The length, then every profile. Assumes nothing.
-use borrow.Author.Rules.{rules}
 use borrow.Author.Tests.{eq-eqb, ne_eqb}
 use lib.ListN.{length}
 use Rattle.terminals.specs.Profiles.{is_table}

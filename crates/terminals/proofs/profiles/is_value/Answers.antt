@@ -1,5 +1,4 @@
 -- Each test is the definition's own. Assumes nothing.
-use borrow.Author.Rules.{rules}
 use borrow.Author.Tests.{le-leb, lt-leb, not-false}
 use Rattle.terminals.proofs.Storing.{far_from}
 use Rattle.terminals.proofs.profiles.is_value.Goals as goal

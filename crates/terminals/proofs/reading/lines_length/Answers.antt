@@ -1,8 +1,7 @@
 -- At each turn one line more. Assumes nothing.
 use mathlib.Core.Path.{◌≡◌, ap, ◌∙◌}
-use Prim.Native.Nat.{◌+◌, ◌-◌, ◌*◌, ◌≤◌}
+use Prim.Native.Nat.{◌+◌}
 use native.Mathlib.Omega.{arith}
-use borrow.Author.Rules.{rules}
 use lib.ListN.{length, get_or, drop, length-append}
 use Rattle.terminals.specs.Layers.{places, nowhere}
 use Rattle.terminals.specs.Reading.{line_text, lines_text}

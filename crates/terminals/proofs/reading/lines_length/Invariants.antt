@@ -1,13 +1,9 @@
 -- At each turn one line more. Assumes nothing.
-use mathlib.Core.Path.{◌≡◌, ap, ◌∙◌}
+use mathlib.Core.Path.{◌≡◌}
 use Prim.Native.Nat.{◌+◌, ◌-◌, ◌*◌, ◌≤◌}
-use native.Mathlib.Omega.{arith}
-use borrow.Author.Rules.{rules}
-use lib.ListN.{length, get_or, drop, length-append}
-use Rattle.terminals.specs.Layers.{places, nowhere}
-use Rattle.terminals.specs.Reading.{line_text, lines_text}
-use Rattle.terminals.specs.declared.layers.Place.{Place}
-use Rattle.terminals.proofs.Texts.{lines_next, lines-over}
+use lib.ListN.{length, drop}
+use Rattle.terminals.specs.Layers.{places}
+use Rattle.terminals.specs.Reading.{lines_text}
 use Rattle.terminals.proofs.reading.lines_length.Given as goal
 
 abbrev pub invariant-loop-index : goal.invariant-loop-index

@@ -1,6 +1,5 @@
 -- The number, then what stands after it. Assumes nothing.
 use native.Mathlib.Omega.{arith}
-use borrow.Author.Rules.{rules}
 use Rattle.bits.specs.Inner.{Laid}
 use Rattle.bits.proofs.Laying.{then, first_fits, rest-fits}
 use Rattle.text.specs.Decimal.{decimal}
@@ -14,10 +13,10 @@ number-laid : (c : After-write_number-word_at) → let a = c.args in
     Laid a.out.now a.at (decimal a.n) c.write_number-word_at.new.out c.write_number-word_at.result
 unfolding item
 number-laid c =
-    laid_in (first_fits (decimal c.args.n) c.args.word.now c.args.at c.requires) c.write_number-word_at.ensures
+    laid_in (first_fits (decimal c.args.n) c.args.word.now c.args.at c.requires) (c.write_number-word_at.ensures.value, c.write_number-word_at.ensures.out_after)
 
 pub returns : goal.returns
 unfolding item
 returns c =
     let laid = number-laid (goal.at.returns c).After-write_number-word_at in
-    then (omega (arith, c.requires)) laid (laid_in (rest-fits c.args.word.now c.requires laid) c.append.ensures)
+    then (omega (arith, c.requires)) laid (laid_in (rest-fits c.args.word.now c.requires laid) (c.append.ensures.value, c.append.ensures.out_after))

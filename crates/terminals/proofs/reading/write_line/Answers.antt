@@ -3,7 +3,6 @@ use mathlib.Core.Path.{◌≡◌, sym, subst}
 use mathlib.Core.List.{List, ◌++◌}
 use Prim.Native.Nat.{ℕ, ◌+◌, ◌≤◌}
 use native.Mathlib.Omega.{arith}
-use borrow.Author.Rules.{rules}
 use lib.ListN.{length}
 use Rattle.bits.specs.Inner.{Laid}
 use Rattle.bits.proofs.Laying.{none, then, first_fits, rest-fits}
@@ -27,7 +26,7 @@ line-is : (c : Else-profile-eq-BOTH) → let a = c.args in line_text a.profile a
 line-is c = let a = c.args in off-line a.profile a.place c.if-profile-eq-BOTH.false
 
 room : (c : Else-profile-eq-BOTH) → let a = c.args in a.at + length (item a.profile comma ++ rest a.place) ≤ length a.out.now
-room c =  subst (λ (s : List ℕ). c.args.at + length s ≤ length c.args.out.now) (line-is c) c.requires
+room c = subst (λ (s : List ℕ). c.args.at + length s ≤ length c.args.out.now) (line-is c) c.requires
 
 pub write_item-layer_at-requires : goal.write_item-layer_at-requires
 write_item-layer_at-requires c =

@@ -1,7 +1,7 @@
 -- Whatever lays the lines that are left lays them all: each turn lays one. Assumes nothing.
 use mathlib.Core.Path.{◌≡◌, refl, sym, ap, ◌∙◌, subst}
 use mathlib.Core.List.{List, ◌++◌}
-use Prim.Native.Nat.{ℕ, ◌+◌, ◌-◌, ◌≤◌}
+use Prim.Native.Nat.{ℕ, ◌+◌, ◌≤◌}
 use native.Mathlib.Omega.{arith}
 use lib.ListN.{length, get_or, drop}
 use Rattle.bits.specs.Inner.{Laid}
@@ -22,15 +22,15 @@ others c = lines_text (drop (c.loop-index.index + 1) places) (drop (c.loop-index
 
 -- the line at hand
 abbrev this : After-place_at-place → List ℕ
-this c =  line_text (get_or (table_of (goal.at.After-place_at-place c).At-loop-index) c.loop-index.index 0) c.place_at-place.result
+this c = line_text (get_or (table_of (goal.at.After-place_at-place c).At-loop-index) c.loop-index.index 0) c.place_at-place.result
 
-turn : (c : After-place_at-place) → 
+turn : (c : After-place_at-place) →
     lines_text (drop c.loop-index.index places) (drop c.loop-index.index (table_of (goal.at.After-place_at-place c).At-loop-index)) ≡ this c ++ others (goal.at.After-place_at-place c).At-loop-index
 turn c =
     lines_next (table_of (goal.at.After-place_at-place c).At-loop-index) c.loop-index.index c.requires.0 c.loop-index-test.true
     ∙ ap (λ (p : Place). line_text (get_or (table_of (goal.at.After-place_at-place c).At-loop-index) c.loop-index.index 0) p ++ others (goal.at.After-place_at-place c).At-loop-index) (sym c.place_at-place.ensures)
 
-room : (c : After-place_at-place) →  c.loop-index.at + length (this c ++ others (goal.at.After-place_at-place c).At-loop-index) ≤ length c.loop-index.out
+room : (c : After-place_at-place) → c.loop-index.at + length (this c ++ others (goal.at.After-place_at-place c).At-loop-index) ≤ length c.loop-index.out
 room c =
     let l = c.loop-index in
     subst (λ (s : List ℕ). l.at + length s ≤ length l.out) (turn c) l.invariant.2

@@ -1,15 +1,11 @@
 -- Whatever lays the lines that are left lays them all: each turn lays one. Assumes nothing.
-use mathlib.Core.Path.{◌≡◌, refl, sym, ap, ◌∙◌, subst}
-use mathlib.Core.List.{List, ◌++◌}
+use mathlib.Core.Path.{◌≡◌}
+use mathlib.Core.List.{List}
 use Prim.Native.Nat.{ℕ, ◌+◌, ◌-◌, ◌≤◌}
-use native.Mathlib.Omega.{arith}
-use lib.ListN.{length, get_or, drop}
+use lib.ListN.{length, drop}
 use Rattle.bits.specs.Inner.{Laid}
-use Rattle.bits.proofs.Laying.{then, none, first_fits, rest-fits}
 use Rattle.terminals.specs.Layers.{places}
-use Rattle.terminals.specs.Reading.{line_text, lines_text}
-use Rattle.terminals.specs.declared.layers.Place.{Place}
-use Rattle.terminals.proofs.Texts.{lines_next, lines-over}
+use Rattle.terminals.specs.Reading.{lines_text}
 use Rattle.terminals.proofs.reading.write_lines.Given as goal
 
 abbrev pub invariant-loop-index : goal.invariant-loop-index

@@ -3,13 +3,12 @@ use mathlib.Core.Path.{◌≡◌, refl, sym, ap, ◌∙◌, subst}
 use mathlib.Core.List.{List, ◌++◌}
 use Prim.Native.Nat.{ℕ, ◌+◌, ◌≤◌}
 use native.Mathlib.Omega.{arith}
-use borrow.Author.Rules.{rules}
 use lib.ListN.{length}
 use Rattle.bits.specs.Inner.{Laid}
 use Rattle.bits.proofs.Laying.{then, first_fits, rest-fits}
 use Rattle.terminals.specs.Reading.{comma, line_end, item, place_text}
 use Rattle.terminals.specs.declared.layers.Third.TheVariants.{Given, Missing}
-use Rattle.terminals.proofs.reading.write_place.Goals.{In-Given-2, In_default}
+use Rattle.terminals.proofs.reading.write_place.Goals.{In-Given, In_default}
 use Rattle.terminals.proofs.reading.write_place.Goals as goal
 
 -- what is written where the third field is missing, and where it is given
@@ -21,13 +20,13 @@ given : (l x : ℕ) → place_text l (Given x) ≡ item l comma ++ item x line_e
 unfolding place_text
 given l x = refl
 
-text-is : (c : In-Given-2) → let a = c.args in
+text-is : (c : In-Given) → let a = c.args in
     place_text a.layer a.third ≡ item a.layer comma ++ item c.in-Given.value line_end
 text-is c = let a = c.args in ap (place_text a.layer) c.in-Given.is ∙ given a.layer c.in-Given.value
 
-room : (c : In-Given-2) → let a = c.args in
+room : (c : In-Given) → let a = c.args in
     a.at + length (item a.layer comma ++ item c.in-Given.value line_end) ≤ length a.out.now
-room c =  subst (λ (s : List ℕ). c.args.at + length s ≤ length c.args.out.now) (text-is c) c.requires
+room c = subst (λ (s : List ℕ). c.args.at + length s ≤ length c.args.out.now) (text-is c) c.requires
 
 only : (c : In_default) → let a = c.args in place_text a.layer a.third ≡ item a.layer line_end
 only c = let a = c.args in ap (place_text a.layer) c.in_default.is ∙ missing a.layer
@@ -45,14 +44,14 @@ returns-in_default c =
 pub write_item-value_at-requires : goal.write_item-value_at-requires
 write_item-value_at-requires c =
     let a = c.args in
-    first_fits (item a.layer comma) (item c.in-Given.value line_end) a.at (room (goal.at.write_item-value_at-requires c).In-Given-2)
+    first_fits (item a.layer comma) (item c.in-Given.value line_end) a.at (room (goal.at.write_item-value_at-requires c).In-Given)
 
 pub write_item-requires-2 : goal.write_item-requires-2
 write_item-requires-2 c =
-    rest-fits (item c.in-Given.value line_end) (room (goal.at.write_item-requires-2 c).In-Given-2) c.write_item-value_at.ensures
+    rest-fits (item c.in-Given.value line_end) (room (goal.at.write_item-requires-2 c).In-Given) c.write_item-value_at.ensures
 
 pub returns : goal.returns
 returns c =
     let a = c.args in
-    subst (λ (s : List ℕ). Laid a.out.now a.at s c.write_item-2.new.out c.write_item-2.result) (sym (text-is (goal.at.returns c).In-Given-2))
-    (then (omega (arith, room (goal.at.returns c).In-Given-2)) c.write_item-value_at.ensures c.write_item-2.ensures)
+    subst (λ (s : List ℕ). Laid a.out.now a.at s c.write_item-2.new.out c.write_item-2.result) (sym (text-is (goal.at.returns c).In-Given))
+    (then (omega (arith, room (goal.at.returns c).In-Given)) c.write_item-value_at.ensures c.write_item-2.ensures)

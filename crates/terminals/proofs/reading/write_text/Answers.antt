@@ -3,7 +3,6 @@ use mathlib.Core.Path.{◌≡◌, ap}
 use mathlib.Core.List.{List, ◌++◌}
 use Prim.Native.Nat.{ℕ, ◌+◌, ◌≤◌}
 use native.Mathlib.Omega.{arith}
-use borrow.Author.Rules.{rules}
 use lib.ListN.{length}
 use Rattle.bits.specs.Inner.{Laid}
 use Rattle.bits.proofs.Laying.{then, first_fits, rest-fits}
@@ -24,7 +23,7 @@ room : (c : Start) → 0 + length (lead ++ lines c) ≤ length c.args.out.now
 room c = omega (arith, ap length (text-is c), c.requires.table_in_bounds)
 
 laid : (c : After-append-at) → Laid c.args.out.now 0 lead c.append-at.new.out c.append-at.result
-laid c =  laid_in (first_fits lead (lines (goal.at.After-append-at c).Start) 0 (room (goal.at.After-append-at c).Start)) c.append-at.ensures
+laid c = laid_in (first_fits lead (lines (goal.at.After-append-at c).Start) 0 (room (goal.at.After-append-at c).Start)) (c.append-at.ensures.value, c.append-at.ensures.out_after)
 
 pub write_lines-requires : goal.write_lines-requires
 write_lines-requires c =

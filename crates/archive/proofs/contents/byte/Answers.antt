@@ -1,0 +1,11 @@
+-- A byte is below 256. Assumes nothing.
+use mathlib.Core.Path.{refl}
+use native.Mathlib.Omega.{arith}
+use borrow.Author.Rules.{rules}
+use Rattle.archive.proofs.contents.byte.Goals as goal
+
+pub overflow_cast-result : goal.overflow_cast-result
+overflow_cast-result c = omega (arith, c.type_inv.b c.args.at)
+
+pub returns : goal.returns
+returns c = (refl, omega (arith, c.type_inv.b c.args.at))

@@ -1,0 +1,7 @@
+-- The sum of the parts' lengths. Assumes nothing.
+use native.Mathlib.Omega.{arith}
+use borrow.Author.Rules.{rules}
+use Rattle.archive.proofs.copying.spliced_length.Goals as goal
+
+pub returns : goal.returns
+returns c = omega arith

@@ -1,0 +1,15 @@
+-- Byte by byte: those passed are the body's, the others as they were. Assumes nothing.
+use mathlib.Core.Path.{◌≡◌, refl, ◌∙◌}
+use mathlib.Core.List.{◌++◌}
+use Prim.Native.Nat.{◌≤◌, ◌-◌}
+use native.Mathlib.Omega.{arith}
+use lib.ListN.{length, take, drop, length-set}
+use Rattle.archive.proofs.Bytes.Copied.{copied-one, copied_all}
+use Rattle.archive.proofs.copying.write_body.Given as goal
+
+abbrev pub invariant-loop-i : goal.invariant-loop-i
+invariant-loop-i l =
+    (l.i ≤ length l.body) × (length l.place ≡ length l.initial.place) × (length l.body ≡ length l.initial.place) × (l.place ≡ take l.i l.body ++ drop l.i l.initial.place)
+
+abbrev pub decreases-loop-i : goal.decreases-loop-i
+decreases-loop-i l = length l.body - l.i

@@ -1,0 +1,14 @@
+-- Each turn passes the last digit of what is left. Assumes nothing.
+use mathlib.Core.Path.{◌≡◌, ap}
+use Prim.Native.Nat.{◌+◌, ◌≤◌}
+use native.Mathlib.Omega.{arith}
+use lib.ListN.{length}
+use Rattle.archive.specs.Listing.{decimal}
+use Rattle.archive.proofs.Text.Decimal.{decimal-one, length_more, within}
+use Rattle.archive.proofs.listing.digits_of.Given as goal
+
+abbrev pub invariant-loop-rest : goal.invariant-loop-rest
+invariant-loop-rest l = (l.count + length (decimal l.rest) ≡ length (decimal l.n) + 1) × (length (decimal l.n) ≤ 20) × (l.rest ≤ l.n)
+
+abbrev pub decreases-loop-rest : goal.decreases-loop-rest
+decreases-loop-rest l = l.rest

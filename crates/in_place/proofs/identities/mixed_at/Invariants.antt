@@ -1,0 +1,17 @@
+-- Each turn passes an entry. Assumes nothing.
+use mathlib.Core.Logic.{⊎_elim}
+use Prim.Native.Nat.{◌-◌}
+use borrow.Author.Rules.{rules}
+use Rattle.bits.specs.Bits.{bits}
+use Rattle.grammar.specs.Grammar.{identity, no_identity}
+use Rattle.grammar.proofs.Steps.{no_identity-at}
+use Rattle.rules.specs.Matching.{is_entry}
+use Rattle.in_place.proofs.Among.{Along, along-none, along-next, along-more, along-all, kept, missed}
+use Rattle.in_place.proofs.identities.mixed_at.Given as goal
+
+abbrev pub invariant-loop-done : goal.invariant-loop-done
+invariant-loop-done l =
+    Along identity no_identity (is_entry l.missing l.user) 8 l.count (bits l.s) l.start l.done l.at l.has
+
+abbrev pub decreases-loop-done : goal.decreases-loop-done
+decreases-loop-done l = l.count - l.done

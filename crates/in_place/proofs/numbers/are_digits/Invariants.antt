@@ -1,0 +1,12 @@
+-- Each turn compares a digit. Assumes nothing.
+use Prim.Native.Nat.{◌-◌}
+use native.Mathlib.Omega.{arith}
+use borrow.Author.Rules.{rules}
+use Rattle.in_place.proofs.Digits.{Compared, compared-none, compared-more, compared-other, compared-all, compared-near}
+use Rattle.in_place.proofs.numbers.are_digits.Given as goal
+
+abbrev pub invariant-loop-i : goal.invariant-loop-i
+invariant-loop-i l = Compared l.s l.at l.count l.digits l.i
+
+abbrev pub decreases-loop-i : goal.decreases-loop-i
+decreases-loop-i l = l.count - l.i

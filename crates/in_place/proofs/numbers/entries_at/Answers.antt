@@ -1,0 +1,26 @@
+-- Each turn passes an entry. Assumes nothing.
+use mathlib.Core.Logic.{⊎_elim}
+use Prim.Native.Nat.{◌-◌}
+use borrow.Author.Rules.{rules}
+use Rattle.bits.specs.Bits.{bits}
+use Rattle.grammar.specs.Grammar.{external, no_external}
+use Rattle.grammar.proofs.Steps.{no_external-at}
+use Rattle.rules.specs.Matching.{is_number}
+use Rattle.in_place.proofs.Among.{Along, along-none, along-next, along-more, along-all, kept, missed}
+use Rattle.in_place.proofs.numbers.entries_at.Goals as goal
+
+pub number_at-entry-requires : goal.number_at-entry-requires
+number_at-entry-requires c =
+    record { few = c.requires.1.few; reads = along-next c.loop-done.invariant c.loop-done-test.true }
+
+pub loop-done-preserved : goal.loop-done-preserved
+loop-done-preserved c =  
+    along-more c.loop-done.invariant c.loop-done-test.true c.number_at-entry.ensures
+    (⊎_elim (λ w. kept c.loop-done.has w.0.taken w.1) (λ w. missed c.loop-done.has w.0.left w.1) c.if-entry.branch)
+
+pub returns : goal.returns
+returns c = along-all c.loop-done.invariant c.loop-done-test.false (no_external-at _)
+
+pub loop-done-init : goal.loop-done-init
+loop-done-init c =
+    along-none c.requires.0 c.requires.1.reads

@@ -1,0 +1,17 @@
+-- Entry by entry, up to the last that is used. Assumes nothing.
+use Prim.Native.Nat.{◌-◌}
+use Rattle.grammar.specs.Grammar.{identity, no_identity}
+use Rattle.grammar.proofs.Sizes.{size-no_identity}
+use Rattle.words.specs.RecordWords.{identity_from}
+use Rattle.writer.specs.Inner.{Ended}
+use Rattle.writer.proofs.PutsEntries.{Putting, putting-start, putting-room, putting-next, putting-done}
+use borrow.Author.Rules.{rules}
+use native.Mathlib.Omega.{arith}
+use Rattle.writer.proofs.put.put_next_identities.Given as goal
+
+abbrev pub invariant-loop-i : goal.invariant-loop-i
+invariant-loop-i l =
+    Putting identity no_identity identity_from 3 7 l.n l.words l.from l.initial.out l.initial.next.at l.i l.place l.out l.next.at × Ended l.out l.next.at l.next.last
+
+abbrev pub decreases-loop-i : goal.decreases-loop-i
+decreases-loop-i l = l.n - l.i
