@@ -3,6 +3,7 @@ use mathlib.Core.Path.{◌≡◌, ap, ◌∙◌}
 use mathlib.Core.Bool.{true, false, not}
 use mathlib.Core.List.{List}
 use Prim.Native.Nat.{ℕ}
+use borrow.Author.Tests.{not-true, not-false}
 use Rattle.bits.proofs.Tests.{said-no, said-yes}
 use Rattle.words.specs.RequestWords.{is_request, given_request}
 use Rattle.words.specs.declared.request.GivenRequest.{GivenRequest}
@@ -19,10 +20,10 @@ module _ (b words : List ℕ) {g : GivenRequest} (e : g ≡ given_request words)
 
   pub not-asked : {d : Decision} → d ≡ Refused (plain 9) → not g.given ≡ true → d ≡ decide_answer b words
   unfolding decide_answer
-  not-asked f t = rw (said-no given t) f
+  not-asked f t = rw (said-no given (not-true _ t)) f
 
   pub asked : {d : Decision} → d ≡ decide_is b g.asked → not g.given ≡ false → d ≡ decide_answer b words
   unfolding decide_answer
   asked f t =
-      let whole = said-yes given t in
+      let whole = said-yes given (not-false _ t) in
       rw whole (f ∙ ap (decide_is b) (ap (λ (x : GivenRequest). x.asked) e ∙ request-asked words whole))

@@ -17,6 +17,7 @@ use Rattle.rules.specs.Rule.{in_groups}
 use Rattle.barring.specs.Decide.{part_for}
 use Rattle.in_place.specs.Inner.{Walkable}
 use Rattle.in_place.specs.declared.Seen.{Seen}
+use borrow.Author.Tests.{not-true, not-false}
 use Rattle.in_place.proofs.Splits.{says_is, SeenIs, sees-is}
 use Rattle.in_place.proofs.Bodies.{Parts, parts, IdentityLists, identity-lists, NumberLists, number-lists, grouped}
 use Rattle.in_place.proofs.Rules.{unlisted, settled_is, by-identity, by_number}
@@ -39,7 +40,7 @@ start c = (goal.at.After-bit_at c).Start
 bit : (c : After-bit_at) → c.bit_at.result < 2
 bit c = rw c.bit_at.ensures (value-take-fits 1 1 (drop 39 (bits (start c).args.s.now)) (omega arith))
 
-place : (c : After-bit_at) → 45 + 24 * c.bit_at.result ≡ (ack (start c)).services_at-services
+place : (c : After-bit_at) → 45 + 24 * c.bit_at.result ≡ (ack (start c)).services-at
 place c = sym ((ack (start c)).place _ c.bit_at.ensures)
 
 pub services_at-services-requires : goal.services_at-services-requires
@@ -55,7 +56,7 @@ returns-then-not-services c = let b = start (goal.at.returns-then-not-services c
       found = b.requires.found;
       end = b.requires.end;
       read = b.requires.read;
-      says = unlisted _ _ _ (said-no (served (goal.at.returns-then-not-services c).After-services_at-services).0 c.if-not-services.true);
+      says = unlisted _ _ _ (said-no (served (goal.at.returns-then-not-services c).After-services_at-services).0 (not-true _ c.if-not-services.true));
     }
 
 -- ---- groups
@@ -68,10 +69,10 @@ abbrev services-of : After-groups_at-groups → After-services_at-services
 services-of c = (goal.at.After-groups_at-groups c).After-services_at-services
 
 abbrev start_of : After-groups_at-groups → Start
-start_of c = start (services-of c)
+start_of c = (goal.at.After-groups_at-groups c).Start
 
 covers : (c : After-groups_at-groups) → covered (start_of c).requires.found.services (start_of c).args.request.service ≡ true
-covers c = said-yes (served (services-of c)).0 c.if-not-services.false
+covers c = said-yes (served (services-of c)).0 (not-false _ c.if-not-services.false)
 
 -- what the walk says of the groups, which end where the next list begins
 abbrev GroupsAre : Start → ℕ → Seen → Type 0
@@ -131,7 +132,7 @@ number-parts c = let b = start_of (goal.at.After-digits-1 c).After-groups_at-gro
     number-lists (b.requires.part ∙ ap part_for c.in-Number.is) (ack b).listed
 
 number-groups : (c : After-digits-1) →  let b = start_of (goal.at.After-digits-1 c).After-groups_at-groups in
-    GroupsAre b (number-parts c).numbers_at-restricted
+    GroupsAre b (number-parts c).numbers-at
     c.groups_at-groups.result
 number-groups c = groups-are (goal.at.After-digits-1 c).After-groups_at-groups (number-parts c).groups
 

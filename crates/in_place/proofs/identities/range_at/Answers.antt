@@ -48,17 +48,16 @@ entry_at-last-requires c =
     record { few = c.requires.few; reads = record { value = x.entry; end = x.middle; read = x.first } }
 
 pub returns : goal.returns
-returns c =
-    let e₂ = c in let e₁ = e₂ in let b = e₁ in
-    let x = ends b in
-    let y = last e₁ in
-    let o = read-once y.first e₂.entry_at-last.ensures in
-    let none = places-rest identity no_identity (bits b.args.s.now) zero_identity (no_identity-at _) 6 y.middle in
-    let end : b.requires.reads.end ≡ e₂.entry_at-last.result.end = cc (y.then.same, none) ∙ o.1 in
-    let low : get_or (list b) 0 zero_identity ≡ e₁.entry_at-first.result.identity = rw x.is (first-is e₁).0 in
-    let high : get_or (list b) 1 zero_identity ≡ e₂.entry_at-last.result.identity = rw (x.is, y.is) o.0 in
+returns c =  
+    let x = ends (goal.at.returns c).Start in
+    let y = last (goal.at.returns c).After-entry_at-first in
+    let o = read-once y.first c.entry_at-last.ensures in
+    let none = places-rest identity no_identity (bits c.args.s.now) zero_identity (no_identity-at _) 6 y.middle in
+    let end : c.requires.reads.end ≡ c.entry_at-last.result.end = cc (y.then.same, none) ∙ o.1 in
+    let low : get_or (list (goal.at.returns c).Start) 0 zero_identity ≡ c.entry_at-first.result.identity = rw x.is (first-is (goal.at.returns c).After-entry_at-first).0 in
+    let high : get_or (list (goal.at.returns c).Start) 1 zero_identity ≡ c.entry_at-last.result.identity = rw (x.is, y.is) o.0 in
     record {
-      value = list b;
-      read = rw end at b.requires.reads.read;
-      says = c.in_range.ensures ∙ sym (ap₂ (in_range b.args.missing b.args.user) low high);
+      value = list (goal.at.returns c).Start;
+      read = rw end at c.requires.reads.read;
+      says = c.in_range.ensures ∙ sym (ap₂ (in_range c.args.missing c.args.user) low high);
     }

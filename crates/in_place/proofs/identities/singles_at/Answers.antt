@@ -12,6 +12,7 @@ use Rattle.reader.proofs.Elements.{identity-short}
 use Rattle.rules.specs.Matching.{is_entry}
 use Rattle.in_place.specs.Inner.{Says}
 use Rattle.in_place.proofs.Among.{Along, along-none, along-next, along-more, along-all, kept, missed}
+use Rattle.in_place.proofs.identities.singles_at.Goals.{then-entry, else-entry}
 use Rattle.in_place.proofs.identities.singles_at.Goals as goal
 
 pub identity_at-entry-requires : goal.identity_at-entry-requires
@@ -28,7 +29,10 @@ loop-done-preserved c =    let a = c.args in
     along-more c.loop-done.invariant c.loop-done-test.true
     (subst (λ (q : ℕ). Says identity (is_entry a.missing a.user) (bits a.s.now) c.loop-done.at c.identity_at-entry.result.has q)
     c.if-entry-end.false c.identity_at-entry.ensures)
-    (⊎_elim (λ w. kept c.loop-done.has w.0.taken w.1) (λ w. missed c.loop-done.has w.0.left w.1) c.if-entry.branch)
+    (elim c.if-entry.branch [
+      | then-entry w ↦ kept c.loop-done.has w.if-entry.true w.has-is
+      | else-entry w ↦ missed c.loop-done.has w.if-entry.false w.has-is
+    ])
 
 pub returns : goal.returns
 returns c = along-all c.loop-done.invariant c.loop-done-test.false (no_identity-at _)

@@ -7,6 +7,7 @@ use Rattle.grammar.specs.Grammar.{external, no_external}
 use Rattle.grammar.proofs.Steps.{no_external-at}
 use Rattle.rules.specs.Matching.{is_number}
 use Rattle.in_place.proofs.Among.{Along, along-none, along-next, along-more, along-all, kept, missed}
+use Rattle.in_place.proofs.numbers.entries_at.Goals.{then-entry, else-entry}
 use Rattle.in_place.proofs.numbers.entries_at.Goals as goal
 
 pub number_at-entry-requires : goal.number_at-entry-requires
@@ -16,7 +17,10 @@ number_at-entry-requires c =
 pub loop-done-preserved : goal.loop-done-preserved
 loop-done-preserved c =  
     along-more c.loop-done.invariant c.loop-done-test.true c.number_at-entry.ensures
-    (⊎_elim (λ w. kept c.loop-done.has w.0.taken w.1) (λ w. missed c.loop-done.has w.0.left w.1) c.if-entry.branch)
+    (elim c.if-entry.branch [
+      | then-entry w ↦ kept c.loop-done.has w.if-entry.true w.has-is
+      | else-entry w ↦ missed c.loop-done.has w.if-entry.false w.has-is
+    ])
 
 pub returns : goal.returns
 returns c = along-all c.loop-done.invariant c.loop-done-test.false (no_external-at _)

@@ -1,0 +1,29 @@
+-- The request of its words or 9; then the decision told. Assumes nothing.
+use borrow.Author.Rules.{rules}
+use mathlib.Core.Path.{refl}
+use Rattle.boc.specs.Calls.{decided_number, decided_verdict, decided_entry, decided_place}
+use Rattle.boc.proofs.Answering.{said, left}
+use Rattle.boc.proofs.Deciding.{not-asked, asked}
+use Rattle.boc.proofs.boc_decide.Goals as goal
+
+pub returns-then-not-spelt : goal.returns-then-not-spelt
+returns-then-not-spelt c =
+    let e = not-asked _ _ c.request_from-spelt.ensures c.no_request.ensures c.if-not-spelt.true in
+    let told = c.tell_decided.ensures in
+    record {
+      value = said e refl decided_number told.value;
+      decision_after = left e refl decided_verdict told.decision_after;
+      after = left e refl decided_entry told.after;
+      place_after = left e refl decided_place told.place_after;
+    }
+
+pub returns : goal.returns
+returns c =
+    let e = asked _ _ c.request_from-spelt.ensures c.decide-answer.ensures c.if-not-spelt.false in
+    let told = c.tell_decided-2.ensures in
+    record {
+      value = said e refl decided_number told.value;
+      decision_after = left e refl decided_verdict told.decision_after;
+      after = left e refl decided_entry told.after;
+      place_after = left e refl decided_place told.place_after;
+    }
