@@ -23,8 +23,8 @@ module _ (home : ℕ) (r : Record) (q : Request) where
   unfolding ruling six_rules
   excepted-allowed h =
       let below = pick (is_restricted (missing_in home r) r.lists q.destination q.digits) (Barred restricted_address)
-              (pick (is_outside (missing_in home r) r.lists.groups q.group) (Barred outside_group)
-              (pick (both_empty r.lists q.destination) (Barred restricted_service) Allowed)) in
+      (pick (is_outside (missing_in home r) r.lists.groups q.group) (Barred outside_group)
+      (pick (both_empty r.lists q.destination) (Barred restricted_service) Allowed)) in
       ap (λ (b : Bool). pick (not (covered r.services q.service)) Allowed (pick b Allowed below)) h ∙ same-pick (not (covered r.services q.service)) Allowed
 
   -- an empty group list bars no call for its group

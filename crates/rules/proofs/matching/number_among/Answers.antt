@@ -69,31 +69,31 @@ loop-j-preserved c =
 
 -- the entry at i is another number: its length differs, or a digit of it
 other : (c : Joined-e-length)
-    → 
+    →
     let a = c.args in
     (c.if-e-length.found ≡ false) × (is_number a.length.0 a.digits (entry (goal.at.Joined-e-length c).At-entries) ≡ false)
 unfolding entry is_number
 other c = elim c.if-e-length.branch [
   | then-e-length+else-j-places+then-e-j w ↦
-    let more : w.loop-j.j < c.least-places.result = omega arith in (
-      w.found-is ∙ w.loop-j.invariant.1.0,
-      sym (differs (entry (goal.at.Joined-e-length c).At-entries).digits _ more
-        (omega (arith, there (goal.at.Joined-e-length c).In-entries)) (omega (arith, there (goal.at.Joined-e-length c).In-entries))
-        (ne_eqb _ _ w.if-e-j.true) w.loop-j.invariant.1.1),
-    )
+      let more : w.loop-j.j < c.least-places.result = omega arith in (
+        w.found-is ∙ w.loop-j.invariant.1.0,
+        sym (differs (entry (goal.at.Joined-e-length c).At-entries).digits _ more
+            (omega (arith, there (goal.at.Joined-e-length c).In-entries)) (omega (arith, there (goal.at.Joined-e-length c).In-entries))
+            (ne_eqb _ _ w.if-e-j.true) w.loop-j.invariant.1.1),
+      )
   | else-e-length w ↦ (w.found-is ∙ c.entries.invariant.1.0, rw (ne_eqb _ _ w.if-e-length.false))
 ]
 
 pub entries-preserved : goal.entries-preserved
 unfolding entry
 entries-preserved c = (
-      omega arith,
-      (
-        (other c).0,
-        passed (is_number c.args.length.0 c.args.digits) c.args.list.entries blank c.entries-test.true
-            (omega (arith, long (goal.at.entries-preserved c).Start)) (other c).1 c.entries.invariant.1.1,
-      ),
-    )
+  omega arith,
+  (
+    (other c).0,
+    passed (is_number c.args.length.0 c.args.digits) c.args.list.entries blank c.entries-test.true
+        (omega (arith, long (goal.at.entries-preserved c).Start)) (other c).1 c.entries.invariant.1.1,
+  ),
+)
 
 pub returns-after-entries : goal.returns-after-entries
 returns-after-entries c =
