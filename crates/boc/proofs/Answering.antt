@@ -16,19 +16,3 @@ module _ {A : Type 0} {answer is told : A} (e : answer ≡ is) (t : answer ≡ t
   -- behind a pointer
   pub left : {B : Type 0} (f : A → B → B) {x old : B} → x ≡ f told old → x ≡ f is old
   left f {old = old} h = said (λ x. f x old) h
-
--- an answer that was told is the call's: the number, and the numbers behind the pointers
-pub told-on : {A : Type 0} {answer is : A} → answer ≡ is → (number : A → ℕ) (length entry place : A → ℕ → ℕ) {r n i p old old_entry old_place : ℕ}
-    → (r ≡ number answer) × ((n ≡ length answer old) × ((i ≡ entry answer old_entry) × (p ≡ place answer old_place)))
-    → (r ≡ number is) × ((n ≡ length is old) × ((i ≡ entry is old_entry) × (p ≡ place is old_place)))
-told-on {A} e number length entry place {old = old} {old_entry = old_entry} {old_place = old_place} (h, (k, (l, m))) = (
-  h ∙ ap number e,
-  (k ∙ ap (λ (x : A). length x old) e, (l ∙ ap (λ (x : A). entry x old_entry) e, m ∙ ap (λ (x : A). place x old_place) e)),
-)
-
--- and what it left
-pub passed_on : {A : Type 0} {answer is : A} → answer ≡ is → (number : A → ℕ) (length entry place : A → ℕ → ℕ) {r n i p old old_entry old_place : ℕ}
-    {out out' : List ℕ} → out ≡ out'
-    → (r ≡ number answer) × ((n ≡ length answer old) × ((i ≡ entry answer old_entry) × (p ≡ place answer old_place)))
-    → (r ≡ number is) × ((out ≡ out') × ((n ≡ length is old) × ((i ≡ entry is old_entry) × (p ≡ place is old_place))))
-passed_on e number length entry place left t = let q = told-on e number length entry place t in (q.0, (left, q.1))
