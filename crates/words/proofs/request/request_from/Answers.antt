@@ -6,7 +6,7 @@ use Rattle.words.proofs.request.request_from.Goals as goal
 
 pub returns-then-words-ne-REQUEST_WORDS : goal.returns-then-words-ne-REQUEST_WORDS
 unfolding given_request
-returns-then-words-ne-REQUEST_WORDS c = rw (ne_eqb _ _ c.if-words-ne-REQUEST_WORDS.true) c.no_request.ensures
+returns-then-words-ne-REQUEST_WORDS c = rw (ne_eqb _ 34 c.if-words-ne-REQUEST_WORDS.true) c.no_request.ensures
 
 pub returns-then-not-are_request : goal.returns-then-not-are_request
 unfolding given_request
