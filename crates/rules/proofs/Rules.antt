@@ -1,5 +1,5 @@
 -- What the six rules say together, by cases on which of them applies. Assumes nothing.
-use mathlib.Core.Path.{◌≡◌, ap}
+use mathlib.Core.Path.{◌≡◌, ap, ◌∙◌}
 use mathlib.Core.Bool.{Bool, true, false, not, ◌&&◌}
 use Prim.Native.Nat.{ℕ}
 use borrow.Author.Tests.{eq-eqb}
@@ -21,7 +21,11 @@ module _ (home : ℕ) (r : Record) (q : Request) where
   -- an excepted destination is never barred
   pub excepted-allowed : is_excepted (missing_in home r) r.lists q.destination q.digits ≡ true → ruling home r q ≡ Allowed
   unfolding ruling six_rules
-  excepted-allowed h = rw h (same-pick (not (covered r.services q.service)) Allowed)
+  excepted-allowed h =
+      let below = pick (is_restricted (missing_in home r) r.lists q.destination q.digits) (Barred restricted_address)
+      (pick (is_outside (missing_in home r) r.lists.groups q.group) (Barred outside_group)
+      (pick (both_empty r.lists q.destination) (Barred restricted_service) Allowed)) in
+      ap (λ (b : Bool). pick (not (covered r.services q.service)) Allowed (pick b Allowed below)) h ∙ same-pick (not (covered r.services q.service)) Allowed
 
   -- an empty group list bars no call for its group
   inside : r.lists.groups.code ≡ 0 → is_outside (missing_in home r) r.lists.groups q.group ≡ false

@@ -1,4 +1,6 @@
 -- A refusal that came before is passed on; then the test's own. Assumes nothing.
+use mathlib.Core.Path.{◌≡◌}
+use native.Mathlib.Omega.{arith}
 use borrow.Author.Rules.{rules}
 use Rattle.codec.specs.Reading.{resume, number_is, tested_is}
 use Rattle.codec.proofs.Reading.{unless_at-some}
@@ -14,7 +16,9 @@ returns-in_default-after c = rw (c.in-At.is, c.in_default-after.is)
 
 pub returns-then-refusal-eq0 : goal.returns-then-refusal-eq0
 unfolding resume number_is tested_is
-returns-then-refusal-eq0 c = rw (c.in-At.is, c.if-refusal-eq0.true, c.in-At-after.is)
+returns-then-refusal-eq0 c =
+    let e : c.args.refusal ≡ 0 = omega (arith, c.if-refusal-eq0.true) in
+    rw (c.in-At.is, e, c.in-At-after.is)
 
 pub returns : goal.returns
 unfolding resume number_is tested_is

@@ -1,4 +1,6 @@
 -- The first rule that applies, by cases. Assumes nothing.
+use mathlib.Core.Path.{◌≡◌}
+use mathlib.Core.Bool.{true}
 use Rattle.in_place.specs.Inner.{settled_by}
 use Rattle.in_place.proofs.settled.Goals as goal
 
@@ -20,7 +22,9 @@ returns-then-groups c = rw (c.if-exceptions.false, c.if-restricted.false, c.if-g
 
 pub returns-then-groups-2 : goal.returns-then-groups-2
 unfolding settled_by
-returns-then-groups-2 c = rw (c.if-exceptions.false, c.if-restricted.false, c.if-groups.false, c.if-groups-2.true)
+returns-then-groups-2 c =
+    let has : c.args.groups.has ≡ true = c.if-groups-2.true in
+    rw (c.if-exceptions.false, c.if-restricted.false, c.if-groups.false, has)
 
 pub returns : goal.returns
 unfolding settled_by

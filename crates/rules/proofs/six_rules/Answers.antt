@@ -1,8 +1,9 @@
 -- The tests are made in the order of the rules. Assumes nothing.
-use mathlib.Core.Path.{sym, ◌∙◌}
+use mathlib.Core.Path.{◌≡◌, sym, ◌∙◌}
+use mathlib.Core.Bool.{true}
 use borrow.Author.Rules.{rules}
 use Rattle.bits.proofs.Tests.{said-no, said-yes}
-use Rattle.rules.specs.Rule.{six_rules}
+use Rattle.rules.specs.Rule.{six_rules, is_outside}
 use Rattle.rules.proofs.six_rules.Goals as goal
 
 pub returns-then-not-covers : goal.returns-then-not-covers
@@ -26,11 +27,13 @@ returns-then-is_restricted c =
 pub returns-then-is_outside : goal.returns-then-is_outside
 unfolding six_rules
 returns-then-is_outside c =
+    let a = c.args in
+    let outside : is_outside a.missing a.part.lists.groups a.request.group ≡ true = sym c.is_outside.ensures ∙ c.if-is_outside.true in
     rw (
       said-yes c.covers.ensures c.if-not-covers.false,
       sym c.is_excepted.ensures ∙ c.if-is_excepted.false,
       sym c.is_restricted.ensures ∙ c.if-is_restricted.false,
-      sym c.is_outside.ensures ∙ c.if-is_outside.true,
+      outside,
     )
 
 pub returns-then-both_empty : goal.returns-then-both_empty

@@ -7,7 +7,9 @@ use Rattle.walk.proofs.identity_in.Goals as goal
 
 pub returns-then-window-eq1 : goal.returns-then-window-eq1
 unfolding identity_in
-returns-then-window-eq1 c = rw c.if-window-eq1.true
+returns-then-window-eq1 c =
+    let one : c.args.window / 2 ^ 32 % 2 ≡ 1 = c.if-window-eq1.true in
+    rw one
 
 pub returns : goal.returns
 unfolding identity_in

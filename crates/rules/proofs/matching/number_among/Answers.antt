@@ -2,13 +2,10 @@
 use native.Mathlib.Omega.{arith}
 use mathlib.Core.Path.{◌≡◌, refl, ap, sym, ◌∙◌}
 use mathlib.Core.Bool.{false}
-use mathlib.Core.Logic.{⊎_elim}
 use mathlib.Core.List.{[]}
-use Prim.Native.Nat.{◌-◌, ◌≤◌, ◌<◌, min}
+use Prim.Native.Nat.{◌≤◌, ◌<◌, min}
 use lib.ListN as list
 use lib.ListN.{take, get_or}
-use lib.Seq.{slice}
-use borrow.Author.Rules.{rules}
 use borrow.Author.Tests.{eq-eqb, ne_eqb}
 use Rattle.bits.specs.Lists.{some}
 use Rattle.bits.proofs.Lists.{take-used}
@@ -16,7 +13,7 @@ use Rattle.grammar.specs.SiteSheet.{entries_of}
 use Rattle.grammar.specs.declared.site.Row.{Row}
 use Rattle.grammar.specs.declared.record.Number.{Number}
 use Rattle.grammar.proofs.Arrays.{numbers-length, each-digits-length}
-use Rattle.rules.specs.Matching.{same, is_number, number_among}
+use Rattle.rules.specs.Matching.{is_number, number_among}
 use Rattle.rules.proofs.Search.{passed, found, some_end, agrees, differs, same_end}
 use Rattle.rules.proofs.matching.number_among.Goals.{then-e-length+else-j-places+then-e-j, else-e-length, At-entries, In-entries, Joined-e-length, Start}
 use Rattle.rules.proofs.matching.number_among.Goals as goal
@@ -69,31 +66,31 @@ loop-j-preserved c =
 
 -- the entry at i is another number: its length differs, or a digit of it
 other : (c : Joined-e-length)
-    → 
+    →
     let a = c.args in
     (c.if-e-length.found ≡ false) × (is_number a.length.0 a.digits (entry (goal.at.Joined-e-length c).At-entries) ≡ false)
 unfolding entry is_number
 other c = elim c.if-e-length.branch [
   | then-e-length+else-j-places+then-e-j w ↦
-    let more : w.loop-j.j < c.least-places.result = omega arith in (
-      w.found-is ∙ w.loop-j.invariant.1.0,
-      sym (differs (entry (goal.at.Joined-e-length c).At-entries).digits _ more
-        (omega (arith, there (goal.at.Joined-e-length c).In-entries)) (omega (arith, there (goal.at.Joined-e-length c).In-entries))
-        (ne_eqb _ _ w.if-e-j.true) w.loop-j.invariant.1.1),
-    )
+      let more : w.loop-j.j < c.least-places.result = omega arith in (
+        w.found-is ∙ w.loop-j.invariant.1.0,
+        sym (differs (entry (goal.at.Joined-e-length c).At-entries).digits _ more
+            (omega (arith, there (goal.at.Joined-e-length c).In-entries)) (omega (arith, there (goal.at.Joined-e-length c).In-entries))
+            (ne_eqb _ _ w.if-e-j.true) w.loop-j.invariant.1.1),
+      )
   | else-e-length w ↦ (w.found-is ∙ c.entries.invariant.1.0, rw (ne_eqb _ _ w.if-e-length.false))
 ]
 
 pub entries-preserved : goal.entries-preserved
 unfolding entry
 entries-preserved c = (
-      omega arith,
-      (
-        (other c).0,
-        passed (is_number c.args.length.0 c.args.digits) c.args.list.entries blank c.entries-test.true
-            (omega (arith, long (goal.at.entries-preserved c).Start)) (other c).1 c.entries.invariant.1.1,
-      ),
-    )
+  omega arith,
+  (
+    (other c).0,
+    passed (is_number c.args.length.0 c.args.digits) c.args.list.entries blank c.entries-test.true
+        (omega (arith, long (goal.at.entries-preserved c).Start)) (other c).1 c.entries.invariant.1.1,
+  ),
+)
 
 pub returns-after-entries : goal.returns-after-entries
 returns-after-entries c =

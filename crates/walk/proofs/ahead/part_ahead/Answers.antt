@@ -1,5 +1,5 @@
 -- Three lists, one after the other, or no part; that all three are empty is read off one window. Assumes nothing.
-use mathlib.Core.Path.{refl, ap, sym, ◌∙◌}
+use mathlib.Core.Path.{◌≡◌, refl, ap, sym, ◌∙◌}
 use mathlib.Core.List.{List}
 use Prim.Native.Nat.{ℕ, ◌/◌, ◌^◌, ◌≤◌}
 use native.Mathlib.Omega.{arith}
@@ -26,24 +26,28 @@ module _ {s : List ℕ} {at m end : ℕ} (few : m ≤ 69661) where
 
 pub returns-then-codes-eq0 : goal.returns-then-codes-eq0
 returns-then-codes-eq0 c =
-    rw c.if-part-eq1.true (identity-part (omega arith)
+    let e : c.args.part ≡ 1 = c.if-part-eq1.true in
+    rw e (identity-part (omega arith)
     (none-of-three (ap (λ (w : ℕ). w / 2 ^ 45) (sym c.window.ensures) ∙ c.if-codes-eq0.true)
     (λ h. no-identities refl h (omega arith)) (λ h. no-identities refl h (omega arith)) (λ h. no-identities refl h (omega arith))))
 
 pub returns-then-part-eq1 : goal.returns-then-part-eq1
 returns-then-part-eq1 c =
-    rw c.if-part-eq1.true (identity-part (omega arith)
+    let e : c.args.part ≡ 1 = c.if-part-eq1.true in
+    rw e (identity-part (omega arith)
     (ends-then (ends-then c.list_ahead.ensures c.list_ahead-then-part-eq1.ensures) c.list_ahead-then-part-eq1-2.ensures))
 
 pub returns-then-codes-eq0-2 : goal.returns-then-codes-eq0-2
 returns-then-codes-eq0-2 c =
-    rw c.if-part-eq2.true (number-part (omega arith)
+    let e : c.args.part ≡ 2 = c.if-part-eq2.true in
+    rw e (number-part (omega arith)
     (none-of-three (ap (λ (w : ℕ). w / 2 ^ 45) (sym c.window.ensures) ∙ c.if-codes-eq0-2.true)
     (λ h. no-identities refl h (omega arith)) (λ h. no-numbers refl h (omega arith)) (λ h. no-numbers refl h (omega arith))))
 
 pub returns-then-part-eq2 : goal.returns-then-part-eq2
 returns-then-part-eq2 c =
-    rw c.if-part-eq2.true (number-part (omega arith)
+    let e : c.args.part ≡ 2 = c.if-part-eq2.true in
+    rw e (number-part (omega arith)
     (ends-then (ends-then c.list_ahead-then-part-eq2.ensures c.externals_ahead.ensures) c.externals_ahead-then-part-eq2.ensures))
 
 pub returns : goal.returns

@@ -1,5 +1,6 @@
 -- None, or a range type and the users that it says. Assumes nothing.
-use mathlib.Core.Path.{refl, sym, ap, ◌∙◌}
+use mathlib.Core.Bool.{false}
+use mathlib.Core.Path.{◌≡◌, refl, sym, ap, ◌∙◌}
 use Prim.Native.Nat.{ℕ, ◌/◌, ◌%◌, ◌^◌}
 use native.Mathlib.Omega.{arith}
 use Rattle.grammar.specs.SiteSheet.{range_type, range_refusal}
@@ -13,11 +14,13 @@ use Rattle.walk.proofs.Sights.{legal-code, singles_end, list-ends}
 use Rattle.walk.proofs.ahead.users_ahead.Goals as goal
 
 pub returns-then-not-users : goal.returns-then-not-users
-returns-then-not-users c = rw c.if-not-users.true (record {
-  after = omega arith;
-  near = omega arith;
-  there = λ n few i. pass-nothing no_identities zero_identities _ (no_identities-at _) _;
-})
+returns-then-not-users c =
+    let e : c.args.users ≡ false = c.if-not-users.true in
+    rw e (record {
+      after = omega arith;
+      near = omega arith;
+      there = λ n few i. pass-nothing no_identities zero_identities _ (no_identities-at _) _;
+    })
 
 pub returns-then-code-eq1 : goal.returns-then-code-eq1
 unfolding range_type range_refusal

@@ -30,7 +30,8 @@ pub returns-then-present-eq1 : goal.returns-then-present-eq1
 unfolding element_of extension
 returns-then-present-eq1 c =
     let ext = c.number-extension.result in
-    after-present (goal.at.returns-then-present-eq1 c).After-number-present ∙ rw c.if-present-eq1.true (go_on _ _ ext.reached ext.value _ (number_read _ c.number-extension.ensures)
+    let e : c.number-present.result.value ≡ 1 = c.if-present-eq1.true in
+    after-present (goal.at.returns-then-present-eq1 c).After-number-present ∙ rw e (go_on _ _ ext.reached ext.value _ (number_read _ c.number-extension.ensures)
     ∙ resume-got ext.reached _)
 
 pub returns : goal.returns

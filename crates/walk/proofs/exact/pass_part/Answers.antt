@@ -1,5 +1,5 @@
 -- Three lists, one after the other, or none. Assumes nothing.
-use mathlib.Core.Path.{sym, ap, ◌∙◌}
+use mathlib.Core.Path.{◌≡◌, sym, ap, ◌∙◌}
 use borrow.Author.Tests.{ne_eqb}
 use Rattle.grammar.specs.Grammar.{identities, externals, identity_part, number_part, no_part}
 use Rattle.grammar.specs.Zero.{zero_lists}
@@ -11,7 +11,8 @@ use Rattle.walk.proofs.exact.pass_part.Goals as goal
 
 pub returns-then-part-eq1 : goal.returns-then-part-eq1
 returns-then-part-eq1 c =
-    rw c.if-part-eq1.true
+    let e : c.args.part ≡ 1 = c.if-part-eq1.true in
+    rw e
     (c.pass_identities.ensures
     ∙ ap (pass _ _) (c.pass_identities-restricted.ensures ∙ ap (pass _ _) c.pass_identities-groups.ensures)
     ∙ sym (pass-three identity_part (identities of.Identities) (identities of.Identities) (identities of.Identities) identity_lists _ _
@@ -19,7 +20,8 @@ returns-then-part-eq1 c =
 
 pub returns-then-part-eq2 : goal.returns-then-part-eq2
 returns-then-part-eq2 c =
-    rw c.if-part-eq2.true
+    let e : c.args.part ≡ 2 = c.if-part-eq2.true in
+    rw e
     (c.pass_externals.ensures
     ∙ ap (pass _ _) (c.pass_externals-numbers.ensures ∙ ap (pass _ _) c.pass_identities-groups-then-part-eq2.ensures)
     ∙ sym (pass-three number_part (identities of.Identities) externals externals number_lists _ _ (number_part-at _)))

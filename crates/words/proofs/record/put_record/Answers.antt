@@ -6,7 +6,7 @@ use Rattle.words.proofs.record.put_record.Goals as goal
 
 pub returns-then-words-eq-RECORD_WORDS : goal.returns-then-words-eq-RECORD_WORDS
 unfolding put_record
-returns-then-words-eq-RECORD_WORDS c =  rw (eq-eqb _ _ c.if-words-eq-RECORD_WORDS.true) c.put_fields.ensures
+returns-then-words-eq-RECORD_WORDS c =  rw (eq-eqb _ 520 c.if-words-eq-RECORD_WORDS.true) c.put_fields.ensures
 
 pub returns-else-words-eq-RECORD_WORDS : goal.returns-else-words-eq-RECORD_WORDS
 unfolding put_record

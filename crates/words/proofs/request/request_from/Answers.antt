@@ -1,5 +1,4 @@
 -- As many words as a request has, which are one's, or none. Assumes nothing.
-use borrow.Author.Rules.{rules}
 use borrow.Author.Tests.{eq-eqb, ne_eqb}
 use Rattle.bits.proofs.Tests.{said-no, said-yes}
 use Rattle.words.specs.RequestWords.{given_request}
@@ -7,7 +6,7 @@ use Rattle.words.proofs.request.request_from.Goals as goal
 
 pub returns-then-words-ne-REQUEST_WORDS : goal.returns-then-words-ne-REQUEST_WORDS
 unfolding given_request
-returns-then-words-ne-REQUEST_WORDS c = rw (ne_eqb _ _ c.if-words-ne-REQUEST_WORDS.true) c.no_request.ensures
+returns-then-words-ne-REQUEST_WORDS c = rw (ne_eqb _ 34 c.if-words-ne-REQUEST_WORDS.true) c.no_request.ensures
 
 pub returns-then-not-are_request : goal.returns-then-not-are_request
 unfolding given_request
