@@ -1,11 +1,13 @@
 /*
  * boc.h: barring of outgoing calls (BOC), EN 300 392-12-18. Reads and writes the nine BOC PDUs, keeps INTERROGATE ACKs
- * in an archive, restores them, reloads them as DEFINEs or DEFINE EXTERNALs, and decides calls from them.
+ * in an archive, restores them, reloads them as DEFINEs or DEFINE EXTERNALs, and decides calls from them. Keeps a
+ * terminal's table of service profiles by +CTSP lines (EN 300 392-5).
  * Link libboc.a or libboc.so (-lboc). docs/USING.md shows how.
  *
- * Every function returns 0, or the number of a refusal (enum boc_refusal). What it answers besides, a length, a day or
- * a decision, goes through `length`, `bits`, `day` or `decision`. A refused call changes no byte of any buffer and
- * leaves what is behind these pointers as it was; an accepted one leaves the bytes after what it wrote.
+ * Every call returns 0, or the number of a refusal (enum boc_refusal); the inline functions, which give words and
+ * places, refuse nothing. What a call answers besides, a length, a day or a decision, goes through `length`, `bits`,
+ * `day` or `decision`. A refused call changes no byte of any buffer and leaves what is behind these pointers as it was;
+ * an accepted one leaves the bytes after what it wrote.
  *
  * Where it stopped. `place` is the place of a bit in a PDU and `entry` the index of an entry in an archive, both from
  * 0. A refused call writes those of the two that it has, BOC_NOWHERE where the refusal brings none; an accepted one
@@ -39,8 +41,7 @@
  *
  * Archive. An archive is exactly the bytes that were written: lend the first N bytes of the buffer, where N is the
  * length that boc_empty or boc_capture gave. One byte more or less is no archive and gives BOC_ARCHIVE.
- * It has no checksum: a changed bit that leaves a legal PDU of the same user, or changes its day, passes every check.
- * Keep a hash beside the file, and look at it before use.
+ * It has no checksum: keep a hash beside the file, and look at it before use (docs/USING.md).
  *
  * Day. A PDU is captured under a day, a number of at most 65,535 that tells how old it is, and is restored and listed
  * with it. Nothing else depends on it. What it counts from is the caller's business; days since 1970-01-01, which reach
@@ -53,7 +54,7 @@
 #include <stdint.h>
 
 /* The release that this header is of. */
-#define BOC_VERSION "1.0.0"
+#define BOC_VERSION "1.1.0"
 
 /* Has a compiler that can do so warn where the answer of a call is not looked at. */
 #ifdef __GNUC__
@@ -66,7 +67,7 @@
 extern "C" {
 #endif
 
-/* Why a call was refused. There is no 10. */
+/* Why a call was refused. There is no 10, 13 or 14. */
 enum boc_refusal {
     BOC_OK = 0,        /* not refused */
     BOC_FRAME = 1,     /* over 4,096 bits, wrong byte count, or a nonzero unused bit */
@@ -77,22 +78,17 @@ enum boc_refusal {
     BOC_UNFIT = 6,     /* a legal PDU that no archive entry may hold */
     BOC_ARCHIVE = 7,   /* the archive breaks a rule */
     BOC_ROOM = 8,      /* a new key with 512 held, or the result exceeds 65,536 bytes or the lent buffer */
-    BOC_RANGE = 9,     /* a request, user, part, definition, home network, day or count of words out of its range */
+    BOC_RANGE = 9,     /* a request, user, part, definition, home network, day, table or word count out of its range */
     BOC_NOT_HELD = 11, /* restore, reload: not held; entry: none has this index */
-    BOC_LOSS = 12      /* reload: a held list that is not empty has no place in the PDU */
+    BOC_LOSS = 12,     /* reload: a held list that is not empty has no place in the PDU */
+    BOC_SYNTAX = 15,   /* a terminal's line that is none */
+    BOC_FIELD = 16,    /* a terminal's line: a field's value is not one of its values */
+    BOC_SURPLUS = 17   /* a terminal's line: a third field that its layer does not take, or a fourth */
 };
 
 /*
- * Which of its reasons a number has.
- * - BOC_UNFIT: boc_read the PDU. Its PDU type is not BOC_INTERROGATE_ACK; or its result says that the switch provides
- *   nothing, and why (enum boc_result); or its affected range type is not 1, for several users or a range of them.
- * - BOC_ARCHIVE with an entry: the body of that entry is at fault. With a place, boc_read of it stops there; without,
- *   its bit length is over 4,096, an unused bit is not zero, or it is a legal PDU that this entry may not hold.
- * - BOC_ARCHIVE without an entry: header, contents or length are wrong. Look first at the length that was lent.
- * - BOC_ROOM: with buffers of the lengths below only boc_capture gives it, to an archive that is full: of entries if it
- *   has 512 and none for this user and part, otherwise of bytes.
- * - BOC_RANGE: first a count of words that is not BOC_RECORD_WORDS, BOC_REQUEST_WORDS or BOC_KEY_WORDS, then the
- *   arguments that the call names; in a request most often a word that is not used and not zero.
+ * Several reasons. BOC_UNFIT, BOC_ARCHIVE, BOC_ROOM and BOC_RANGE have more than one each: docs/USING.md says how to
+ * tell them apart.
  */
 
 /* The words of enum boc_refusal for what a call returned. */
@@ -108,9 +104,12 @@ static inline const char *boc_refusal_text(uint32_t number)
     case BOC_UNFIT: return "a legal PDU that no archive entry may hold";
     case BOC_ARCHIVE: return "the archive breaks a rule";
     case BOC_ROOM: return "a new key with 512 held, or the result exceeds 65,536 bytes or the lent buffer";
-    case BOC_RANGE: return "a request, user, part, definition, home network, day or count of words out of its range";
+    case BOC_RANGE: return "a request, user, part, definition, home network, day, table or word count out of its range";
     case BOC_NOT_HELD: return "restore, reload: not held; entry: none has this index";
     case BOC_LOSS: return "reload: a held list that is not empty has no place in the PDU";
+    case BOC_SYNTAX: return "a terminal's line that is none";
+    case BOC_FIELD: return "a terminal's line: a field's value is not one of its values";
+    case BOC_SURPLUS: return "a terminal's line: a third field that its layer does not take, or a fourth";
     }
     return "no refusal has this number";
 }
@@ -128,7 +127,9 @@ enum boc_limits {
     BOC_DAY_LIMIT = 65536,        /* days are below this */
     BOC_LIST_PLACES = 8,          /* entries of a list */
     BOC_DIGIT_PLACES = 24,        /* digits of an external number */
-    BOC_SERVICE_PLACES = 7        /* services of a record */
+    BOC_SERVICE_PLACES = 7,       /* services of a record */
+    BOC_TABLE_BYTES = 269,        /* the table of a terminal */
+    BOC_TABLE_TEXT_BYTES = 2300   /* no text of a table is longer */
 };
 
 /* ---- Records: a PDU as 520 words ---------------------------------------------------------------------------------
@@ -330,6 +331,28 @@ static inline const char *boc_decision_text(uint32_t number)
     return "no decision has this number";
 }
 
+/* ---- Tables: a terminal's profiles as 269 bytes -------------------------------------------------------------------
+ *
+ * A terminal on the serial port (EN 300 392-5, clause 6.14.4) says by +CTSP lines which services it wants to hear of. A
+ * table has a profile for each place: service layer 1, with layer 2, or with the PID where layer 1 is SDS-TL. Packet
+ * Data has neither, and one place.
+ */
+enum boc_profile {
+    BOC_PROFILE_MT = 0, /* MT only */
+    BOC_PROFILE_TE = 1, /* TE only */
+    BOC_PROFILE_BOTH = 2, /* the default */
+    BOC_PROFILE_NEITHER = 3
+};
+
+/* The byte of a table at which the places of a layer 1 begin. */
+enum boc_table_byte {
+    BOC_TABLE_CC = 0,           /* layer 1 is 0, layer 2 is 0 (voice) and 1 (data) */
+    BOC_TABLE_MM = 2,           /* 1, and 10 (registration) to 14 (energy saving) */
+    BOC_TABLE_SDS = 7,          /* 2, and 20 (status) to 24 (SDS type 4) */
+    BOC_TABLE_SDS_TL = 12,      /* 3, and the PIDs 0 to 255 */
+    BOC_TABLE_PACKET_DATA = 268 /* 4, without a third field */
+};
+
 /* ---- Calls ------------------------------------------------------------------------------------------------------- */
 
 /*
@@ -363,7 +386,8 @@ uint32_t boc_empty(uint32_t home, uint8_t *out, size_t out_len, size_t *length);
  * `out` is a second buffer: it may not be the one that `archive` stands in.
  * Refuses, in this order: BOC_RANGE for a day of 65,536 or more; BOC_ARCHIVE; what boc_read refuses of the PDU,
  * BOC_FRAME to BOC_LEFT; BOC_UNFIT unless it is an INTERROGATE ACK with range type 1 for affected users and with
- * identities or numbers as its result; BOC_ROOM. Where the PDU is refused, `place` is one in it, and there is no entry.
+ * identities or numbers as its result; BOC_ROOM. Where the PDU is refused, there is no entry, and `place` is one in it
+ * unless by BOC_FRAME, which has none.
  */
 BOC_CHECKED
 uint32_t boc_capture(const uint8_t *archive, size_t archive_len, const uint8_t *pdu, size_t pdu_len, size_t bits,
@@ -441,6 +465,28 @@ uint32_t boc_decide_in_place(const uint8_t *archive, size_t archive_len, const u
 BOC_CHECKED
 uint32_t boc_contents(const uint8_t *archive, size_t archive_len, uint8_t *out, size_t out_len, size_t *length,
                       size_t *entry, size_t *place);
+
+/*
+ * Sets every place of a terminal's table to BOC_PROFILE_BOTH, whatever its bytes were.
+ * Refuses BOC_RANGE if table_len is not 269.
+ */
+BOC_CHECKED
+uint32_t boc_terminal_reset(uint8_t *table, size_t table_len);
+
+/*
+ * Takes a line that a terminal sent, with its CR and nothing after it. Fields are 1 to 3 decimal digits.
+ * `AT+CTSP=PROFILE,LAYER1` and `AT+CTSP=PROFILE,LAYER1,THIRD` set the places of a layer, or the one of a layer 2 or
+ * PID, and write 0 to `length`. `AT+CTSP?` writes the places that are not BOC_PROFILE_BOTH to the front of `out`,
+ * rising, as `PROFILE,LAYER1` or `PROFILE,LAYER1,THIRD` and CR LF, the first behind `+CTSP: `, with no zero byte at the
+ * end, and the text's length in bytes, 0 if there is none, to `length`. A set line for each line of the text, after
+ * boc_terminal_reset, puts the table back.
+ * Refuses, in this order: BOC_RANGE if table_len is not 269 or a byte of the table is over 3; BOC_SYNTAX for any other
+ * bytes, but for a line with a fourth field; BOC_FIELD for a profile over 3, a layer 1 over 4, or a third field that is
+ * no value of its layer 1; BOC_SURPLUS for a third field of Packet Data, or any fourth; BOC_ROOM.
+ */
+BOC_CHECKED
+uint32_t boc_terminal_line(const uint8_t *line, size_t line_len, uint8_t *table, size_t table_len, uint8_t *out,
+                           size_t out_len, size_t *length);
 
 #ifdef __cplusplus
 }

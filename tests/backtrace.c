@@ -22,6 +22,10 @@ static size_t archive_len, number, entry, place;
 static uint32_t record[BOC_RECORD_WORDS], decision, day;
 static const uint32_t request[BOC_REQUEST_WORDS] = {1, USER, BOC_SERVICE_SPEECH, BOC_TO_IDENTITY};
 
+/* A terminal's question, and a table to be written whole, of MT only. */
+static const uint8_t ask[] = {'A', 'T', '+', 'C', 'T', 'S', 'P', '?', '\r'};
+static uint8_t table[BOC_TABLE_BYTES];
+
 /* Memory that may not be touched. */
 static void *closed;
 enum { CLOSED_BYTES = 1 << 16 };
@@ -75,6 +79,16 @@ static uint32_t lists_to(void)
     return boc_contents(archive, archive_len, closed, CLOSED_BYTES, &number, &entry, &place);
 }
 
+static uint32_t resets(void) { return boc_terminal_reset(closed, BOC_TABLE_BYTES); }
+static uint32_t takes_line(void)
+{
+    return boc_terminal_line(ask, sizeof ask, closed, BOC_TABLE_BYTES, out, sizeof out, &number);
+}
+static uint32_t tells_table_to(void)
+{
+    return boc_terminal_line(ask, sizeof ask, table, sizeof table, closed, CLOSED_BYTES, &number);
+}
+
 static const struct {
     const char *name;
     uint32_t (*call)(void);
@@ -84,7 +98,8 @@ static const struct {
     {"boc_capture, buffer", captures_to}, {"boc_entry, archive", gives_entry}, {"boc_entry, key", gives_entry_to},
     {"boc_restore", restores_to}, {"boc_reload", reloads_to},
     {"boc_reload_external", reloads_external}, {"boc_decide", decides}, {"boc_contents", lists_to},
-    {"boc_decide_in_place", decides_in_place},
+    {"boc_decide_in_place", decides_in_place}, {"boc_terminal_reset", resets},
+    {"boc_terminal_line, table", takes_line}, {"boc_terminal_line, buffer", tells_table_to},
 };
 
 static sigjmp_buf fault;

@@ -2,7 +2,8 @@
  * The most stack that each call uses: runs it on a painted stack of its own and looks how far down the paint is gone.
  * Each call is tried on its largest inputs, with every number as large as it may be: the longest PDUs of every kind,
  * for one user and for eight; archives of 512 entries and of 65,536 bytes, asked about their last entry. It is tried
- * accepted, and refused as late as it can be: at the last element, for the last byte of room, for the last entry.
+ * accepted, and refused as late as it can be: at the last element, for the last byte of room, for the last entry. A
+ * terminal's lines are tried at their longest, on a table of which every place is written.
  * Prints a Markdown table; ends with status 1 if an answer is not the one that is expected, or a call uses more than
  * its limit: 5 KiB for boc_decide, which unpacks a record, 6 KiB for either reload, which makes a second one of it, and
  * 1 KiB for every other call. With a word behind its name it makes the same calls on the stack that it has and measures
@@ -15,7 +16,7 @@
 
 #include "boc.h"
 
-enum { STACK_BYTES = 1 << 20, SMALL = 1024, ONE_RECORD = 5 * 1024, TWO_RECORDS = 6 * 1024, PAINT = 0xa5 };
+enum { STACK_BYTES = 1 << 17, SMALL = 1024, ONE_RECORD = 5 * 1024, TWO_RECORDS = 6 * 1024, PAINT = 0xa5 };
 
 /* The largest network and SSI, of which each has eight digits in a listing; and the digit of every number. */
 enum { TOP = BOC_NETWORK_LIMIT - 1, DIGIT = 2 };
@@ -26,6 +27,10 @@ static uint32_t day = BOC_DAY_LIMIT - 1, found_day;
 static uint32_t key[BOC_KEY_WORDS];
 static uint8_t pdu[BOC_PDU_BYTES + 1], archive[BOC_ARCHIVE_BYTES + 1], out[BOC_ARCHIVE_BYTES];
 static size_t bits, archive_len, entry, key_words = BOC_KEY_WORDS, room = sizeof out, number, at_entry, at_place;
+
+static uint8_t table[BOC_TABLE_BYTES];
+static size_t table_len = sizeof table;
+static const char *line;
 
 static size_t bytes_for(size_t count) { return (count + 7) / 8; }
 
@@ -70,9 +75,15 @@ static uint32_t decides_in_place(void)
     return boc_decide_in_place(archive, archive_len, request, BOC_REQUEST_WORDS, &decision, &at_entry, &at_place);
 }
 static uint32_t lists(void) { return boc_contents(archive, archive_len, out, room, &number, &at_entry, &at_place); }
+static uint32_t resets(void) { return boc_terminal_reset(table, table_len); }
+static uint32_t takes_line(void)
+{
+    return boc_terminal_line((const uint8_t *)line, strlen(line), table, table_len, out, room, &number);
+}
 
 enum call {
-    READ, WRITE, EMPTY, CAPTURE, ENTRY, RESTORE, RELOAD, RELOAD_EXTERNAL, DECIDE, DECIDE_IN_PLACE, CONTENTS, CALLS
+    READ, WRITE, EMPTY, CAPTURE, ENTRY, RESTORE, RELOAD, RELOAD_EXTERNAL, DECIDE, DECIDE_IN_PLACE, CONTENTS,
+    TERMINAL_RESET, TERMINAL_LINE, CALLS
 };
 static struct {
     const char *name;
@@ -90,6 +101,8 @@ static struct {
     {"boc_decide", decides, ONE_RECORD, 0},
     {"boc_decide_in_place", decides_in_place, SMALL, 0},
     {"boc_contents", lists, SMALL, 0},
+    {"boc_terminal_reset", resets, SMALL, 0},
+    {"boc_terminal_line", takes_line, SMALL, 0},
 };
 
 static _Alignas(16) unsigned char stack[STACK_BYTES];
@@ -561,6 +574,33 @@ static void use_each_way(const struct kind *kind)
     }
 }
 
+/* A line's answer. */
+static void take(const char *text, uint32_t expected)
+{
+    line = text;
+    expect(TERMINAL_LINE, expected);
+}
+
+/* A terminal's table, of which every place is off the default, and the longest lines. */
+static void use_terminal(void)
+{
+    table_len--;
+    expect(TERMINAL_RESET, BOC_RANGE);
+    take("AT+CTSP?\r", BOC_RANGE);
+    table_len++;
+    expect(TERMINAL_RESET, BOC_OK);
+    take("AT+CTSP=003,003,255\r", BOC_OK);
+    take("AT+CTSP=003,003,255,999\n", BOC_SYNTAX);
+    take("AT+CTSP=003,003,256,999\r", BOC_FIELD);
+    take("AT+CTSP=003,003,255,999\r", BOC_SURPLUS);
+    memset(table, BOC_PROFILE_NEITHER, sizeof table);
+    take("AT+CTSP?\r", BOC_OK);
+    same("the longest text", number, BOC_TABLE_TEXT_BYTES);
+    room = BOC_TABLE_TEXT_BYTES - 1;
+    take("AT+CTSP?\r", BOC_ROOM);
+    room = sizeof out;
+}
+
 int main(int argc, char **argv)
 {
     const struct kind *kind;
@@ -589,6 +629,8 @@ int main(int argc, char **argv)
         encode();
         use_each_way(kind);
     }
+
+    use_terminal();
 
     if (unmeasured)
         return failed;

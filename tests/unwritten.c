@@ -1,9 +1,9 @@
 /*
  * For valgrind: every buffer and number that a call writes comes from malloc, as long as it has to be, and nothing was
  * written to it; everything that comes back is compared. Writes and reads records of every PDU with few and with many
- * entries, captures the parts among them, finds them by their index, restores, reloads and lists them, and decides
- * calls. Ends with status 1 if something differs; valgrind tells of a bit that was never written, and of a byte
- * outside.
+ * entries, captures the parts among them, finds them by their index, restores, reloads and lists them, decides calls,
+ * and sets and reads a terminal's table. Ends with status 1 if something differs; valgrind tells of a bit that was
+ * never written, and of a byte outside.
  */
 #include <stdio.h>
 #include <stdlib.h>
@@ -187,7 +187,8 @@ static void restore_and_compare(uint32_t ssi, uint32_t part, const uint8_t *pdu,
     expect("boc_restore",
            boc_restore(archive, archive_len, HOME, ssi, part, out, bytes_for(bits), &behind->number, &behind->day,
                        &behind->entry, &behind->place) == BOC_OK);
-    expect("the same bits and day", behind->number == bits && behind->day == DAY && memcmp(out, pdu, bytes_for(bits)) == 0);
+    expect("the same bits and day",
+           behind->number == bits && behind->day == DAY && memcmp(out, pdu, bytes_for(bits)) == 0);
     free(out);
     free(behind);
 }
@@ -264,6 +265,28 @@ static void list(size_t entries)
     free(behind);
 }
 
+static void use_terminal(void)
+{
+    uint8_t *table = fresh(BOC_TABLE_BYTES), *text = fresh(BOC_TABLE_TEXT_BYTES);
+    size_t *length = fresh(sizeof *length), i;
+    char line[32];
+
+    expect("boc_terminal_reset", boc_terminal_reset(table, BOC_TABLE_BYTES) == BOC_OK);
+    for (i = 0; i < 256; i++) {
+        snprintf(line, sizeof line, "AT+CTSP=%zu,3,%zu\r", i % 4, i);
+        expect("a set line", boc_terminal_line((uint8_t *)line, strlen(line), table, BOC_TABLE_BYTES, text, 0,
+                                               length) == BOC_OK && *length == 0);
+        expect("a PID", table[BOC_TABLE_SDS_TL + i] == i % 4);
+    }
+    strcpy(line, "AT+CTSP?\r");
+    expect("the read form", boc_terminal_line((uint8_t *)line, strlen(line), table, BOC_TABLE_BYTES, text,
+                                              BOC_TABLE_TEXT_BYTES, length) == BOC_OK);
+    expect("its last line", *length > 9 && memcmp(text + *length - 9, "3,3,255\r\n", 9) == 0);
+    free(table);
+    free(text);
+    free(length);
+}
+
 int main(void)
 {
     uint32_t *record = fresh(BOC_RECORD_WORDS * sizeof *record), count;
@@ -288,6 +311,7 @@ int main(void)
         }
     }
     list(entries);
+    use_terminal();
     free(archive);
     free(record);
     return 0;

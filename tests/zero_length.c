@@ -20,6 +20,8 @@ static const size_t number_bits = 63;
 /* A CALL BARRED, which has neither users nor services nor lists. */
 static const uint8_t call_barred[] = {0x49, 0xb0};
 static const size_t call_barred_bits = 13;
+/* A terminal's question, without a zero byte at its end. */
+static const uint8_t ask[] = {'A', 'T', '+', 'C', 'T', 'S', 'P', '?', '\r'};
 
 static int failed;
 
@@ -36,7 +38,7 @@ static void lend(void *none)
 {
     uint32_t record[BOC_RECORD_WORDS], barred[BOC_RECORD_WORDS];
     uint32_t request[BOC_REQUEST_WORDS] = {HOME, USER, BOC_SERVICE_SPEECH, BOC_TO_IDENTITY};
-    uint8_t empty[ROOM], archive[ROOM], both[ROOM], out[ROOM];
+    uint8_t empty[ROOM], archive[ROOM], both[ROOM], out[ROOM], table[BOC_TABLE_BYTES];
     uint32_t decision, day, key[BOC_KEY_WORDS];
     size_t empty_len, archive_len, both_len, n, entry, place;
 
@@ -118,6 +120,18 @@ static void lend(void *none)
 
     expect("boc_contents, no archive", boc_contents(none, 0, out, sizeof out, &n, &entry, &place), BOC_ARCHIVE);
     expect("boc_contents, no buffer", boc_contents(archive, archive_len, none, 0, &n, &entry, &place), BOC_ROOM);
+
+    expect("boc_terminal_reset, no table", boc_terminal_reset(none, 0), BOC_RANGE);
+    expect("boc_terminal_reset", boc_terminal_reset(table, sizeof table), BOC_OK);
+    expect("boc_terminal_line, no line",
+           boc_terminal_line(none, 0, table, sizeof table, out, sizeof out, &n), BOC_SYNTAX);
+    expect("boc_terminal_line, no table",
+           boc_terminal_line(ask, sizeof ask, none, 0, out, sizeof out, &n), BOC_RANGE);
+    expect("boc_terminal_line, no text",
+           boc_terminal_line(ask, sizeof ask, table, sizeof table, none, 0, &n), BOC_OK);
+    table[0] = BOC_PROFILE_MT;
+    expect("boc_terminal_line, no buffer",
+           boc_terminal_line(ask, sizeof ask, table, sizeof table, none, 0, &n), BOC_ROOM);
 }
 
 int main(void)

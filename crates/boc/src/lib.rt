@@ -1,9 +1,9 @@
-// The public calls for C: each returns 0 or the refusal number; what it answers besides goes through a pointer to one number, which a refusal
-// leaves alone. A refusal of reading, or of an archive's call, says where it stopped through pointers of their own, which a success leaves alone.
-// A slice of words of another length than it should have gives 9, before anything else.
+// The calls for C, which boc_c exports: each returns 0 or the refusal number; what it answers besides goes through a pointer to one number, which a
+// refusal leaves alone. A refusal of reading, or of an archive's call, says where it stopped through pointers of their own, which a success leaves
+// alone. A slice of words of another length than it should have gives 9, before anything else.
 #![tactic(auto)]
 
-mod serial;
+pub mod serial;
 
 ghost use Rattle.std.specs.Prelude.{◌≡◌, length};
 ghost use Rattle.reader.specs.Words.{read_words};
@@ -194,8 +194,7 @@ fn no_request() -> Decision
 }
 
 // Reads the PDU of `bits` bits in `pdu`; its record goes to `record`.
-#[unsafe(no_mangle)]
-pub extern "C" fn boc_read(pdu: &[u8], bits: usize, record: &mut [u32], place: &mut usize) -> u32
+pub fn boc_read(pdu: &[u8], bits: usize, record: &mut [u32], place: &mut usize) -> u32
     ensures value { result ≡ read_number pdu.now bits (length «record».old) }
     ensures record_after { «record».new ≡ read_words pdu.now bits «record».old }
     ensures place_after { place.new ≡ read_place pdu.now bits (length «record».old) place.old }
@@ -211,8 +210,7 @@ pub extern "C" fn boc_read(pdu: &[u8], bits: usize, record: &mut [u32], place: &
 }
 
 // Writes a record as a PDU; its length in bits goes to `bits`.
-#[unsafe(no_mangle)]
-pub extern "C" fn boc_write(record: &[u32], out: &mut [u8], bits: &mut usize) -> u32
+pub fn boc_write(record: &[u32], out: &mut [u8], bits: &mut usize) -> u32
     ensures value { result ≡ write_number «record».now out.old }
     ensures out_after { out.new ≡ write_out «record».now out.old }
     ensures bits_after { bits.new ≡ write_bits «record».now out.old bits.old }
@@ -227,8 +225,7 @@ pub extern "C" fn boc_write(record: &[u32], out: &mut [u8], bits: &mut usize) ->
 }
 
 // Writes the empty archive of a home network; its length in bytes goes to `length`.
-#[unsafe(no_mangle)]
-pub extern "C" fn boc_empty(home: u32, out: &mut [u8], length: &mut usize) -> u32
+pub fn boc_empty(home: u32, out: &mut [u8], length: &mut usize) -> u32
     ensures value { result ≡ empty_number home out.old }
     ensures out_after { out.new ≡ empty_out home out.old }
     ensures length_after { length.new ≡ empty_length home out.old length.old }
@@ -243,8 +240,7 @@ pub extern "C" fn boc_empty(home: u32, out: &mut [u8], length: &mut usize) -> u3
 }
 
 // Captures the PDU of `bits` bits in `pdu`, taken on `day`: writes the new archive; its length in bytes goes to `length`.
-#[unsafe(no_mangle)]
-pub extern "C" fn boc_capture(
+pub fn boc_capture(
     archive: &[u8],
     pdu: &[u8],
     bits: usize,
@@ -265,8 +261,7 @@ pub extern "C" fn boc_capture(
 }
 
 // The entry at an index: network, SSI and part go to `key`, the length in bits to `bits`, the day to `day`.
-#[unsafe(no_mangle)]
-pub extern "C" fn boc_entry(
+pub fn boc_entry(
     archive: &[u8],
     index: usize,
     key: &mut [u32],
@@ -292,8 +287,7 @@ pub extern "C" fn boc_entry(
 }
 
 // Restores the PDU held for a user and part; its length in bits goes to `bits`, its day to `day`.
-#[unsafe(no_mangle)]
-pub extern "C" fn boc_restore(
+pub fn boc_restore(
     archive: &[u8],
     network: u32,
     ssi: u32,
@@ -317,8 +311,7 @@ pub extern "C" fn boc_restore(
 }
 
 // Writes the DEFINE of the part held for a user; its length in bits goes to `bits`.
-#[unsafe(no_mangle)]
-pub extern "C" fn boc_reload(
+pub fn boc_reload(
     archive: &[u8],
     network: u32,
     ssi: u32,
@@ -348,8 +341,7 @@ pub extern "C" fn boc_reload(
 }
 
 // Writes the DEFINE EXTERNAL of the number part held for a user; its length in bits goes to `bits`.
-#[unsafe(no_mangle)]
-pub extern "C" fn boc_reload_external(
+pub fn boc_reload_external(
     archive: &[u8],
     network: u32,
     ssi: u32,
@@ -382,8 +374,7 @@ pub extern "C" fn boc_reload_external(
 }
 
 // Decides a request; the decision goes to `decision`: 0 to 2 barred with that cause, 3 allowed, 4 not held.
-#[unsafe(no_mangle)]
-pub extern "C" fn boc_decide(
+pub fn boc_decide(
     archive: &[u8],
     request: &[u32],
     decision: &mut u32,
@@ -404,8 +395,7 @@ pub extern "C" fn boc_decide(
 }
 
 // The same without unpacking: the second engine walks the part's bits in the archive.
-#[unsafe(no_mangle)]
-pub extern "C" fn boc_decide_in_place(
+pub fn boc_decide_in_place(
     archive: &[u8],
     request: &[u32],
     decision: &mut u32,
@@ -426,8 +416,7 @@ pub extern "C" fn boc_decide_in_place(
 }
 
 // Lists an archive as text; its length in bytes goes to `length`.
-#[unsafe(no_mangle)]
-pub extern "C" fn boc_contents(
+pub fn boc_contents(
     archive: &[u8],
     out: &mut [u8],
     length: &mut usize,

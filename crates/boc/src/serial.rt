@@ -7,8 +7,7 @@ ghost use Rattle.boc.specs.Serial.{line_answer, line_number, line_length};
 use terminals::Answer;
 
 // Sets every place of a table to the profile "both".
-#[unsafe(no_mangle)]
-pub extern "C" fn boc_terminal_reset(table: &mut [u8]) -> u32
+pub fn boc_terminal_reset(table: &mut [u8]) -> u32
     ensures value { result ≡ reset_is (length table.old) }
     ensures table_after { table.new ≡ reset_out table.old }
 {
@@ -16,8 +15,7 @@ pub extern "C" fn boc_terminal_reset(table: &mut [u8]) -> u32
 }
 
 // Takes a line: a set line changes the table, the read form writes to `out`; the text's length in bytes goes to `length`.
-#[unsafe(no_mangle)]
-pub extern "C" fn boc_terminal_line(
+pub fn boc_terminal_line(
     line: &[u8],
     table: &mut [u8],
     out: &mut [u8],

@@ -1,22 +1,26 @@
 // Prints what the archive on standard input holds, or `refused 7` where there is none, and tells on standard error which body is at fault, if that
 // is what is wrong: reads, has the library report, and writes that.
+#![tactic(auto)]
+
 ghost use Rattle.std.specs.Prelude.{◌≡◌, ◌≤◌, length};
 ghost use Rattle.bits.specs.Bits.{pick};
 
 use archive::listing;
+use std::io::{Read, Write};
 
-fn main() {
+// A write that fails changes nothing but what is printed.
+fn main(rt: HostRuntime) {
     // one byte more than an archive may have, so that longer input is refused
     let mut input = [0u8; 65537];
     // no report is longer: 26 bytes, and 45 for each of at most 512 entries
     let mut text = [0u8; 23066];
     // nothing told is longer: 12 bytes, and two numbers of at most 20 digits
     let mut fault = [0u8; 52];
-    let got = read_all(&mut input);
+    let got = read_all(&mut rt.stdin(), &mut input);
     let count = archive_length(got);
     let report = listing::report(&input[..count], &mut text, &mut fault);
-    io::write_all(1, &text[..report.printed]);
-    io::write_all(2, &fault[..report.told]);
+    let _ = rt.stdout().write_all(&text[..report.printed]);
+    let _ = rt.stderr().write_all(&fault[..report.told]);
 }
 
 // How many bytes reading brought, and whether it failed: if not, it ended, or the buffer is full.
@@ -37,12 +41,12 @@ fn archive_length(got: Got) -> usize
 }
 
 // Reads until the input ends, the buffer is full or a read fails.
-fn read_all(buffer: &mut [u8]) -> Got
+fn read_all<R: Read>(input: &mut R, buffer: &mut [u8]) -> Got
     ensures { result.count ≤ length buffer.new }
 {
     let mut done = 0;
     while done < buffer.len() {
-        let got = read_some(&mut buffer[done..]);
+        let got = read_some(input, &mut buffer[done..]);
         if got.failed {
             return Got {
                 count: done,
@@ -64,12 +68,17 @@ fn read_all(buffer: &mut [u8]) -> Got
 }
 
 // Reads once; no bytes come at the end of the input.
-fn read_some(part: &mut [u8]) -> Got
+fn read_some<R: Read>(input: &mut R, part: &mut [u8]) -> Got
     ensures { result.count ≤ length part.new }
 {
-    let got = libc::read(0, part);
-    Got {
-        count: io::count(got, part),
-        failed: got < 0,
+    match input.read(part) {
+        Ok(count) => Got {
+            count,
+            failed: false,
+        },
+        Err(_) => Got {
+            count: 0,
+            failed: true,
+        },
     }
 }

@@ -6,7 +6,7 @@ use lib.ListN.{get_or}
 use lib.Dec.{leb, eqb}
 use Rattle.bits.proofs.Tests.{by-test}
 use Rattle.codec.specs.Codec.{Codec}
-use Rattle.codec.specs.Parts.{number, absent, element, seq, mark}
+use Rattle.codec.specs.Parts.{number, element, seq, mark}
 use Rattle.codec.specs.Places.{places}
 use Rattle.codec.proofs.Kept.{Kept}
 use Rattle.grammar.specs.SiteSheet.{ss_type, range_type, refusal_in, range_refusal, digit_of, refusal_of_digit, digit_refusal, service_of}

@@ -15,7 +15,6 @@ use Rattle.codec.specs.Places.{places}
 use Rattle.codec.proofs.Filling.{places-rest}
 use Rattle.grammar.specs.SiteSheet.{range_type, row_of, entries_of, range_refusal}
 use Rattle.grammar.specs.Grammar.{identity, no_identity, zero_identity, range_ends, second_end, identities, external, no_external, externals}
-use Rattle.grammar.specs.declared.record.Identities.{Identities}
 use Rattle.grammar.specs.declared.site.ListKind.TheVariants as of
 use Rattle.grammar.proofs.Codes.{single}
 use Rattle.grammar.proofs.Steps.{no_identity-at}

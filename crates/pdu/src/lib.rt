@@ -1,5 +1,7 @@
 // DEFINE, INTERROGATE and INTERROGATE ACK PDUs, read and written (document 01, "Site sheet" and "The two PDUs"; document 02, 2026-01).
 // That reading and writing are inverse is proved in proofs/RoundTrip.antt.
+#![tactic(auto)]
+
 pub use grammar::record;
 pub use reader::{Answer, Reading, read, read_words};
 pub use walk::{BitPlace, Refusal};

@@ -3,47 +3,56 @@ use crate::held::Held;
 use crate::show::Answer;
 use crate::{input, show};
 use bits::BitCount;
+use std::io;
+use std::io::Write;
 
-pub(crate) fn ask(line: &[u8], held: Held) {
-    let bytes = held.bytes;
-    let archive = input::first(&bytes, held.length);
+pub(crate) fn ask<W: Write>(out: &mut W, line: &[u8], held: &Held) -> io::Result<()> {
+    let archive = input::first(&held.bytes, held.length);
     match input::letter(line) {
-        b'r' => give(line, archive),
-        b'v' => verify(archive),
-        b'd' => decide(line, archive),
-        b'p' => print(line, &bytes),
-        _ => {}
+        b'r' => give(out, line, archive),
+        b'v' => verify(out, archive),
+        b'd' => decide(out, line, archive),
+        b'p' => print(out, line, &held.bytes),
+        _ => Ok(()),
     }
 }
 
 // A held PDU: as it is, as a DEFINE, or as a DEFINE EXTERNAL.
-fn give(line: &[u8], archive: &[u8]) {
+fn give<W: Write>(out: &mut W, line: &[u8], archive: &[u8]) -> io::Result<()> {
     match input::letter_at(line, 2) {
-        b's' => restore(line, archive),
+        b's' => restore(out, line, archive),
         b'l' => match input::letter_at(line, 6) {
-            b'_' => reload_external(line, archive),
-            _ => reload(line, archive),
+            b'_' => reload_external(out, line, archive),
+            _ => reload(out, line, archive),
         },
-        _ => {}
+        _ => Ok(()),
     }
 }
 
-fn restore(line: &[u8], archive: &[u8]) {
+fn restore<W: Write>(out: &mut W, line: &[u8], archive: &[u8]) -> io::Result<()> {
     let network = input::number_at(line, 8);
     let ssi = input::number_at(line, network.next);
     let part = input::number_at(line, ssi.next);
     let room = input::number_at(line, part.next);
     restore_to(
+        out,
         archive,
         network.value,
         ssi.value,
         part.value,
         room.value as usize,
-    );
+    )
 }
 
-fn restore_to(archive: &[u8], network: u32, ssi: u32, part: u32, room: usize) {
-    let mut out = show::full();
+fn restore_to<W: Write>(
+    out: &mut W,
+    archive: &[u8],
+    network: u32,
+    ssi: u32,
+    part: u32,
+    room: usize,
+) -> io::Result<()> {
+    let mut lent = show::full();
     let mut count: usize = 0;
     let mut day: u32 = 0;
     let mut entry = show::FULL_PLACE;
@@ -54,49 +63,48 @@ fn restore_to(archive: &[u8], network: u32, ssi: u32, part: u32, room: usize) {
         network,
         ssi,
         part,
-        &mut out[0..end],
+        &mut lent[0..end],
         &mut count,
         &mut day,
         &mut entry,
         &mut place,
     );
     if number == 0 {
-        show::labelled(b"bits ", count as u64);
-        show::labelled(b" day ", day as u64);
+        show::labelled(out, "bits ", count as u64)?;
+        show::labelled(out, " day ", day as u64)?;
     }
-    pdu_or_refusal(
-        Answer {
-            number,
-            entry,
-            place,
-        },
-        BitCount(count),
-        out,
-    );
+    let answer = Answer {
+        number,
+        entry,
+        place,
+    };
+    pdu_or_refusal(out, answer, BitCount(count), &lent)
 }
 
 // Network, SSI, part, definition type, delivery, acknowledgement and room stand in this order.
-fn reload(line: &[u8], archive: &[u8]) {
+fn reload<W: Write>(out: &mut W, line: &[u8], archive: &[u8]) -> io::Result<()> {
     let mut asked = [0u32; 7];
     input::numbers_at(line, 7, &mut asked);
-    reload_to(false, archive, asked);
+    reload_to(out, false, archive, asked)
 }
 
 // The same without the part, which is that of numbers.
-fn reload_external(line: &[u8], archive: &[u8]) {
+fn reload_external<W: Write>(out: &mut W, line: &[u8], archive: &[u8]) -> io::Result<()> {
     let mut asked = [0u32; 6];
     input::numbers_at(line, 16, &mut asked);
-    reload_to(
-        true,
-        archive,
-        [
-            asked[0], asked[1], 2, asked[2], asked[3], asked[4], asked[5],
-        ],
-    );
+    let with_part = [
+        asked[0], asked[1], 2, asked[2], asked[3], asked[4], asked[5],
+    ];
+    reload_to(out, true, archive, with_part)
 }
 
-fn reload_to(external: bool, archive: &[u8], asked: [u32; 7]) {
-    let mut out = show::full();
+fn reload_to<W: Write>(
+    out: &mut W,
+    external: bool,
+    archive: &[u8],
+    asked: [u32; 7],
+) -> io::Result<()> {
+    let mut lent = show::full();
     let mut count: usize = 0;
     let mut entry = show::FULL_PLACE;
     let mut place = show::FULL_PLACE;
@@ -109,7 +117,7 @@ fn reload_to(external: bool, archive: &[u8], asked: [u32; 7]) {
             asked[3],
             asked[4],
             asked[5],
-            &mut out[0..end],
+            &mut lent[0..end],
             &mut count,
             &mut entry,
             &mut place,
@@ -123,52 +131,51 @@ fn reload_to(external: bool, archive: &[u8], asked: [u32; 7]) {
             asked[3],
             asked[4],
             asked[5],
-            &mut out[0..end],
+            &mut lent[0..end],
             &mut count,
             &mut entry,
             &mut place,
         )
     };
     if number == 0 {
-        show::labelled(b"bits ", count as u64);
+        show::labelled(out, "bits ", count as u64)?;
     }
-    pdu_or_refusal(
-        Answer {
-            number,
-            entry,
-            place,
-        },
-        BitCount(count),
-        out,
-    );
+    let answer = Answer {
+        number,
+        entry,
+        place,
+    };
+    pdu_or_refusal(out, answer, BitCount(count), &lent)
 }
 
 // Prints the bytes of a PDU that was written, or the refusal.
-fn pdu_or_refusal(answer: Answer, n: BitCount, out: [u8; 70000]) {
+fn pdu_or_refusal<W: Write>(
+    out: &mut W,
+    answer: Answer,
+    n: BitCount,
+    lent: &[u8],
+) -> io::Result<()> {
     if answer.number == 0 {
-        io::write_all(1, b" ");
-        show::span(&out, 0, n.bytes());
+        out.write_all(b" ")?;
+        show::span(out, lent, 0, n.bytes())?;
     } else {
-        show::refused(answer);
+        show::refused(out, answer)?;
     }
-    show::rest(&out, n.bytes());
+    show::rest(out, lent, n.bytes())
 }
 
-fn verify(archive: &[u8]) {
-    let mut out = show::full();
+fn verify<W: Write>(out: &mut W, archive: &[u8]) -> io::Result<()> {
+    let mut lent = show::full();
     let mut size: usize = 0;
     let mut entry = show::FULL_PLACE;
     let mut place = show::FULL_PLACE;
-    let number = boc::boc_contents(archive, &mut out, &mut size, &mut entry, &mut place);
-    show::written(
-        Answer {
-            number,
-            entry,
-            place,
-        },
-        size,
-        out,
-    );
+    let number = boc::boc_contents(archive, &mut lent, &mut size, &mut entry, &mut place);
+    let answer = Answer {
+        number,
+        entry,
+        place,
+    };
+    show::written(out, answer, size, &lent)
 }
 
 // What an engine tells: its answer, and the decision.
@@ -219,31 +226,30 @@ fn differ(one: Told, other: Told) -> bool {
     one.verdict != other.verdict
 }
 
-fn tell(told: Told) {
-    show::decision(
-        Answer {
-            number: told.number,
-            entry: told.entry,
-            place: told.place,
-        },
-        told.verdict,
-    );
+fn tell<W: Write>(out: &mut W, told: Told) -> io::Result<()> {
+    let answer = Answer {
+        number: told.number,
+        entry: told.entry,
+        place: told.place,
+    };
+    show::decision(out, answer, told.verdict)
 }
 
-fn decide(line: &[u8], archive: &[u8]) {
+fn decide<W: Write>(out: &mut W, line: &[u8], archive: &[u8]) -> io::Result<()> {
     let mut words = [0u32; 34];
     input::numbers_at(line, 7, &mut words);
     let told = by_record(archive, &words);
     let again = in_place(archive, &words);
-    tell(told);
+    tell(out, told)?;
     if differ(told, again) {
-        io::write_all(1, b", in place ");
-        tell(again);
+        out.write_all(b", in place ")?;
+        tell(out, again)?;
     }
+    Ok(())
 }
 
-fn print(line: &[u8], bytes: &[u8]) {
+fn print<W: Write>(out: &mut W, line: &[u8], bytes: &[u8]) -> io::Result<()> {
     let from = input::number_at(line, 6);
     let to = input::number_at(line, from.next);
-    show::span(bytes, from.value as usize, to.value as usize);
+    show::span(out, bytes, from.value as usize, to.value as usize)
 }

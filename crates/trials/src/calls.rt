@@ -2,6 +2,8 @@
 use crate::show;
 use crate::show::Answer;
 use bits::BitCount;
+use std::io;
+use std::io::Write;
 
 const FULL_WORD: u32 = 0xa5a5a5a5;
 
@@ -13,7 +15,12 @@ pub struct Reading {
 }
 
 // Reads the PDU of n bits in the first `count` bytes.
-pub(crate) fn read(bytes: [u8; 520], count: usize, n: usize) -> Reading {
+pub(crate) fn read<W: Write>(
+    out: &mut W,
+    bytes: &[u8; 520],
+    count: usize,
+    n: usize,
+) -> io::Result<Reading> {
     let mut words = [FULL_WORD; 520];
     let mut place = show::FULL_PLACE;
     let end = bits::least(count, 520);
@@ -24,13 +31,13 @@ pub(crate) fn read(bytes: [u8; 520], count: usize, n: usize) -> Reading {
         place,
     };
     if number == 0 {
-        return Reading { answer, words };
+        return Ok(Reading { answer, words });
     }
-    show::words(&words, FULL_WORD);
-    Reading {
+    show::words(out, &words, FULL_WORD)?;
+    Ok(Reading {
         answer,
         words: [0u32; 520],
-    }
+    })
 }
 
 // The refusal number, 0 for none, and the PDU.
@@ -41,21 +48,17 @@ pub struct Writing {
     pub bytes: [u8; 512],
 }
 
-// Writes a record to the first `room` bytes of a buffer.
-pub(crate) fn write(words: [u32; 520], room: usize) -> Writing {
+// Writes a record to the first `room` bytes of a buffer, and tells whether a byte behind what was written has changed.
+pub(crate) fn write<W: Write>(out: &mut W, words: &[u32; 520], room: usize) -> io::Result<Writing> {
     let mut bytes = [show::FULL_BYTE; 512];
     let mut n: usize = 0;
     let end = bits::least(room, 512);
-    let number = boc::boc_write(&words, &mut bytes[0..end], &mut n);
-    written(number, BitCount(n), bytes)
-}
-
-// What was written, and whether a byte behind it has changed.
-fn written(number: u32, bits: BitCount, bytes: [u8; 512]) -> Writing {
-    show::rest(&bytes, bits.bytes());
-    Writing {
+    let number = boc::boc_write(words, &mut bytes[0..end], &mut n);
+    let bits = BitCount(n);
+    show::rest(out, &bytes, bits.bytes())?;
+    Ok(Writing {
         number,
         bits,
         bytes,
-    }
+    })
 }

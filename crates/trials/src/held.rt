@@ -1,6 +1,8 @@
 // The lines that give another archive.
 use crate::show::Answer;
 use crate::{input, show};
+use std::io;
+use std::io::Write;
 
 // A buffer, and the length of the archive in it.
 #[derive(Clone, Copy)]
@@ -15,42 +17,46 @@ pub(crate) fn nothing() -> Held {
 }
 
 // Runs a line that gives another archive.
-pub(crate) fn after(line: &[u8], held: Held) -> Held {
+pub(crate) fn after<W: Write>(out: &mut W, line: &[u8], held: &mut Held) -> io::Result<()> {
     match input::letter(line) {
-        b'e' => empty(line, held),
-        b'c' => capture(line, held),
-        b'm' => many(line, held),
-        b'o' => overwrite(line, held),
-        b'l' => length(line, held),
-        _ => held,
+        b'e' => empty(out, line, held),
+        b'c' => capture(out, line, held),
+        b'm' => many(out, line, held),
+        b'o' => overwrite(out, line, held),
+        b'l' => length(out, line, held),
+        _ => Ok(()),
     }
 }
 
-// Prints an answer, and gives back the archive after it.
-fn answered(answer: Answer, size: usize, bytes: [u8; 70000], held: Held) -> Held {
-    show::written(answer, size, bytes);
-    if answer.number != 0 {
-        return held;
+// Prints an answer, and holds the archive that was written to a lent buffer.
+fn answered<W: Write>(
+    out: &mut W,
+    answer: Answer,
+    size: usize,
+    lent: &[u8; 70000],
+    held: &mut Held,
+) -> io::Result<()> {
+    show::written(out, answer, size, lent)?;
+    if answer.number == 0 {
+        held.length = size;
+        held.bytes = *lent;
     }
-    Held {
-        length: size,
-        bytes,
-    }
+    Ok(())
 }
 
-fn empty(line: &[u8], held: Held) -> Held {
+fn empty<W: Write>(out: &mut W, line: &[u8], held: &mut Held) -> io::Result<()> {
     let home = input::number_at(line, 6);
     let room = input::number_at(line, home.next);
-    let mut out = show::full();
+    let mut lent = show::full();
     let mut size: usize = 0;
     let end = bits::least(room.value as usize, 70000);
-    let number = boc::boc_empty(home.value, &mut out[0..end], &mut size);
+    let number = boc::boc_empty(home.value, &mut lent[0..end], &mut size);
     let answer = Answer {
         number,
         entry: show::NOWHERE,
         place: show::NOWHERE,
     };
-    answered(answer, size, out, held)
+    answered(out, answer, size, &lent, held)
 }
 
 // The PDU given at a place of a line: its bit length and its day in decimal, its bytes in hexadecimal.
@@ -75,58 +81,51 @@ fn pdu_at(line: &[u8], at: usize) -> Pdu {
     }
 }
 
-fn capture(line: &[u8], held: Held) -> Held {
+fn capture<W: Write>(out: &mut W, line: &[u8], held: &mut Held) -> io::Result<()> {
     let room = input::number_at(line, 8);
-    capture_in(held, pdu_at(line, room.next), room.value as usize)
+    let pdu = pdu_at(line, room.next);
+    capture_in(out, held, &pdu, room.value as usize)
 }
 
-fn capture_in(held: Held, pdu: Pdu, room: usize) -> Held {
-    let archive = held.bytes;
-    let bytes = pdu.bytes;
-    let mut out = show::full();
+fn capture_in<W: Write>(out: &mut W, held: &mut Held, pdu: &Pdu, room: usize) -> io::Result<()> {
+    let mut lent = show::full();
     let mut size: usize = 0;
     let mut entry = show::FULL_PLACE;
     let mut place = show::FULL_PLACE;
     let end = bits::least(room, 70000);
     let number = boc::boc_capture(
-        input::first(&archive, held.length),
-        input::first(&bytes, pdu.count),
+        input::first(&held.bytes, held.length),
+        input::first(&pdu.bytes, pdu.count),
         pdu.bits,
         pdu.day,
-        &mut out[0..end],
+        &mut lent[0..end],
         &mut size,
         &mut entry,
         &mut place,
     );
-    answered(
-        Answer {
-            number,
-            entry,
-            place,
-        },
-        size,
-        out,
-        held,
-    )
+    let answer = Answer {
+        number,
+        entry,
+        place,
+    };
+    answered(out, answer, size, &lent, held)
 }
 
 // Captures a PDU under each SSI from one up to another; a line for each.
-fn many(line: &[u8], held: Held) -> Held {
+fn many<W: Write>(out: &mut W, line: &[u8], held: &mut Held) -> io::Result<()> {
     let from = input::number_at(line, 5);
     let to = input::number_at(line, from.next);
     let pdu = pdu_at(line, to.next);
-    let mut current = held;
-    let mut ssi = from.value;
-    while ssi < to.value {
-        current = capture_in(current, with_ssi(pdu, ssi), 70000);
-        io::write_all(1, b"\n");
-        ssi += 1;
+    for ssi in from.value..to.value {
+        let renamed = with_ssi(&pdu, ssi);
+        capture_in(out, held, &renamed, 70000)?;
+        out.write_all(b"\n")?;
     }
-    current
+    Ok(())
 }
 
 // The same PDU for another SSI, which stands behind SS type, PDU type and range type.
-fn with_ssi(pdu: Pdu, ssi: u32) -> Pdu {
+fn with_ssi(pdu: &Pdu, ssi: u32) -> Pdu {
     let mut bytes = pdu.bytes;
     bits::put(&mut bytes, 15, 24, ssi as u64);
     Pdu {
@@ -137,29 +136,21 @@ fn with_ssi(pdu: Pdu, ssi: u32) -> Pdu {
     }
 }
 
-fn overwrite(line: &[u8], held: Held) -> Held {
+fn overwrite<W: Write>(out: &mut W, line: &[u8], held: &mut Held) -> io::Result<()> {
     let at = input::number_at(line, 10);
-    let mut bytes = held.bytes;
-    let count = put(line, at.next, &mut bytes, at.value as usize);
-    show::labelled(b"put ", count as u64);
-    Held {
-        length: held.length,
-        bytes,
-    }
+    let count = put(line, at.next, &mut held.bytes, at.value as usize);
+    show::labelled(out, "put ", count as u64)
 }
 
 // Puts the bytes that a line has from a place on at a place of a buffer.
-fn put(line: &[u8], from: usize, out: &mut [u8], at: usize) -> usize {
-    let start = bits::least(at, out.len());
-    input::bytes_at(line, from, &mut out[start..])
+fn put(line: &[u8], from: usize, bytes: &mut [u8], at: usize) -> usize {
+    let start = bits::least(at, bytes.len());
+    input::bytes_at(line, from, &mut bytes[start..])
 }
 
-fn length(line: &[u8], held: Held) -> Held {
+fn length<W: Write>(out: &mut W, line: &[u8], held: &mut Held) -> io::Result<()> {
     let given = input::number_at(line, 7);
-    let bytes = held.bytes;
-    show::labelled(b"was ", held.length as u64);
-    Held {
-        length: given.value as usize,
-        bytes,
-    }
+    show::labelled(out, "was ", held.length as u64)?;
+    held.length = given.value as usize;
+    Ok(())
 }

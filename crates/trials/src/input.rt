@@ -1,10 +1,5 @@
 // Numbers and bytes of a line.
 
-// Zeros, for the text of all lines.
-pub(crate) fn buffer() -> [u8; 524288] {
-    [0; 524288]
-}
-
 // The letter or digit by which a line is known, 0 for an empty line.
 pub(crate) fn letter(line: &[u8]) -> u8 {
     letter_at(line, 0)
@@ -25,27 +20,24 @@ pub struct Word {
 // The decimal number at a place of a line: 0 where there is none.
 pub(crate) fn number_at(s: &[u8], at: usize) -> Word {
     let mut value: u32 = 0;
-    let mut i = at;
-    while i < s.len() {
+    for i in at..s.len() {
         let digit = digit(s[i]);
         if 9 < digit {
             return Word { value, next: i + 1 };
         }
         value = and_digit(value, digit);
-        i += 1;
     }
-    Word { value, next: i }
+    let next = at.max(s.len());
+    Word { value, next }
 }
 
 // Puts the decimal numbers from a place on in words, as many as there are words.
 pub(crate) fn numbers_at(s: &[u8], from: usize, words: &mut [u32]) {
     let mut at = from;
-    let mut i: usize = 0;
-    while i < words.len() {
+    for word in words.iter_mut() {
         let number = number_at(s, at);
-        words[i] = number.value;
+        *word = number.value;
         at = number.next;
-        i += 1;
     }
 }
 
@@ -71,13 +63,14 @@ pub(crate) fn bytes_at(s: &[u8], from: usize, out: &mut [u8]) -> usize {
     if s.len() < from {
         return 0;
     }
-    let count = bits::least((s.len() - from) / 2, out.len());
-    let mut k: usize = 0;
-    while k < count {
-        out[k] = byte(s[from + 2 * k], s[from + 2 * k + 1]);
-        k += 1;
+    let spelt = &s[from..];
+    for (k, place) in out.iter_mut().enumerate() {
+        if spelt.len() / 2 <= k {
+            break;
+        }
+        *place = byte(spelt[2 * k], spelt[2 * k + 1]);
     }
-    count
+    bits::least(spelt.len() / 2, out.len())
 }
 
 fn byte(high: u8, low: u8) -> u8 {

@@ -29,6 +29,8 @@
 //
 // Before each call the buffer that is lent is full of one byte. What a refusal changed of a record is printed as words, and ` changed` where a
 // byte that is not of what was written has another value. A line of any other kind is printed as it is.
+#![tactic(auto)]
+
 mod asks;
 mod calls;
 mod held;
@@ -38,61 +40,55 @@ mod show;
 
 use held::Held;
 use last::Last;
+use std::io;
+use std::io::{BufWriter, Read, Write};
 
-fn main() {
-    let mut text = input::buffer();
-    let n = io::read_full(0, &mut text);
-    run(&text[..n]);
-    if n == 524288 {
-        io::write_all(1, b"input too long\n");
+// No more of standard input is run.
+const MOST: u64 = 524288;
+
+fn main(rt: HostRuntime) -> io::Result<()> {
+    let mut text = Vec::new(rt.alloc());
+    let count = rt.stdin().take(MOST).read_to_end(&mut text)?;
+    let mut out = BufWriter::new(rt.alloc(), rt.stdout())?;
+    run(&mut out, text.as_slice())?;
+    if count == 524288 {
+        out.write_all(b"input too long\n")?;
     }
+    out.flush()
 }
 
 // What the lines after one speak of: the PDU given last, and the archive.
-#[derive(Clone, Copy)]
+#[derive(Drop)]
 pub struct State {
     pub last: Last,
     pub held: Held,
 }
 
-fn run(s: &[u8]) {
-    let mut at: usize = 0;
-    let mut state = start();
-    while at < s.len() {
-        let end = bytes::scan::find(s, at, s.len(), b'\n');
-        state = case(&s[at..end], state);
-        io::write_all(1, b"\n");
-        at = end + 1;
+fn run<W: Write>(out: &mut W, s: &[u8]) -> io::Result<()> {
+    let mut state = State {
+        last: last::nothing(),
+        held: held::nothing(),
+    };
+    for ended in s.split_inclusive(|byte| *byte == b'\n') {
+        let line = ended.strip_suffix(b"\n").unwrap_or(ended);
+        case(out, line, &mut state)?;
+        out.write_all(b"\n")?;
     }
-}
-
-fn start() -> State {
-    let last = last::nothing();
-    let held = held::nothing();
-    State { last, held }
+    Ok(())
 }
 
 // Runs one line: one that gives a PDU, gives another archive, asks something of the archive, or changes something of the PDU given last.
-fn case(line: &[u8], state: State) -> State {
-    let last = state.last;
-    let held = state.held;
+fn case<W: Write>(out: &mut W, line: &[u8], state: &mut State) -> io::Result<()> {
     match input::letter(line) {
         b'0'..=b'9' => {
-            let last = last::pdu(line);
-            State { last, held }
+            state.last = last::pdu(out, line)?;
+            Ok(())
         }
-        b'e' | b'c' | b'm' | b'o' | b'l' => {
-            let held = held::after(line, held);
-            State { last, held }
-        }
-        b'r' | b'v' | b'd' | b'p' => {
-            asks::ask(line, held);
-            state
-        }
+        b'e' | b'c' | b'm' | b'o' | b'l' => held::after(out, line, &mut state.held),
+        b'r' | b'v' | b'd' | b'p' => asks::ask(out, line, &state.held),
         _ => {
-            io::write_all(1, line);
-            last::differ(line, last);
-            state
+            out.write_all(line)?;
+            last::differ(out, line, &state.last)
         }
     }
 }

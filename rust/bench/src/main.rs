@@ -8,7 +8,7 @@ use std::time::{Duration, Instant};
 
 use boc::ffi::Spot;
 use differential::{longest_part, record_of, Archive, Entry, Pdu, Record, Reload, Rng, Size};
-use reference::layout::{record as at, request, RECORD_WORDS, REQUEST_WORDS};
+use reference::layout::{record as at, request, KEY_WORDS, RECORD_WORDS, REQUEST_WORDS};
 
 const ROUNDS: usize = 200;
 const ROUND: Duration = Duration::from_micros(400);
@@ -130,8 +130,8 @@ fn read_and_write(rng: &mut Rng) {
     }
 }
 
-/// Capture in place of the last entry, restore of it, each reload that it has, the listing, and a decision by
-/// it with each engine.
+/// Capture in place of the last entry, what its line says, restore of it, each reload that it has, the listing,
+/// and a decision by it with each engine.
 fn on_archive(archive: &Archive) -> Vec<(&'static str, Times)> {
     let held = archive.bytes();
     let held = held.as_slice();
@@ -141,6 +141,16 @@ fn on_archive(archive: &Archive) -> Vec<(&'static str, Times)> {
         ROOM,
         |out| through(|length, spot| boc::ffi::capture(black_box(held), bytes, bits, day, out, length, spot)),
         |out| answer(reference::capture(black_box(held), bytes, bits, day, out)),
+    );
+    let last = archive.entries.len() - 1;
+    let entry = Times::of(
+        KEY_WORDS,
+        |key| {
+            let (number, (bits, _)) =
+                through(|(bits, day), spot| boc::ffi::entry(black_box(held), last, key, bits, day, spot));
+            (number, bits)
+        },
+        |key| answer(reference::entry(black_box(held), last, key).map(|entry| entry.bits)),
     );
     let restore = Times::of(
         ROOM,
@@ -169,7 +179,7 @@ fn on_archive(archive: &Archive) -> Vec<(&'static str, Times)> {
         call[request::LENGTH] = 24;
         call[request::FIRST_DIGIT..][..24].fill(7);
     }
-    let mut times = vec![("capture", capture), ("restore", restore)];
+    let mut times = vec![("capture", capture), ("entry", entry), ("restore", restore)];
     // As a replacement that is delivered and acknowledged. No part with numbers is a DEFINE, and no identity
     // part a DEFINE EXTERNAL.
     for external in [false, true] {
@@ -179,7 +189,9 @@ fn on_archive(archive: &Archive) -> Vec<(&'static str, Times)> {
         }
     }
     times.push(("contents", contents));
-    for (engine, decide) in [("decide", boc::ffi::decide as Engine), ("decide_in_place", boc::ffi::decide_in_place)] {
+    for (engine, decide) in
+        [("decide", boc::ffi::decide as Engine), ("decide_in_place", boc::ffi::decide_in_place)]
+    {
         times.push((engine, decisions(held, &call, decide)));
     }
     times

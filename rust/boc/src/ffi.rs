@@ -117,6 +117,16 @@ mod c {
             entry: *mut usize,
             place: *mut usize,
         ) -> u32;
+        pub fn boc_terminal_reset(table: *mut u8, table_len: usize) -> u32;
+        pub fn boc_terminal_line(
+            line: *const u8,
+            line_len: usize,
+            table: *mut u8,
+            table_len: usize,
+            out: *mut u8,
+            out_len: usize,
+            length: *mut usize,
+        ) -> u32;
     }
 }
 
@@ -293,9 +303,7 @@ pub fn decide_in_place(
 ) -> u32 {
     let (held, held_len) = (archive.as_ptr(), archive.len());
     // SAFETY: slices and references, as above.
-    unsafe {
-        c::boc_decide_in_place(held, held_len, request.as_ptr(), request.len(), decision, entry, place)
-    }
+    unsafe { c::boc_decide_in_place(held, held_len, request.as_ptr(), request.len(), decision, entry, place) }
 }
 
 /// `boc_contents`.
@@ -303,4 +311,19 @@ pub fn contents(archive: &[u8], out: &mut [u8], length: &mut usize, Spot { entry
     let (held, held_len) = (archive.as_ptr(), archive.len());
     // SAFETY: slices and references, as above.
     unsafe { c::boc_contents(held, held_len, out.as_mut_ptr(), out.len(), length, entry, place) }
+}
+
+/// `boc_terminal_reset`.
+pub fn terminal_reset(table: &mut [u8]) -> u32 {
+    // SAFETY: a slice, as above.
+    unsafe { c::boc_terminal_reset(table.as_mut_ptr(), table.len()) }
+}
+
+/// `boc_terminal_line`.
+pub fn terminal_line(line: &[u8], table: &mut [u8], out: &mut [u8], length: &mut usize) -> u32 {
+    let (rows, rows_len) = (table.as_mut_ptr(), table.len());
+    // SAFETY: slices and a reference, as above.
+    unsafe {
+        c::boc_terminal_line(line.as_ptr(), line.len(), rows, rows_len, out.as_mut_ptr(), out.len(), length)
+    }
 }

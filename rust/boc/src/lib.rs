@@ -77,6 +77,7 @@ pub mod ffi;
 mod record;
 mod refusal;
 mod request;
+mod terminal;
 mod words;
 
 pub use codes::{
@@ -87,6 +88,7 @@ pub use entries::{entries, entry, Entries, Entry, KEY_WORDS};
 pub use record::{Definition, Identities, Identity, List, Number, Numbers, Record, Services, RECORD_WORDS};
 pub use refusal::{Refusal, Refused};
 pub use request::{Destination, Party, Request, REQUEST_WORDS};
+pub use terminal::{Profile, Terminal, TABLE_BYTES, TABLE_TEXT_BYTES};
 
 use ffi::Spot;
 

@@ -24,16 +24,22 @@ pub enum Refusal {
     Archive = 7,
     /// A new key with 512 held, or the result exceeds 65,536 bytes or the lent buffer.
     Room = 8,
-    /// A request, user, part, definition, home network, day or count of words out of its range.
+    /// A request, user, part, definition, home network, day, table or word count out of its range.
     Range = 9,
     /// Restore and reload: not held; entry: none has this index.
     NotHeld = 11,
     /// Reload: a held list that is not empty has no place in the PDU.
     Loss = 12,
+    /// A terminal's line that is none.
+    Syntax = 15,
+    /// A terminal's line: a field's value is not one of its values.
+    Field = 16,
+    /// A terminal's line: a third field that its layer does not take, or a fourth.
+    Surplus = 17,
 }
 
 impl Refusal {
-    /// The library's number: 1 to 9, 11 or 12.
+    /// The library's number: 1 to 9, 11, 12 or 15 to 17.
     pub const fn number(self) -> u32 {
         self as u32
     }
@@ -54,6 +60,9 @@ impl Refusal {
             9 => Range,
             11 => NotHeld,
             12 => Loss,
+            15 => Syntax,
+            16 => Field,
+            17 => Surplus,
             _ => unreachable!("the library has no refusal {number}"),
         })
     }
@@ -69,10 +78,13 @@ impl Refusal {
             Refusal::Archive => "the archive breaks a rule",
             Refusal::Room => "no room for the result",
             Refusal::Range => {
-                "a request, user, part, definition, home network, day or count of words out of its range"
+                "a request, user, part, definition, home network, day, table or word count out of its range"
             }
             Refusal::NotHeld => "not held",
             Refusal::Loss => "a held list that is not empty has no place in the PDU",
+            Refusal::Syntax => "no line",
+            Refusal::Field => "a field's value is not one of its values",
+            Refusal::Surplus => "a third field that its layer does not take, or a fourth",
         }
     }
 }

@@ -1,6 +1,7 @@
 //! The listing of an archive.
 
 use crate::archive::{Archive, Line};
+use crate::decimal::decimal;
 use crate::refusal::{Refusal, Refused};
 
 /// Writes the listing of an archive to `out` and returns its length in bytes. Refuses with 7, 8.
@@ -37,17 +38,4 @@ fn list(archive: &Archive<'_>, mut piece: impl FnMut(&[u8])) {
         named(b" day ", day.into());
     }
     piece(b"\n");
-}
-
-/// A number in decimal.
-fn decimal(mut value: u32, digits: &mut [u8; 10]) -> &[u8] {
-    let mut at = digits.len();
-    loop {
-        at -= 1;
-        digits[at] = b'0' + (value % 10) as u8;
-        value /= 10;
-        if value == 0 {
-            return &digits[at..];
-        }
-    }
 }

@@ -18,6 +18,8 @@
 //! | `reload` | a held part as a DEFINE or a DEFINE EXTERNAL | document 02, 2026-01 and 2026-06 |
 //! | `barring` | requests and decisions | "The barring rule" |
 //! | `contents` | the listing | "Profiles to try"; document 02, 2026-05 |
+//! | `terminals` | +CTSP lines and the table of profiles | document 02, 2026-10 |
+//! | `decimal` | numbers as text | |
 
 #![no_std]
 #![forbid(unsafe_code)]
@@ -28,10 +30,12 @@ mod barring;
 mod bits;
 mod codes;
 mod contents;
+mod decimal;
 pub mod layout;
 mod pdu;
 mod refusal;
 mod reload;
+mod terminals;
 mod words;
 mod write;
 
@@ -41,4 +45,5 @@ pub use contents::contents;
 pub use pdu::read;
 pub use refusal::{Refusal, Refused};
 pub use reload::{reload, reload_external};
+pub use terminals::{terminal_line, terminal_reset, PLACES};
 pub use write::write;

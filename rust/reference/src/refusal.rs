@@ -26,10 +26,16 @@ pub enum Refusal {
     NotHeld = 11,
     /// Reload: a held list that is not empty has no place in the PDU.
     Loss = 12,
+    /// A terminal's line that is none.
+    Syntax = 15,
+    /// A terminal's line: a value out of its range.
+    Field = 16,
+    /// A terminal's line: a third field that its layer does not take, or a fourth.
+    Surplus = 17,
 }
 
 impl Refusal {
-    /// The scope's number: 1 to 9, 11 or 12.
+    /// The scope's number: 1 to 9, 11, 12 or 15 to 17.
     pub const fn number(self) -> u32 {
         self as u32
     }
@@ -47,7 +53,7 @@ pub struct Refused {
 }
 
 impl Refused {
-    /// The scope's number: 1 to 9, 11 or 12.
+    /// The scope's number: 1 to 9, 11, 12 or 15 to 17.
     pub const fn number(self) -> u32 {
         self.why.number()
     }

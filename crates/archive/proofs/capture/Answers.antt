@@ -4,7 +4,6 @@ use mathlib.Core.Bool.{true}
 use mathlib.Core.List.{List}
 use Prim.Native.Nat.{ℕ, ◌<◌}
 use native.Mathlib.Omega.{arith}
-use borrow.Author.Rules.{rules}
 use lib.ListN.{length}
 use Rattle.walk.specs.Walk.{walk_is}
 use Rattle.walk.specs.declared.Head.{Head}
@@ -31,18 +30,18 @@ pub returns-then-day-gt65535 : goal.returns-then-day-gt65535
 returns-then-day-gt65535 c =
     let a = c.args in
     let e = no-day a.archive.now a.body.now a.n.0 a.day (length a.out.now) c.if-day-gt65535.true in record {
-  value = ap (λ (f : Refusal). Refused f) c.plain.ensures ∙ sym e;
-  out_after = sym (capture-leaves _ _ _ _ a.out.now e);
-}
+      value = ap (λ (f : Refusal). Refused f) c.plain.ensures ∙ sym e;
+      out_after = sym (capture-leaves _ _ _ _ a.out.now e);
+    }
 
 pub returns-in-Refused : goal.returns-in-Refused
 returns-in-Refused c =
     let a = c.args in
     let bad = sym c.check-checked.ensures ∙ c.in-Refused.is in
     let e = no-archive a.archive.now a.body.now a.n.0 a.day (length a.out.now) (omega (arith, c.if-day-gt65535.false)) bad in record {
-  value = sym e;
-  out_after = sym (capture-leaves _ _ _ _ a.out.now e);
-}
+      value = sym e;
+      out_after = sym (capture-leaves _ _ _ _ a.out.now e);
+    }
 
 -- the archive's bytes, the PDU, its bit length, its day and the lent buffer
 abbrev dated-of : After-walk-walked → Else-day-gt65535
@@ -67,7 +66,7 @@ dated : (c : After-walk-walked) → day-of c < 65536
 dated c = omega (arith, (dated-of c).if-day-gt65535.false)
 
 ok : (c : After-walk-walked) → is_archive (b-of c) ≡ true
-ok c =  checked-archive _ (sym c.check-checked.ensures ∙ c.in_default.is)
+ok c = checked-archive _ (sym c.check-checked.ensures ∙ c.in_default.is)
 
 -- the walk's refusal is passed on
 pub returns-in_default-walked : goal.returns-in_default-walked
@@ -76,9 +75,9 @@ returns-in_default-walked c =
     pdu-refused _ _ _ _ _ (dated (goal.at.returns-in_default-walked c).After-walk-walked) (ok (goal.at.returns-in_default-walked c).After-walk-walked) (sym c.walk-walked.ensures ∙ c.in_default-walked.is)
     ∙ ap (λ (f : Refusal). Refused f) (sym (c.of_walk.ensures ∙ ap walked_refusal c.in_default-walked.is))
     in record {
-  value = sym e;
-  out_after = sym (capture-leaves _ _ _ _ (out_of (goal.at.returns-in_default-walked c).After-walk-walked) e);
-}
+      value = sym e;
+      out_after = sym (capture-leaves _ _ _ _ (out_of (goal.at.returns-in_default-walked c).After-walk-walked) e);
+    }
 
 -- the head of the accepted PDU, and what is filed by it
 abbrev walk_of : After-filing_of-filing → After-walk-walked
@@ -100,15 +99,15 @@ returns-in_default-filing c =
     let w = walk_of (goal.at.returns-in_default-filing c).After-filing_of-filing in
     let nowhere = sym (filed (goal.at.returns-in_default-filing c).After-filing_of-filing) ∙ c.in_default-filing.is in
     let e = not-held (b-of w) (s-of w) (n-of w) (day-of w) (length (out_of w)) (dated w) (reading (b-of w)).home (ok w) (accepted (goal.at.returns-in_default-filing c).After-filing_of-filing) nowhere in record {
-  value = ap (λ (x : Refusal). Refused x) c.plain-in_default-filing.ensures ∙ sym e;
-  out_after = sym (capture-leaves _ _ _ _ (out_of w) e);
-}
+      value = ap (λ (x : Refusal). Refused x) c.plain-in_default-filing.ensures ∙ sym e;
+      out_after = sym (capture-leaves _ _ _ _ (out_of w) e);
+    }
 
 -- the key is the one that the PDU is held under
 under : (c : In-Under) → let w = walk_of (goal.at.In-Under c).After-filing_of-filing in ((read_is (s-of w) (n-of w)).answer ≡ Accepted)
     × (may_hold (read_is (s-of w) (n-of w)).found ≡ true)
     × (filed_key (reading (b-of w)).home (read_is (s-of w) (n-of w)).found ≡ c.in-Under.key)
-under c =  filed_under _ _ _ (accepted (goal.at.In-Under c).After-filing_of-filing) (sym (filed (goal.at.In-Under c).After-filing_of-filing) ∙ c.in-Under.is)
+under c = filed_under _ _ _ (accepted (goal.at.In-Under c).After-filing_of-filing) (sym (filed (goal.at.In-Under c).After-filing_of-filing) ∙ c.in-Under.is)
 
 -- what is held under a key
 abbrev held-as : In-Under → Key → Held
@@ -139,7 +138,7 @@ returns c =
     as-placed (b-of w) (s-of w) (n-of w) (day-of w) (length (out_of w)) (dated w) (ok w) (under (goal.at.returns c).In-Under).0 (under (goal.at.returns c).In-Under).1
     ∙ sym (c.file.ensures.value ∙ ap (λ (a : Archive). placed a (length (out_of w))) is)
     in record {
-  value = sym e;
-  out_after = c.file.ensures.out_after ∙ ap (λ (a : Archive). leaves c.file.result (bytes_of a) (out_of w)) is
+      value = sym e;
+      out_after = c.file.ensures.out_after ∙ ap (λ (a : Archive). leaves c.file.result (bytes_of a) (out_of w)) is
           ∙ sym (capture-leaves (b-of w) (s-of w) (n-of w) (day-of w) (out_of w) e);
-}
+    }

@@ -2,7 +2,6 @@
 use mathlib.Core.Path.{◌≡◌, refl, ap, ◌∙◌}
 use Prim.Native.Nat.{ℕ, ◌+◌, ◌-◌}
 use native.Mathlib.Nat.{add-sub_cancel_left}
-use borrow.Author.Rules.{rules}
 use borrow.Author.Tests.{le-leb, lt-leb}
 use lib.ListN.{take, drop}
 use Rattle.bits.specs.Frame.{bytes_for}
@@ -21,6 +20,6 @@ returns c =
     let a = c.args in
     let n : a.off + c.bytes-size.result - a.off ≡ bytes_for a.n.0 =
     add-sub_cancel_left a.off c.bytes-size.result ∙ c.bytes-size.ensures in record {
-  value = rw (← c.bytes-size.ensures, le-leb _ _ c.if-out-size.false);
-  out_after = (at_front c.append.ensures).1 ∙ ap (λ (k : ℕ). over (take k (drop a.off a.archive.now)) a.out.now) n;
-}
+      value = rw (← c.bytes-size.ensures, le-leb _ _ c.if-out-size.false);
+      out_after = (at_front c.append.ensures).1 ∙ ap (λ (k : ℕ). over (take k (drop a.off a.archive.now)) a.out.now) n;
+    }

@@ -2,7 +2,6 @@
 use mathlib.Core.Path.{ap, ◌∙◌}
 use mathlib.Core.List.{List}
 use Prim.Native.Nat.{ℕ}
-use borrow.Author.Rules.{rules}
 use borrow.Author.Tests.{lt-ltb, le-ltb, le-leb, lt-leb}
 use lib.ListN.{length}
 use Rattle.archive.specs.Model.{header_bytes}
@@ -23,9 +22,9 @@ unfolding empty_is empty_out
 returns-then-out-lt-HEADER c =
     let h = lt-ltb _ _ c.if-home-ge16777216.false in
     let k = lt-leb _ _ c.if-out-lt-HEADER.true in record {
-  value = rw (c.plain-then-out-lt-HEADER.ensures, h, k);
-  out_after = rw (h, k);
-}
+      value = rw (c.plain-then-out-lt-HEADER.ensures, h, k);
+      out_after = rw (h, k);
+    }
 
 pub returns : goal.returns
 unfolding empty_is empty_out header_bytes
@@ -35,6 +34,6 @@ returns c =
     let k = le-leb _ _ c.if-out-lt-HEADER.false in
     let w = at_front c.append.ensures in
     let e = c.header_bytes-header.ensures in record {
-  value = rw (h, k) (ap (λ (n : ℕ). Bytes n) (w.0 ∙ ap length e));
-  out_after = rw (h, k) (w.1 ∙ ap (λ (l : List ℕ). over l a.out.now) e);
-}
+      value = rw (h, k) (ap (λ (n : ℕ). Bytes n) (w.0 ∙ ap length e));
+      out_after = rw (h, k) (w.1 ∙ ap (λ (l : List ℕ). over l a.out.now) e);
+    }

@@ -2,7 +2,6 @@
 use mathlib.Core.Path.{◌≡◌, sym, ap, ◌∙◌}
 use mathlib.Core.Bool.{true}
 use native.Mathlib.Omega.{arith}
-use borrow.Author.Rules.{rules}
 use Rattle.archive.specs.Reading.{is_archive}
 use Rattle.archive.specs.declared.contents.Entry as contents
 use Rattle.archive.specs.declared.refusal.Refusal.{Refusal}

@@ -2,7 +2,6 @@
 use mathlib.Core.Path.{◌≡◌, sym, ap, ◌∙◌}
 use mathlib.Core.Bool.{true}
 use native.Mathlib.Omega.{arith}
-use borrow.Author.Rules.{rules}
 use borrow.Author.Tests.{eq-eqb, ne_eqb}
 use Rattle.bits.proofs.Tests.{said-no, said-yes}
 use Rattle.archive.specs.Model.{in_range}
@@ -31,7 +30,7 @@ found c =
     fetch-place a.archive.now a.key (ok (goal.at.After-find-place c).In_default) (within (goal.at.After-find-place c).Else-not-in_range) ∙ sym (ap fetched_of c.find-place.ensures)
 
 pub returns-in-Refused : goal.returns-in-Refused
-returns-in-Refused c =  sym (fetch-none _ _ (sym c.check-checked.ensures ∙ c.in-Refused.is))
+returns-in-Refused c = sym (fetch-none _ _ (sym c.check-checked.ensures ∙ c.in-Refused.is))
 
 pub returns-then-not-in_range : goal.returns-then-not-in_range
 returns-then-not-in_range c = sym (fetch_out _ _ (ok (goal.at.returns-then-not-in_range c).In_default) (said-no c.in_range.ensures c.if-not-in_range.true))

@@ -3,7 +3,6 @@ use mathlib.Core.Path.{◌≡◌, refl, sym, ap, ◌∙◌, subst}
 use mathlib.Core.List.{List}
 use Prim.Native.Nat.{ℕ, ◌+◌, ◌-◌}
 use native.Mathlib.Omega.{arith}
-use borrow.Author.Rules.{rules}
 use lib.ListN.{length}
 use Rattle.bits.specs.Bits as are
 use Rattle.bits.proofs.Tests.{said-no, said-yes}
@@ -85,15 +84,15 @@ returns-then-out-size c = record {
 pub splice-requires : goal.splice-requires
 splice-requires c = record {
   within = (
-        inside (goal.at.splice-requires c).After-find-place,
-        c.requires.1,
-        omega (
-          arith,
-          c.count.ensures.0,
-          (sound (b-of (goal.at.splice-requires c).After-find-place)
-              c.requires.0).few,
-        ),
-      );
+    inside (goal.at.splice-requires c).After-find-place,
+    c.requires.1,
+    omega (
+      arith,
+      c.count.ensures.0,
+      (sound (b-of (goal.at.splice-requires c).After-find-place)
+          c.requires.0).few,
+    ),
+  );
   body_in_bounds = omega (arith, c.spliced_length-size.ensures, c.if-out-size.false);
 }
 
@@ -112,10 +111,10 @@ returns c =
     w.0 ∙ length-spliced (b-of (goal.at.returns c).After-find-place) c.find-place.result (c.count.result + 1 - c.find-place.result.entries) (h-of (goal.at.returns c).After-find-place).entry (h-of (goal.at.returns c).After-find-place).body (inside (goal.at.returns c).After-find-place)
     ∙ sym c.spliced_length-size.ensures ∙ sized (goal.at.returns c).After-spliced_length-size
     in record {
-  value = ap (λ (k : ℕ). Bytes k) l
+      value = ap (λ (k : ℕ). Bytes k) l
           ∙ placed-whole _ _ (said-yes (limits (goal.at.returns c).After-within_limits) c.if-not-within_limits.false) (omega (arith, sized (goal.at.returns c).After-spliced_length-size, c.if-out-size.false));
-  out_after = w.1 ∙ ap (λ (k : List ℕ). over k c.args.out.now) e;
-}
+      out_after = w.1 ∙ ap (λ (k : List ℕ). over k c.args.out.now) e;
+    }
 
 pub find-place-requires : goal.find-place-requires
 find-place-requires c =

@@ -3,7 +3,6 @@ use mathlib.Core.Path.{◌≡◌, sym, ap, ◌∙◌}
 use mathlib.Core.Bool.{true}
 use mathlib.Core.List.{List}
 use Prim.Native.Nat.{ℕ}
-use borrow.Author.Rules.{rules}
 use lib.ListN.{length}
 use Rattle.bits.proofs.Tests.{said-no, said-yes}
 use Rattle.archive.specs.Model.{in_range}
@@ -20,9 +19,9 @@ pub returns-then-not-in_range : goal.returns-then-not-in_range
 returns-then-not-in_range c =
     let a = c.args in
     let e = out_of_range a.archive.now a.key (length a.out.now) (said-no c.in_range.ensures c.if-not-in_range.true) in record {
-  value = ap (λ (f : Refusal). Refused f) c.plain.ensures ∙ sym e;
-  out_after = sym (restore-leaves _ _ a.out.now e);
-}
+      value = ap (λ (f : Refusal). Refused f) c.plain.ensures ∙ sym e;
+      out_after = sym (restore-leaves _ _ a.out.now e);
+    }
 
 within : (c : Else-not-in_range) → in_range c.args.key ≡ true
 within c = said-yes c.in_range.ensures c.if-not-in_range.false
@@ -36,17 +35,17 @@ pub returns-in-Refused : goal.returns-in-Refused
 returns-in-Refused c =
     let a = c.args in
     let e = none_found a.archive.now a.key (within (goal.at.returns-in-Refused c).Else-not-in_range) (length a.out.now) (found (goal.at.returns-in-Refused c).After-fetch-found c.in-Refused.is) in record {
-  value = sym e;
-  out_after = sym (restore-leaves _ _ a.out.now e);
-}
+      value = sym e;
+      out_after = sym (restore-leaves _ _ a.out.now e);
+    }
 
 pub returns-in-NotHeld : goal.returns-in-NotHeld
 returns-in-NotHeld c =
     let a = c.args in
     let e = not_found a.archive.now a.key (within (goal.at.returns-in-NotHeld c).Else-not-in_range) (length a.out.now) (found (goal.at.returns-in-NotHeld c).After-fetch-found c.in-NotHeld.is) in record {
-  value = ap (λ (f : Refusal). Refused f) c.plain-in-NotHeld.ensures ∙ sym e;
-  out_after = sym (restore-leaves _ _ a.out.now e);
-}
+      value = ap (λ (f : Refusal). Refused f) c.plain-in-NotHeld.ensures ∙ sym e;
+      out_after = sym (restore-leaves _ _ a.out.now e);
+    }
 
 pub deliver-requires : goal.deliver-requires
 deliver-requires c =
@@ -59,8 +58,8 @@ returns-in-Body c =
     let out = a.out.now in
     let r = found-body a.archive.now a.key (within (goal.at.returns-in-Body c).Else-not-in_range) (length out) (found (goal.at.returns-in-Body c).After-fetch-found c.in-Body.is) in
     let e : restore_is a.archive.now a.key (length out) ≡ c.deliver.result = r.0 ∙ sym c.deliver.ensures.value in record {
-  value = sym e;
-  out_after = c.deliver.ensures.out_after
+      value = sym e;
+      out_after = c.deliver.ensures.out_after
           ∙ ap (λ (w : List ℕ). restores c.deliver.result w out) (sym r.1)
           ∙ sym (restore-leaves a.archive.now a.key out e);
-}
+    }

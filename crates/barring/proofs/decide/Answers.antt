@@ -1,6 +1,5 @@
 -- The part that judges is read, or the answer is passed on. Assumes nothing.
 use mathlib.Core.Path.{◌≡◌, sym, ◌∙◌}
-use borrow.Author.Rules.{rules}
 use Rattle.barring.specs.Decide.{judging_part}
 use Rattle.barring.proofs.Decided.{body-within, decide-body, part_at, part-answered}
 use Rattle.barring.proofs.decide.Goals.{After-judging_part}

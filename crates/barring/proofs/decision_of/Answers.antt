@@ -1,5 +1,4 @@
 -- Each ruling is the definition's own case. Assumes nothing.
-use borrow.Author.Rules.{rules}
 use Rattle.barring.proofs.decision_of.Goals as goal
 
 pub returns-in-Allowed : goal.returns-in-Allowed

@@ -1,7 +1,6 @@
 -- 9 comes before 7; then each answer of the archive is the definition's own case. Assumes nothing.
 use mathlib.Core.Path.{◌≡◌, sym, ap, ◌∙◌}
 use Prim.Native.Nat.{ℕ}
-use borrow.Author.Rules.{rules}
 use borrow.Author.Tests.{ne_eqb}
 use Rattle.rules.specs.Request.{request_refusal}
 use Rattle.archive.specs.Restoring.{fetch_is}
@@ -16,7 +15,7 @@ returns-then-number-ne0 c = rw (← c.request_refusal-number.ensures, ne_eqb _ _
 
 -- the request is in range
 ranged : (c : After-fetch) → request_refusal c.args.request ≡ 0
-ranged c =  sym c.request_refusal-number.ensures ∙ c.if-number-ne0.false
+ranged c = sym c.request_refusal-number.ensures ∙ c.if-number-ne0.false
 
 -- and its part was fetched
 fetches : (c : After-fetch) →
@@ -30,10 +29,10 @@ fetches c =
     c.part_for-part.ensures)
 
 pub returns-in-Body : goal.returns-in-Body
-returns-in-Body c =  part-fetched _ _ (ranged (goal.at.returns-in-Body c).After-fetch) (fetches (goal.at.returns-in-Body c).After-fetch ∙ c.in-Body.is)
+returns-in-Body c = part-fetched _ _ (ranged (goal.at.returns-in-Body c).After-fetch) (fetches (goal.at.returns-in-Body c).After-fetch ∙ c.in-Body.is)
 
 pub returns-in-NotHeld : goal.returns-in-NotHeld
-returns-in-NotHeld c =  part-fetched _ _ (ranged (goal.at.returns-in-NotHeld c).After-fetch) (fetches (goal.at.returns-in-NotHeld c).After-fetch ∙ c.in-NotHeld.is)
+returns-in-NotHeld c = part-fetched _ _ (ranged (goal.at.returns-in-NotHeld c).After-fetch) (fetches (goal.at.returns-in-NotHeld c).After-fetch ∙ c.in-NotHeld.is)
 
 pub returns-in-Refused : goal.returns-in-Refused
-returns-in-Refused c =  part-fetched _ _ (ranged (goal.at.returns-in-Refused c).After-fetch) (fetches (goal.at.returns-in-Refused c).After-fetch ∙ c.in-Refused.is)
+returns-in-Refused c = part-fetched _ _ (ranged (goal.at.returns-in-Refused c).After-fetch) (fetches (goal.at.returns-in-Refused c).After-fetch ∙ c.in-Refused.is)

@@ -1,5 +1,4 @@
 -- Each kind of destination is the definition's own case. Assumes nothing.
-use borrow.Author.Rules.{rules}
 use Rattle.barring.specs.Decide.{part_for}
 use Rattle.barring.proofs.part_for.Goals as goal
 

@@ -8,7 +8,6 @@ use Rattle.rules.specs.Rule.{ruling}
 use Rattle.archive.specs.Reading.{home_of}
 use Rattle.barring.specs.Decision.{decision_of}
 use native.Mathlib.Nat.{add-sub_cancel_left}
-use borrow.Author.Rules.{rules}
 use Rattle.barring.proofs.ruling_of_body.Goals as goal
 
 pub returns : goal.returns

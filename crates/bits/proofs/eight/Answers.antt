@@ -2,7 +2,6 @@
 use mathlib.Core.Path.{◌∙◌, sym, ap₂}
 use Prim.Native.Nat.{ℕ, ◌+◌, ◌*◌}
 use native.Mathlib.Omega.{arith}
-use borrow.Author.Rules.{rules}
 use Rattle.bits.proofs.Loads.{eight-bytes}
 use Rattle.bits.proofs.eight.Goals as goal
 

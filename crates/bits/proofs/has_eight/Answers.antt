@@ -1,7 +1,6 @@
 -- Each way out is the definition's. Assumes nothing.
 use native.Mathlib.Omega.{arith}
 use borrow.Author.Tests.{le-leb, lt-leb}
-use borrow.Author.Rules.{rules}
 use Rattle.bits.proofs.has_eight.Goals as goal
 
 pub returns-then-width-gt57 : goal.returns-then-width-gt57

@@ -1,16 +1,8 @@
 -- Put among zeros after the bytes, and copied back. Assumes nothing.
-use mathlib.Core.Path.{◌≡◌, refl, ◌∙◌, ap, ap₂, sym}
-use mathlib.Core.List.{List, ◌++◌, append-nil}
-use Prim.Native.Nat.{ℕ, ◌+◌, ◌-◌, ◌≤◌}
-use native.Mathlib.Nat.{zero-add}
-use native.Mathlib.Numerals.{add-one}
-use native.Mathlib.Omega.{arith}
-use borrow.Author.Rules.{rules}
-use lib.ListN.{length, take, drop, get_or, set, replicate, length-set}
-use lib.Seq.{paste, paste-zero, paste-suc, drop-length}
-use Rattle.bits.specs.Bits.{bits, bits_of, splice}
-use Rattle.bits.proofs.Numbers.{length-bits_of}
-use Rattle.bits.proofs.Stores.{splice_front}
+use mathlib.Core.Path.{◌≡◌}
+use Prim.Native.Nat.{◌-◌, ◌≤◌}
+use lib.ListN.{length}
+use lib.Seq.{paste}
 use Rattle.bits.proofs.put_short.Given as goal
 
 abbrev pub invariant-loop-i : goal.invariant-loop-i

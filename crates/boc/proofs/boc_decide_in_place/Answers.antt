@@ -1,5 +1,4 @@
 -- The request of its words or 9; then the decision told. Assumes nothing.
-use borrow.Author.Rules.{rules}
 use mathlib.Core.Path.{refl}
 use Rattle.boc.specs.Calls.{decided_number, decided_verdict, decided_entry, decided_place}
 use Rattle.boc.proofs.Answering.{said, left}

@@ -1,6 +1,5 @@
 -- 9 for another count of words; then the answer told. Assumes nothing.
 use mathlib.Core.Path.{◌≡◌, refl}
-use borrow.Author.Rules.{rules}
 use borrow.Author.Tests.{eq-eqb, ne_eqb}
 use lib.ListN.{length}
 use Rattle.boc.specs.Calls.{listed_number, listed_key, listed_length, listed_day, listed_entry, listed_place, entry_answer}
@@ -23,10 +22,10 @@ pub returns : goal.returns
 returns c =
     let e = answer (goal.at.returns c).After-entry-answer in
     let told = c.tell_listed.ensures in record {
-  value = said e refl listed_number told.value;
-  key_after = left e refl listed_key told.key_after;
-  bits_after = left e refl listed_length told.bits_after;
-  day_after = left e refl listed_day told.day_after;
-  after = left e refl listed_entry told.after;
-  place_after = left e refl listed_place told.place_after;
-}
+      value = said e refl listed_number told.value;
+      key_after = left e refl listed_key told.key_after;
+      bits_after = left e refl listed_length told.bits_after;
+      day_after = left e refl listed_day told.day_after;
+      after = left e refl listed_entry told.after;
+      place_after = left e refl listed_place told.place_after;
+    }

@@ -1,7 +1,6 @@
 -- The writer's answer passed on. Assumes nothing.
 use mathlib.Core.Path.{◌≡◌, ◌∙◌}
 use Prim.Native.Nat.{ℕ}
-use borrow.Author.Rules.{rules}
 use Rattle.writer.specs.Write.{written_number}
 use Rattle.writer.specs.declared.Written.{Written}
 use Rattle.boc.specs.Calls.{written_length, write_number, write_out, write_bits}
@@ -26,15 +25,15 @@ told c e old =
 pub returns-in-Bits : goal.returns-in-Bits
 returns-in-Bits c = let all =
     told (goal.at.returns-in-Bits c).After-write_words c.in-Bits.is _ in record {
-  value = all.0;
-  out_after = all.1.0;
-  bits_after = all.1.1;
-}
+      value = all.0;
+      out_after = all.1.0;
+      bits_after = all.1.1;
+    }
 
 pub returns-in-Refused : goal.returns-in-Refused
 returns-in-Refused c = let all =
     told (goal.at.returns-in-Refused c).After-write_words c.in-Refused.is _ in record {
-  value = all.0;
-  out_after = all.1.0;
-  bits_after = all.1.1;
-}
+      value = all.0;
+      out_after = all.1.0;
+      bits_after = all.1.1;
+    }

@@ -1,5 +1,4 @@
 -- A refusal is passed on; otherwise the cursor's answer is the codec's. Assumes nothing.
-use borrow.Author.Rules.{rules}
 use Rattle.codec.specs.Reading.{resume, number_is}
 use Rattle.codec.proofs.Reading.{element_of-taken}
 use Rattle.codec.proofs.number.Goals as goal

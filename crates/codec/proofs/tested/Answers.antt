@@ -1,7 +1,6 @@
 -- A refusal that came before is passed on; then the test's own. Assumes nothing.
 use mathlib.Core.Path.{◌≡◌}
 use native.Mathlib.Omega.{arith}
-use borrow.Author.Rules.{rules}
 use Rattle.codec.specs.Reading.{resume, number_is, tested_is}
 use Rattle.codec.proofs.Reading.{unless_at-some}
 use Rattle.codec.proofs.tested.Goals as goal

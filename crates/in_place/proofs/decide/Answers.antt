@@ -1,6 +1,5 @@
 -- The part that judges is walked in its place, or the answer is passed on. Assumes nothing.
 use mathlib.Core.Path.{◌≡◌, sym, ◌∙◌}
-use borrow.Author.Rules.{rules}
 use Rattle.barring.specs.Decide.{judging_part}
 use Rattle.barring.proofs.Decided.{decide-body, part_at, part-answered}
 use Rattle.in_place.proofs.Judged.{judging}

@@ -3,13 +3,12 @@ use mathlib.Core.Path.{◌≡◌, sym, ap, ◌∙◌}
 use mathlib.Core.Bool.{true}
 use Prim.Native.Nat.{ℕ, ◌+◌, ◌*◌, ◌<◌}
 use native.Mathlib.Omega.{arith}
-use borrow.Author.Rules.{rules}
 use lib.ListN.{drop}
 use Rattle.bits.specs.Bits.{bits}
 use Rattle.bits.proofs.Tests.{said-no, said-yes}
 use Rattle.bits.proofs.Numbers.{value-take-fits}
 use Rattle.codec.specs.Codec.{Codec}
-use Rattle.grammar.specs.Grammar.{services, identities}
+use Rattle.grammar.specs.Grammar.{identities}
 use Rattle.grammar.specs.declared.site.ListKind.TheVariants as of
 use Rattle.reader.specs.Inner.{Read}
 use Rattle.rules.specs.Matching.{identity_among, number_among, covered}
@@ -93,15 +92,15 @@ lists c =
     let b = start_of (goal.at.In-Identity c).After-groups_at-groups in
     identity-lists (b.requires.part ∙ ap part_for c.in-Identity.is) (ack b).listed
 
-groups : (c : In-Identity) →  let b = start_of (goal.at.In-Identity c).After-groups_at-groups in
+groups : (c : In-Identity) → let b = start_of (goal.at.In-Identity c).After-groups_at-groups in
     GroupsAre b (lists c).restricted-at
     c.groups_at-groups.result
 groups c = groups-are (goal.at.In-Identity c).After-groups_at-groups (lists c).groups
 
-restricted : (c : After-identities_at-restricted) →  let b = start_of (goal.at.After-identities_at-restricted c).After-groups_at-groups in
+restricted : (c : After-identities_at-restricted) → let b = start_of (goal.at.After-identities_at-restricted c).After-groups_at-groups in
     SeenIs (λ l. identity_among b.args.request.user.network l c.in-Identity.u) (λ l. l.code)
     b.requires.found.lists.restricted (lists (goal.at.After-identities_at-restricted c).In-Identity).exceptions-at c.identities_at-restricted.result
-restricted c =  sees-is c.identities_at-restricted.ensures (rw (← (groups (goal.at.After-identities_at-restricted c).In-Identity).ends) at (lists (goal.at.After-identities_at-restricted c).In-Identity).restricted)
+restricted c = sees-is c.identities_at-restricted.ensures (rw (← (groups (goal.at.After-identities_at-restricted c).In-Identity).ends) at (lists (goal.at.After-identities_at-restricted c).In-Identity).restricted)
 
 pub identities_at-restricted-requires : goal.identities_at-restricted-requires
 identities_at-restricted-requires c = passable (start_of (goal.at.identities_at-restricted-requires c).After-groups_at-groups) (lists c).restricted (groups c).ends
@@ -111,7 +110,7 @@ identities_at-exceptions-requires c =
     passable (start_of (goal.at.identities_at-exceptions-requires c).After-groups_at-groups) (lists (goal.at.identities_at-exceptions-requires c).In-Identity).exceptions (restricted c).ends
 
 pub returns-in-Identity : goal.returns-in-Identity
-returns-in-Identity c =    let b = start_of (goal.at.returns-in-Identity c).After-groups_at-groups in
+returns-in-Identity c = let b = start_of (goal.at.returns-in-Identity c).After-groups_at-groups in
     let by = by-identity b.args.request.user.network b.requires.found.lists b.args.request.digits c.in-Identity.is in
     let exceptions = sees-is c.identities_at-exceptions.ensures (rw (← (restricted (goal.at.returns-in-Identity c).After-identities_at-restricted).ends) at (lists (goal.at.returns-in-Identity c).In-Identity).exceptions) in
     record {
@@ -131,7 +130,7 @@ unfolding part_for
 number-parts c = let b = start_of (goal.at.After-digits-1 c).After-groups_at-groups in
     number-lists (b.requires.part ∙ ap part_for c.in-Number.is) (ack b).listed
 
-number-groups : (c : After-digits-1) →  let b = start_of (goal.at.After-digits-1 c).After-groups_at-groups in
+number-groups : (c : After-digits-1) → let b = start_of (goal.at.After-digits-1 c).After-groups_at-groups in
     GroupsAre b (number-parts c).numbers-at
     c.groups_at-groups.result
 number-groups c = groups-are (goal.at.After-digits-1 c).After-groups_at-groups (number-parts c).groups
@@ -139,16 +138,16 @@ number-groups c = groups-are (goal.at.After-digits-1 c).After-groups_at-groups (
 pub numbers_at-restricted-requires : goal.numbers_at-restricted-requires
 numbers_at-restricted-requires c = passable (start_of (goal.at.numbers_at-restricted-requires c).After-groups_at-groups) (number-parts c).numbers (number-groups c).ends
 
-numbers : (c : After-numbers_at-restricted) →   let b = start_of (goal.at.After-numbers_at-restricted c).After-groups_at-groups in
+numbers : (c : After-numbers_at-restricted) → let b = start_of (goal.at.After-numbers_at-restricted c).After-groups_at-groups in
     SeenIs (λ l. number_among l c.in-Number.length.0 b.args.request.digits) (λ l. l.code) b.requires.found.lists.numbers
     (number-parts (goal.at.After-numbers_at-restricted c).After-digits-1).excepted-at c.numbers_at-restricted.result
-numbers c =  sees-is c.numbers_at-restricted.ensures (rw (← (number-groups (goal.at.After-numbers_at-restricted c).After-digits-1).ends) at (number-parts (goal.at.After-numbers_at-restricted c).After-digits-1).numbers)
+numbers c = sees-is c.numbers_at-restricted.ensures (rw (← (number-groups (goal.at.After-numbers_at-restricted c).After-digits-1).ends) at (number-parts (goal.at.After-numbers_at-restricted c).After-digits-1).numbers)
 
 pub numbers_at-exceptions-requires : goal.numbers_at-exceptions-requires
-numbers_at-exceptions-requires c =  passable (start_of (goal.at.numbers_at-exceptions-requires c).After-groups_at-groups) (number-parts (goal.at.numbers_at-exceptions-requires c).After-digits-1).excepted (numbers c).ends
+numbers_at-exceptions-requires c = passable (start_of (goal.at.numbers_at-exceptions-requires c).After-groups_at-groups) (number-parts (goal.at.numbers_at-exceptions-requires c).After-digits-1).excepted (numbers c).ends
 
 pub returns-in-Number : goal.returns-in-Number
-returns-in-Number c =     let b = start_of (goal.at.returns-in-Number c).After-groups_at-groups in
+returns-in-Number c = let b = start_of (goal.at.returns-in-Number c).After-groups_at-groups in
     let by = by_number b.args.request.user.network b.requires.found.lists b.args.request.digits c.in-Number.is in
     let exceptions = sees-is c.numbers_at-exceptions.ensures (rw (← (numbers (goal.at.returns-in-Number c).After-numbers_at-restricted).ends) at (number-parts (goal.at.returns-in-Number c).After-digits-1).excepted) in
     record {

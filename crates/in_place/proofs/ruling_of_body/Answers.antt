@@ -2,7 +2,6 @@
 use mathlib.Core.Path.{◌≡◌, ◌∙◌}
 use Prim.Native.Nat.{◌+◌, ◌-◌}
 use native.Mathlib.Nat.{add-sub_cancel_left}
-use borrow.Author.Rules.{rules}
 use Rattle.bits.specs.Frame.{bytes_for}
 use Rattle.in_place.proofs.Judged.{body_ruled}
 use Rattle.in_place.proofs.ruling_of_body.Goals.{After-bytes}
@@ -12,7 +11,7 @@ size : (c : After-bytes) → let a = c.args in a.at + c.bytes.result - a.at ≡ 
 size c = add-sub_cancel_left c.args.at c.bytes.result ∙ c.bytes.ensures
 
 pub ruling_in-requires : goal.ruling_in-requires
-ruling_in-requires c =  rw (size (goal.at.ruling_in-requires c).After-bytes) c.requires.body
+ruling_in-requires c = rw (size (goal.at.ruling_in-requires c).After-bytes) c.requires.body
 
 pub returns : goal.returns
-returns c =  body_ruled _ _ _ _ c.requires (rw (size (goal.at.returns c).After-bytes) at c.ruling_in.ensures)
+returns c = body_ruled _ _ _ _ c.requires (rw (size (goal.at.returns c).After-bytes) at c.ruling_in.ensures)

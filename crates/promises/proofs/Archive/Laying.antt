@@ -13,7 +13,6 @@ use Rattle.bits.proofs.Tests.{both}
 use Rattle.archive.specs.Model.{Held, Archive, sizes, length_of, bytes_of}
 use Rattle.archive.specs.Filing.{well_formed}
 use Rattle.archive.specs.Reading.{count_of, size_at, held_at, held_from, bodies_at, held_in, reading, is_archive}
-use Rattle.archive.proofs.Model.Rules.{formed}
 use Rattle.archive.proofs.Bytes.Walking.{length-held_from}
 use Rattle.archive.proofs.Bytes.Checking.{sound}
 use Rattle.archive.proofs.Bytes.AsWritten as writing

@@ -15,7 +15,7 @@ use Rattle.grammar.specs.Grammar.{pdu}
 use Rattle.writer.specs.Write.{length_of, written_number, write_is}
 use Rattle.writer.specs.declared.Written.{Written}
 use Rattle.writer.specs.declared.Written.TheVariants as written
-use Rattle.archive.specs.Model.{Held, Archive, in_range}
+use Rattle.archive.specs.Model.{Held, in_range}
 use Rattle.archive.specs.Reading.{reading}
 use Rattle.archive.specs.Refusals.{plain}
 use Rattle.archive.specs.Checking.{check_is}
@@ -25,7 +25,7 @@ use Rattle.archive.specs.declared.contents.Key.{Key}
 use Rattle.archive.specs.declared.refusal.Refusal.{Refusal}
 use Rattle.archive.specs.declared.checking.Checked.{Checked}
 use Rattle.archive.specs.declared.checking.Checked.TheVariants as checked
-use Rattle.reload.specs.declared.Reloaded.TheVariants.{Bits, Refused}
+use Rattle.reload.specs.declared.Reloaded.TheVariants.{Bits}
 use Rattle.reload.specs.Define.{is_definition, stands}
 use Rattle.reload.specs.Reload.{reloaded_refusal, record_of, as_written, reloaded, reload_is, define_bytes, reload_out}
 use Rattle.reload.specs.declared.Definition.{Definition}

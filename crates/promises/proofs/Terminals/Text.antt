@@ -3,7 +3,7 @@ use mathlib.Core.Path.{◌≡◌, refl, sym, ap, ◌∙◌, subst}
 use mathlib.Core.Logic.{◌↔◌}
 use mathlib.Core.Bool.{Bool, true, false, not, ◌&&◌}
 use mathlib.Core.List.{List, [], ◌∷◌, ◌++◌, append_assoc, append-nil}
-use Prim.Native.Nat.{ℕ, zero, suc, ◌+◌, ◌-◌, ◌≤◌, ◌<◌}
+use Prim.Native.Nat.{ℕ, zero, suc, ◌+◌, ◌≤◌, ◌<◌}
 use native.Mathlib.Omega.{arith}
 use borrow.Author.Count.{below_more}
 use borrow.Author.Tests.{ne_eqb, eqb-true, eqb-false, leb-true, ltb-true, ltb-false, not-true}
@@ -18,7 +18,7 @@ use Rattle.text.proofs.Decimals.{decimal-one}
 use Rattle.text.proofs.Fields.{digit-is}
 use Rattle.terminals.specs.Layers.{layer_at, values, places, nowhere}
 use Rattle.terminals.specs.Lines.{set_word, are_digits, fields_of, Says, two, three}
-use Rattle.terminals.specs.Profiles.{are_profiles, is_table, names, set_in, reset_out}
+use Rattle.terminals.specs.Profiles.{are_profiles, is_table, set_in, reset_out}
 use Rattle.terminals.specs.Reading.{comma, line_end, item, place_text, line_text, lines_text, led, text_of}
 use Rattle.terminals.specs.Answers.{table_after}
 use Rattle.terminals.specs.declared.layers.Place as layers

@@ -2,7 +2,6 @@
 use mathlib.Core.Path.{ap, ◌∙◌}
 use mathlib.Core.List.{List}
 use Prim.Native.Nat.{ℕ}
-use borrow.Author.Rules.{rules}
 use Rattle.words.specs.RecordWords.{given_record}
 use Rattle.words.specs.declared.record.GivenRecord.{GivenRecord}
 use Rattle.reader.specs.Words.{read_words_is}
@@ -11,7 +10,7 @@ use Rattle.reader.proofs.read.Goals as goal
 
 pub returns : goal.returns
 unfolding read_words_is
-returns c = 
+returns c =
     let a = c.args in
     let found = ap (λ (x : GivenRecord). x.found) c.record_from-spelt.ensures
     ∙ ap (λ (w : List ℕ). (given_record w).found) c.read_words-answer.ensures.words_after

@@ -2,7 +2,6 @@
 use mathlib.Core.Path.{◌≡◌, sym, ap, ◌∙◌}
 use mathlib.Core.Bool.{true, false}
 use native.Mathlib.Omega.{arith}
-use borrow.Author.Rules.{rules}
 use borrow.Author.Tests.{eq-eqb, ne_eqb}
 use lib.ListN.{length}
 use Rattle.words.specs.RecordWords.{are_record}
@@ -17,9 +16,9 @@ pub returns-then-words-ne-RECORD_WORDS : goal.returns-then-words-ne-RECORD_WORDS
 unfolding read_words_is read_words
 returns-then-words-ne-RECORD_WORDS c =
     let e : are_record (length c.args.words.now) ≡ false = ne_eqb _ _ c.if-words-ne-RECORD_WORDS.true in record {
-  value = rw e;
-  words_after = rw e;
-}
+      value = rw e;
+      words_after = rw e;
+    }
 
 -- there are 520 words
 whole : (c : Else-words-ne-RECORD_WORDS) → are_record (length c.args.words.now) ≡ true
@@ -40,18 +39,18 @@ fill_record-requires c =
 
 pub returns-in-Accepted : goal.returns-in-Accepted
 unfolding read_words_is read_words
-returns-in-Accepted c =  
+returns-in-Accepted c =
     let a = accepted (goal.at.returns-in-Accepted c).In-Accepted in
     let left = put_whole c.if-words-ne-RECORD_WORDS.false (fills-is c.fill_record.ensures a.read).1 in record {
-  value = rw (whole (goal.at.returns-in-Accepted c).Else-words-ne-RECORD_WORDS, a.same);
-  words_after = rw (whole (goal.at.returns-in-Accepted c).Else-words-ne-RECORD_WORDS, a.same) left;
-}
+      value = rw (whole (goal.at.returns-in-Accepted c).Else-words-ne-RECORD_WORDS, a.same);
+      words_after = rw (whole (goal.at.returns-in-Accepted c).Else-words-ne-RECORD_WORDS, a.same) left;
+    }
 
 pub returns-in-Refused : goal.returns-in-Refused
 unfolding read_words_is read_words
-returns-in-Refused c = 
+returns-in-Refused c =
     let a = c.args in
     let q = same_answer a.s.now a.n.0 ∙ ap answer_of (sym c.walk.ensures ∙ c.in-Refused.is) in record {
-  value = rw (whole (goal.at.returns-in-Refused c).Else-words-ne-RECORD_WORDS, q);
-  words_after = rw (whole (goal.at.returns-in-Refused c).Else-words-ne-RECORD_WORDS, q);
-}
+      value = rw (whole (goal.at.returns-in-Refused c).Else-words-ne-RECORD_WORDS, q);
+      words_after = rw (whole (goal.at.returns-in-Refused c).Else-words-ne-RECORD_WORDS, q);
+    }

@@ -1,5 +1,4 @@
 -- The definition's own record, with the PDU type of the target. Assumes nothing.
-use borrow.Author.Rules.{rules}
 use Rattle.reload.specs.Define.{define_of}
 use Rattle.reload.proofs.define_of.Goals as goal
 

@@ -1,5 +1,4 @@
 -- The part, then each list that it has no place for, with its test. Assumes nothing.
-use borrow.Author.Rules.{rules}
 use borrow.Author.Tests.{eq-eqb, ne_eqb}
 use Rattle.bits.proofs.Tests.{said-no, said-yes}
 use Rattle.reload.specs.Define.{stands_in}
@@ -21,12 +20,12 @@ returns-then-lists-ne0 c =
 
 pub returns-then-not-no_identities : goal.returns-then-not-no_identities
 unfolding stands_in
-returns-then-not-no_identities c =  
+returns-then-not-no_identities c =
     rw (ne_eqb _ 1 c.if-part-eq1.false, ne_eqb _ 2 c.if-part-eq2.false, eq-eqb _ 0 c.if-lists-ne0.false, said-no c.no_identities-2.ensures c.if-not-no_identities.true)
 
 pub returns : goal.returns
 unfolding stands_in
-returns c =   
+returns c =
     rw (
       c.no_numbers-2.ensures,
       ne_eqb _ 1 c.if-part-eq1.false,

@@ -1,7 +1,6 @@
 -- A missing extension is read as the affected user's network. Assumes nothing.
 use mathlib.Core.Path.{ap, ◌∙◌}
 use Prim.Native.Nat.{ℕ}
-use borrow.Author.Rules.{rules}
 use Rattle.rules.specs.Rule.{six_rules, ruling}
 use Rattle.rules.proofs.rule.Goals as goal
 

@@ -1,7 +1,6 @@
 -- The tests are made in the order of the rules. Assumes nothing.
 use mathlib.Core.Path.{◌≡◌, sym, ◌∙◌}
 use mathlib.Core.Bool.{true}
-use borrow.Author.Rules.{rules}
 use Rattle.bits.proofs.Tests.{said-no, said-yes}
 use Rattle.rules.specs.Rule.{six_rules, is_outside}
 use Rattle.rules.proofs.six_rules.Goals as goal

@@ -1,7 +1,6 @@
 -- SS type, PDU type, and what follows them by its table. Assumes nothing.
 use mathlib.Core.Path.{refl, ap}
 use native.Mathlib.Omega.{arith}
-use borrow.Author.Rules.{rules}
 use Rattle.codec.specs.Parts.{seq, element, mark, only}
 use Rattle.grammar.specs.SiteSheet.{ss_type, kind_refusal, pdu_type}
 use Rattle.grammar.specs.Grammar.{rest_of, from_record, pdu}

@@ -3,7 +3,6 @@ use mathlib.Core.Path.{◌≡◌, sym, ap, ◌∙◌, subst}
 use mathlib.Core.List.{List}
 use Prim.Native.Nat.{ℕ}
 use native.Mathlib.Omega.{arith}
-use borrow.Author.Rules.{rules}
 use borrow.Author.Tests.{eq-eqb}
 use lib.ListN.{drop}
 use Rattle.codec.specs.Parts.{seq}
@@ -54,11 +53,11 @@ after-users c = fits_next _ (fits (goal.at.After-tally_users-after_users c).Afte
 
 pub tally_figures-after_figures-requires : goal.tally_figures-after_figures-requires
 tally_figures-after_figures-requires c = (
-      ap (λ (f : Form). f.width) c.form_of-form.ensures,
-      subst (λ (f : Figures). Fits (figures_of (kind (goal.at.tally_figures-after_figures-requires c).After-figures_from-figures)) f c.tally_users-after_users.result) (sym (found (goal.at.tally_figures-after_figures-requires c).After-figures_from-figures)) (fits-first _ (after-users c)),
-    )
+  ap (λ (f : Form). f.width) c.form_of-form.ensures,
+  subst (λ (f : Figures). Fits (figures_of (kind (goal.at.tally_figures-after_figures-requires c).After-figures_from-figures)) f c.tally_users-after_users.result) (sym (found (goal.at.tally_figures-after_figures-requires c).After-figures_from-figures)) (fits-first _ (after-users c)),
+)
 
-figures : (c : After-tally_figures-after_figures) → 
+figures : (c : After-tally_figures-after_figures) →
     Tallies (figures_of (kind (goal.at.After-tally_figures-after_figures c).After-figures_from-figures)) (figures_from (words (goal.at.After-tally_figures-after_figures c).After-figures_from-figures)) c.tally_users-after_users.result c.tally_figures-after_figures.result
 figures c =
     let u = c.tally_users-after_users.result in
@@ -73,11 +72,11 @@ after-figures : (c : After-tally_figures-after_figures) → let t = kind (goal.a
 after-figures c = fits_next _ (after-users (goal.at.After-tally_figures-after_figures c).After-tally_users-after_users) (figures c)
 
 pub tally_services_if-after_services-requires : goal.tally_services_if-after_services-requires
-tally_services_if-after_services-requires c =  ((start (goal.at.tally_services_if-after_services-requires c).After-figures_from-figures).requires.0, fits_as (services-as (goal.at.tally_services_if-after_services-requires c).After-figures_from-figures) (fits-first _ (after-figures c)))
+tally_services_if-after_services-requires c = ((start (goal.at.tally_services_if-after_services-requires c).After-figures_from-figures).requires.0, fits_as (services-as (goal.at.tally_services_if-after_services-requires c).After-figures_from-figures) (fits-first _ (after-figures c)))
 
-part-as : (c : After-part_in) → 
+part-as : (c : After-part_in) →
     part_of c.part_in.result ≡ part_of (part_in (kind (goal.at.After-part_in c).After-figures_from-figures) (figures_from (words (goal.at.After-part_in c).After-figures_from-figures)))
-part-as c =  ap part_of (c.part_in.ensures ∙ ap (part_in (kind (goal.at.After-part_in c).After-figures_from-figures)) (found (goal.at.After-part_in c).After-figures_from-figures))
+part-as c = ap part_of (c.part_in.ensures ∙ ap (part_in (kind (goal.at.After-part_in c).After-figures_from-figures)) (found (goal.at.After-part_in c).After-figures_from-figures))
 
 pub tally_part-requires : goal.tally_part-requires
 tally_part-requires c =

@@ -1,12 +1,11 @@
 -- Services by their number, or 8 words that are not carried. Assumes nothing.
-use borrow.Author.Rules.{rules}
 use native.Mathlib.Omega.{arith}
 use lib.ListN.{length-drop}
 use Rattle.tally.proofs.Unused.{uncarried-services, skipped}
 use Rattle.tally.proofs.tally_services_if.Goals as goal
 
 pub tally_services-requires : goal.tally_services-requires
-tally_services-requires c =  (omega (arith, c.requires.0), rw c.if-carried.true at c.requires.1)
+tally_services-requires c = (omega (arith, c.requires.0), rw c.if-carried.true at c.requires.1)
 
 pub returns-then-carried : goal.returns-then-carried
 returns-then-carried c = rw c.if-carried.true c.tally_services.ensures

@@ -1,12 +1,11 @@
 -- Affected users by their list, or 25 words that are not carried. Assumes nothing.
-use borrow.Author.Rules.{rules}
 use native.Mathlib.Omega.{arith}
 use lib.ListN.{length-drop}
 use Rattle.tally.proofs.Unused.{uncarried-identities, skipped}
 use Rattle.tally.proofs.tally_users.Goals as goal
 
 pub tally_identities-requires : goal.tally_identities-requires
-tally_identities-requires c =  (omega (arith, c.requires.0), rw c.if-carried.true at c.requires.1)
+tally_identities-requires c = (omega (arith, c.requires.0), rw c.if-carried.true at c.requires.1)
 
 pub returns-then-carried : goal.returns-then-carried
 returns-then-carried c = rw c.if-carried.true c.tally_identities.ensures

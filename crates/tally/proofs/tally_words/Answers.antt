@@ -1,7 +1,6 @@
 -- By the count of words. Assumes nothing.
 use mathlib.Core.Path.{refl}
 use borrow.Author.Tests.{eqb-true, eqb-false}
-use borrow.Author.Rules.{rules}
 use Rattle.tally.proofs.tally_words.Goals as goal
 
 pub returns-then-words-ne-RECORD_WORDS : goal.returns-then-words-ne-RECORD_WORDS

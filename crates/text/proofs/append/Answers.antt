@@ -1,7 +1,6 @@
 -- Where there is room: what the writer leaves in the part that is lent on is the bytes, and all around it stays. Assumes nothing.
 use Prim.Native.Nat.{◌+◌, ◌≤◌}
 use native.Mathlib.Omega.{arith}
-use borrow.Author.Rules.{rules}
 use borrow.Author.Tests.{leb-true}
 use lib.ListN.{length}
 use Rattle.bits.proofs.Tests.{said-no, said-yes}
@@ -13,9 +12,9 @@ pub returns-then-not-has_room : goal.returns-then-not-has_room
 returns-then-not-has_room c =
     let a = c.args in let all =
     no_room a.out.now a.bytes.now a.at (said-no c.has_room.ensures c.if-not-has_room.true) in record {
-  value = all.0;
-  out_after = all.1;
-}
+      value = all.0;
+      out_after = all.1;
+    }
 
 room : (c : Else-not-has_room) → let a = c.args in a.at + length a.bytes.now ≤ length a.out.now
 room c = leb-true _ _ (said-yes c.has_room.ensures c.if-not-has_room.false)
@@ -24,9 +23,9 @@ pub returns : goal.returns
 returns c =
     let a = c.args in let all =
     by-laid (room (goal.at.returns c).Else-not-has_room) (lent a.out.now a.bytes.now a.at c.write_body.ensures) in record {
-  value = all.0;
-  out_after = all.1;
-}
+      value = all.0;
+      out_after = all.1;
+    }
 
 pub overflow_add-end : goal.overflow_add-end
 overflow_add-end c =

@@ -1,7 +1,6 @@
 -- One test after the other. Assumes nothing.
 use Prim.Native.Nat.{ℕ, ◌+◌}
 use native.Mathlib.Omega.{arith}
-use borrow.Author.Rules.{rules}
 use borrow.Author.Tests.{le-leb, lt-leb}
 use lib.ListN.{take, drop}
 use Rattle.text.specs.Field.{run, number_of, field_of, field_at}
@@ -16,7 +15,7 @@ digits c = let a = c.args in run (drop a.at a.s.now)
 
 pub returns-then-digits-lt1 : goal.returns-then-digits-lt1
 unfolding field_at field_of
-returns-then-digits-lt1 c =  rw (lt-leb 1 (digits (goal.at.returns-then-digits-lt1 c).After-run_at-digits) (omega (arith, c.run_at-digits.ensures, c.if-digits-lt1.true)))
+returns-then-digits-lt1 c = rw (lt-leb 1 (digits (goal.at.returns-then-digits-lt1 c).After-run_at-digits) (omega (arith, c.run_at-digits.ensures, c.if-digits-lt1.true)))
 
 pub returns-then-widest-digits : goal.returns-then-widest-digits
 unfolding field_at field_of
@@ -28,7 +27,7 @@ returns-then-widest-digits c =
 
 pub returns-then-digits-gt9 : goal.returns-then-digits-gt9
 unfolding field_at field_of
-returns-then-digits-gt9 c = 
+returns-then-digits-gt9 c =
     rw (
       le-leb 1 (digits (goal.at.returns-then-digits-gt9 c).After-run_at-digits) (omega (arith, c.run_at-digits.ensures, c.if-digits-lt1.false)),
       le-leb (digits (goal.at.returns-then-digits-gt9 c).After-run_at-digits) c.args.widest (omega (arith, c.run_at-digits.ensures, c.if-widest-digits.false)),
@@ -36,14 +35,14 @@ returns-then-digits-gt9 c =
     )
 
 pub overflow_add-result : goal.overflow_add-result
-overflow_add-result c = 
+overflow_add-result c =
     let a = c.args in
     let e = c.run_at-digits.ensures in
     omega (arith, e, run-within a.s.now a.at (omega (arith, e, c.if-digits-lt1.false)))
 
 pub returns : goal.returns
 unfolding field_at field_of
-returns c =  
+returns c =
     let a = c.args in
     let e = c.run_at-digits.ensures in
     rw (

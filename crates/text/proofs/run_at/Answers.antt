@@ -1,11 +1,6 @@
 -- Digit by digit, up to the first byte that is none or to the end. Assumes nothing.
-use mathlib.Core.Path.{◌≡◌}
-use Prim.Native.Nat.{◌+◌, ◌-◌, ◌≤◌}
 use native.Mathlib.Omega.{arith}
-use borrow.Author.Rules.{rules}
-use lib.ListN.{length, drop}
 use Rattle.bits.proofs.Tests.{said-no, said-yes}
-use Rattle.text.specs.Field.{run}
 use Rattle.text.proofs.Fields.{run-over, run-digit, run_ends}
 use Rattle.text.proofs.run_at.Goals as goal
 

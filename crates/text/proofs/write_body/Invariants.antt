@@ -1,10 +1,8 @@
 -- Byte by byte: those passed are the body's, the others as they were. Assumes nothing.
-use mathlib.Core.Path.{◌≡◌, refl, ◌∙◌}
+use mathlib.Core.Path.{◌≡◌}
 use mathlib.Core.List.{◌++◌}
 use Prim.Native.Nat.{◌≤◌, ◌-◌}
-use native.Mathlib.Omega.{arith}
-use lib.ListN.{length, take, drop, length-set}
-use Rattle.text.proofs.Copies.{copied-one, copied_all}
+use lib.ListN.{length, take, drop}
 use Rattle.text.proofs.write_body.Given as goal
 
 abbrev pub invariant-loop-i : goal.invariant-loop-i

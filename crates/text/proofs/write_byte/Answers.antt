@@ -1,5 +1,4 @@
 -- One store. Assumes nothing.
-use borrow.Author.Rules.{rules}
 use Rattle.bits.proofs.Laying.{one}
 use Rattle.text.proofs.write_byte.Goals as goal
 

@@ -1,14 +1,11 @@
 -- Each turn puts the last digit of what is left in front of those that are there: whatever lays the digits left lays them all.
 -- Assumes nothing.
-use mathlib.Core.Path.{◌≡◌, refl, sym, ap, ◌∙◌, subst}
-use mathlib.Core.List.{List, [], ◌∷◌, ◌++◌}
-use Prim.Native.Nat.{ℕ, ◌+◌, ◌-◌, ◌/◌, ◌%◌, ◌≤◌}
-use native.Mathlib.Omega.{arith}
+use mathlib.Core.Path.{◌≡◌}
+use mathlib.Core.List.{List}
+use Prim.Native.Nat.{ℕ, ◌+◌, ◌≤◌}
 use lib.ListN.{length}
 use Rattle.bits.specs.Inner.{Laid}
-use Rattle.text.specs.Decimal.{digit, decimal}
-use Rattle.text.proofs.Decimals.{decimal-one, decimal-more, length_more}
-use Rattle.text.proofs.Copies.{before_it}
+use Rattle.text.specs.Decimal.{decimal}
 use Rattle.text.proofs.write_digits.Given as goal
 
 abbrev pub invariant-loop-rest : goal.invariant-loop-rest

@@ -2,7 +2,6 @@
 use mathlib.Core.Path.{◌≡◌, ap, ◌∙◌}
 use Prim.Native.Nat.{ℕ, ◌+◌, ◌≤◌}
 use native.Mathlib.Omega.{arith}
-use borrow.Author.Rules.{rules}
 use borrow.Author.Tests.{leb-true}
 use lib.ListN.{length}
 use lib.Dec.{leb}
@@ -27,9 +26,9 @@ pub returns-then-not-has_room : goal.returns-then-not-has_room
 returns-then-not-has_room c =
     let a = c.args in let all =
     no_room a.out.now (decimal a.n) a.at (said-no (tested (goal.at.returns-then-not-has_room c).After-has_room) c.if-not-has_room.true) in record {
-  value = all.0;
-  out_after = all.1;
-}
+      value = all.0;
+      out_after = all.1;
+    }
 
 pub write_digits-requires : goal.write_digits-requires
 write_digits-requires c =
@@ -38,9 +37,9 @@ write_digits-requires c =
 pub returns : goal.returns
 returns c = let all =
     by-laid (room (goal.at.returns c).Else-not-has_room) c.write_digits.ensures in record {
-  value = all.0;
-  out_after = all.1;
-}
+      value = all.0;
+      out_after = all.1;
+    }
 
 pub overflow_add-at : goal.overflow_add-at
 overflow_add-at c =

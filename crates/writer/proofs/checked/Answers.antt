@@ -15,7 +15,6 @@ use Rattle.tally.specs.Tally.{nothing, Tallies}
 use Rattle.writer.specs.Write.{length_of, write_refusal, written}
 use Rattle.writer.specs.declared.Written.TheVariants.{Bits}
 use Rattle.writer.proofs.Writes.{other-kind, not-clean, then-fault, written-first, written-some}
-use borrow.Author.Rules.{rules}
 use Rattle.writer.proofs.checked.Goals.{After-room_refusal-short, After-tally_words-sum, Else-fault-ne0}
 use Rattle.writer.proofs.checked.Goals as goal
 
@@ -40,7 +39,7 @@ size : (c : After-tally_words-sum) → c.tally_words-sum.result.bits ≡ length_
 size c = (tallied c).bits ∙ zero-add (length_of (record_from c.args.words.now))
 
 -- the first fault, then the room
-given : (c : After-room_refusal-short) →  let a = c.args in
+given : (c : After-room_refusal-short) → let a = c.args in
     write_refusal (record_from a.words.now) a.room ≡ first c.tally_words-sum.result.refusal c.room_refusal-short.result
 unfolding record_from
 given c =

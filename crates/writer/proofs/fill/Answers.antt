@@ -7,14 +7,13 @@ use lib.Seq.{length-take-le}
 use Rattle.bits.specs.Frame.{bytes_for}
 use Rattle.words.specs.RecordWords.{record_from}
 use Rattle.writer.specs.Write.{length_of}
-use borrow.Author.Rules.{rules}
 use native.Mathlib.Omega.{arith}
 use Rattle.writer.proofs.fill.Goals.{After-bytes-count, After-fill_bytes-arg-1}
 use Rattle.writer.proofs.fill.Goals as goal
 
 -- as many bytes as hold the PDU
-counted : (c : After-bytes-count) →  c.bytes-count.result ≡ bytes_for (length_of (record_from c.args.words.now))
-counted c =  c.bytes-count.ensures ∙ ap bytes_for c.requires.3
+counted : (c : After-bytes-count) → c.bytes-count.result ≡ bytes_for (length_of (record_from c.args.words.now))
+counted c = c.bytes-count.ensures ∙ ap bytes_for c.requires.3
 
 -- the part that is lent on has so many
 lent : (c : After-fill_bytes-arg-1) → let k = c.bytes-count.result in
@@ -23,7 +22,7 @@ lent c =
     length-take-le c.bytes-count.result c.args.out.now (omega (arith, counted (goal.at.After-fill_bytes-arg-1 c).After-bytes-count, c.requires.2))
 
 pub fill_bytes-requires : goal.fill_bytes-requires
-fill_bytes-requires c =  (c.requires.0, c.requires.1, lent c ∙ counted (goal.at.fill_bytes-requires c).After-bytes-count)
+fill_bytes-requires c = (c.requires.0, c.requires.1, lent c ∙ counted (goal.at.fill_bytes-requires c).After-bytes-count)
 
 pub returns : goal.returns
 returns c =

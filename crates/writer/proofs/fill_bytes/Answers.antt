@@ -13,7 +13,6 @@ use Rattle.grammar.proofs.Sizes.{pdu-size}
 use Rattle.words.specs.RecordWords.{record_from}
 use Rattle.writer.specs.Write.{length_of}
 use Rattle.writer.proofs.Fills.{filled}
-use borrow.Author.Rules.{rules}
 use native.Mathlib.Omega.{arith}
 use Rattle.writer.proofs.fill_bytes.Goals.{After-put_record-end}
 use Rattle.writer.proofs.fill_bytes.Goals as goal
@@ -24,7 +23,7 @@ put_record-end-requires c =
     (c.requires.0, c.requires.1, record { short = omega arith; fits = omega (arith, c.requires.2) })
 
 -- where the PDU ends, and how many bytes there are
-ended : (c : After-put_record-end) →  let r = record_from c.args.words.now in
+ended : (c : After-put_record-end) → let r = record_from c.args.words.now in
     (c.put_record-end.result ≡ length_of r) × (length c.put_record-end.new.out ≡ bytes_for (length_of r)) × (length_of r ≤ 4096)
 ended c =
     let r = record_from c.args.words.now in

@@ -1,6 +1,5 @@
 -- By whether the bytes are there. Assumes nothing.
 use native.Mathlib.Omega.{arith}
-use borrow.Author.Rules.{rules}
 use borrow.Author.Tests.{le-leb, lt-leb}
 use Rattle.bits.specs.Frame.{bytes_for}
 use Rattle.writer.proofs.room_refusal.Goals as goal

@@ -4,7 +4,6 @@ use Prim.Native.Nat.{ℕ}
 use lib.ListN.{replicate, length-replicate}
 use Rattle.writer.proofs.Writes.{answer_back, out-back, put-spelt}
 use Rattle.writer.proofs.Sized.{sized-record}
-use borrow.Author.Rules.{rules}
 use Rattle.writer.proofs.write.Goals as goal
 
 pub returns : goal.returns

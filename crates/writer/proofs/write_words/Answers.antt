@@ -7,7 +7,6 @@ use Rattle.words.proofs.LegalRecords.{numbers-small}
 use Rattle.writer.specs.Write.{length_of, write_refusal, written, write_is, out_is, write_words_is, write_words_out}
 use Rattle.writer.specs.declared.Written.TheVariants.{Bits}
 use Rattle.writer.proofs.Writes.{has_room, is-legal, refused-some, bits_none, bits-length}
-use borrow.Author.Rules.{rules}
 use Rattle.writer.proofs.write_words.Goals.{In-Bits}
 use Rattle.writer.proofs.write_words.Goals as goal
 

@@ -1,16 +1,21 @@
 //! Tries the program `contents` from outside: `program COMMAND [WORDS...]`, where the command runs it.
 //!
 //! Each case gives it an input and compares what it prints with the reference's listing, or with `refused 7`
-//! and, on standard error, with the entry and the bit that are at fault: every byte of both.
+//! and, on standard error, with the entry and the bit that are at fault: every byte of both. Others give it an
+//! input that cannot be read, or not to its end, which it has to refuse, or an output that cannot be written.
 
 #![forbid(unsafe_code)]
 
+use std::fs::File;
 use std::io::{ErrorKind, Result, Write};
-use std::process::{Command, ExitCode, Stdio};
+use std::os::fd::OwnedFd;
+use std::os::unix::net::UnixStream;
+use std::process::{Child, Command, ExitCode, Stdio};
 use std::thread::sleep;
 use std::time::Duration;
 
-use differential::{Archive, Met, Rng, Size, HEADER, LINE, MAX_BYTES, MAX_ENTRIES, SEED};
+use differential::{Archive, Entry, Met, Pdu, Rng, Size, HEADER, LINE, MAX_BYTES, MAX_ENTRIES, SEED};
+use reference::layout::{record as at, IDENTITY_WORDS, RECORD_WORDS};
 
 /// The archive that holds profile A for user 1/5 of home network 1, captured on day 300.
 const EXAMPLE: [u8; 34] = [
@@ -33,14 +38,23 @@ struct Printed {
     error: String,
 }
 
+/// Starts the program, with its standard error piped.
+fn started(command: &[String], input: Stdio, output: Stdio) -> Result<Child> {
+    Command::new(&command[0]).args(&command[1..]).stdin(input).stdout(output).stderr(Stdio::piped()).spawn()
+}
+
+/// What a program that was started prints until it ends.
+fn ended(child: Child) -> Result<Printed> {
+    let ended = child.wait_with_output()?;
+    let [output, error] =
+        [ended.stdout, ended.stderr].map(|text| String::from_utf8_lossy(&text).into_owned());
+    assert!(ended.status.success(), "the program ended with {}: {error}", ended.status);
+    Ok(Printed { output, error })
+}
+
 /// What the program prints of an input.
 fn printed(command: &[String], input: &[u8], arrival: Arrival) -> Result<Printed> {
-    let mut child = Command::new(&command[0])
-        .args(&command[1..])
-        .stdin(Stdio::piped())
-        .stdout(Stdio::piped())
-        .stderr(Stdio::piped())
-        .spawn()?;
+    let mut child = started(command, Stdio::piped(), Stdio::piped())?;
     let mut stdin = child.stdin.take().expect("its input is piped");
     let written = match arrival {
         AtOnce => stdin.write_all(input),
@@ -52,11 +66,95 @@ fn printed(command: &[String], input: &[u8], arrival: Arrival) -> Result<Printed
     // The program takes no more than it needs, so that the end of a longer input may not be wanted.
     written.or_else(|error| if error.kind() == ErrorKind::BrokenPipe { Ok(()) } else { Err(error) })?;
     drop(stdin);
-    let ended = child.wait_with_output()?;
-    let [output, error] =
-        [ended.stdout, ended.stderr].map(|text| String::from_utf8_lossy(&text).into_owned());
-    assert!(ended.status.success(), "the program ended with {}: {error}", ended.status);
-    Ok(Printed { output, error })
+    ended(child)
+}
+
+/// An input of these bytes, after which it ends or cannot be read.
+fn arriving(input: &[u8], then: End) -> Result<Stdio> {
+    let (mut near, mut far) = UnixStream::pair()?;
+    near.write_all(input)?;
+    if then == End::Failure {
+        // A socket that is closed before it has read what was sent to it makes reading fail at its other end.
+        far.write_all(&[0])?;
+    }
+    drop(near);
+    Ok(OwnedFd::from(far).into())
+}
+
+/// How an input ends.
+#[derive(PartialEq)]
+enum End {
+    Regular,
+    Failure,
+}
+
+/// Gives the program inputs that cannot be read, also after a whole archive, and outputs that cannot be
+/// written; says how many cases it tried, and how many failed.
+fn failures(command: &[String], longest: &[u8]) -> Result<(usize, usize)> {
+    let closing = ["sh", "-c", r#"exec "$@" >&-"#, "sh"].map(String::from);
+    let closed = [&closing, command].concat();
+    let full = || File::options().write(true).open("/dev/full").map(Stdio::from);
+    let refused = ("refused 7\n", "");
+    let cases = [
+        ("a folder", command, File::open("/")?.into(), Stdio::piped(), refused),
+        ("a failing read", command, arriving(&[], End::Failure)?, Stdio::piped(), refused),
+        (
+            "the example, then a failing read",
+            command,
+            arriving(&EXAMPLE, End::Failure)?,
+            Stdio::piped(),
+            refused,
+        ),
+        (
+            "65,536 bytes, then a failing read",
+            command,
+            arriving(longest, End::Failure)?,
+            Stdio::piped(),
+            refused,
+        ),
+        ("a full disk", command, arriving(&EXAMPLE, End::Regular)?, full()?, ("", "")),
+        ("a closed output", &closed, arriving(&EXAMPLE, End::Regular)?, Stdio::piped(), ("", "")),
+        ("no archive, and a full disk", command, arriving(&[], End::Regular)?, full()?, ("", "")),
+    ];
+    let (count, mut failed) = (cases.len(), 0);
+    for (name, command, input, output, expected) in cases {
+        let printed = ended(started(command, input, output)?)?;
+        if (&printed.output[..], &printed.error[..]) != expected {
+            println!("{name}: prints or tells something else than {expected:?}");
+            failed += 1;
+        }
+    }
+    Ok((count, failed))
+}
+
+/// A body of identities for a user of the home network: so many services, and entries of three lists.
+fn body(ssi: u32, services: u32, entries: [u32; 3], extension: u32) -> Pdu {
+    let mut record = [0; RECORD_WORDS];
+    record[at::PDU_TYPE] = 12;
+    record[at::AFFECTED..at::AFFECTED + 2].copy_from_slice(&[1, ssi]);
+    record[at::RESULT] = 1;
+    record[at::SERVICE_COUNT] = services;
+    for (list, count) in [at::GROUPS, at::RESTRICTED, at::EXCEPTIONS].into_iter().zip(entries) {
+        record[list] = count;
+        for entry in 0..count as usize {
+            record[list + 1 + IDENTITY_WORDS * entry + 1] = extension;
+        }
+    }
+    Pdu::of(&record)
+}
+
+/// The archive with the longest listing: in 65,536 bytes 475 of 512 bodies can have a bit length of four digits,
+/// 1,000, if the others have the least of three, 100; all other numbers have the most digits.
+fn longest_listing() -> Vec<u8> {
+    let (home, long, short) = (0xff_ffff, (3, [8, 8, 3], 1), (5, [1, 0, 0], 0));
+    let entry = |index| {
+        let ssi = 0xff_fe00 + index as u32;
+        let (services, entries, extension) = if index < 475 { long } else { short };
+        Entry { user: [home, ssi], part: 1, day: u16::MAX, pdu: body(ssi, services, entries, extension) }
+    };
+    let bytes = Archive { home, entries: (0..MAX_ENTRIES).map(entry).collect() }.bytes();
+    assert_eq!(expected(&bytes).0.output.len(), 23_029);
+    bytes
 }
 
 /// The forms of what is printed.
@@ -93,6 +191,7 @@ fn cases(rng: &mut Rng) -> Vec<(String, Vec<u8>, bool, Arrival)> {
         ("an empty archive".into(), empty, true, AtOnce),
         ("512 entries".into(), full.clone(), true, AtOnce),
         ("512 entries in pieces".into(), full.clone(), true, InPieces(7)),
+        ("the longest listing".into(), longest_listing(), true, AtOnce),
         ("65,536 bytes".into(), longest.clone(), true, AtOnce),
         ("65,536 bytes in pieces".into(), longest.clone(), true, InPieces(5)),
         ("65,537 bytes".into(), too_long, false, AtOnce),
@@ -144,9 +243,10 @@ fn main() -> Result<ExitCode> {
         return Ok(ExitCode::from(2));
     }
     let cases = cases(&mut Rng::new(SEED, 0));
+    let (tried, mut failed) =
+        failures(&command, &Archive::of_length(&mut Rng::new(SEED, 1), MAX_BYTES).bytes())?;
     let mut met = Met::default();
     met.expect("contents", FORMS);
-    let mut failed = 0;
     for (name, input, legal, arrival) in &cases {
         let (expected, form) = expected(input);
         assert_eq!(*legal, form == "listed", "{name} is not the case that it should be");
@@ -161,6 +261,6 @@ fn main() -> Result<ExitCode> {
         }
     }
     let complete = met.report();
-    println!("contents: {} inputs, {failed} failed", cases.len());
+    println!("contents: {} inputs, {tried} reads or writes that fail, {failed} failed", cases.len());
     Ok(if failed == 0 && complete { ExitCode::SUCCESS } else { ExitCode::FAILURE })
 }

@@ -1,7 +1,6 @@
 -- The key's range, then the shape of what is left. Assumes nothing.
 use mathlib.Core.Path.{◌≡◌, ap, ◌∙◌}
 use Prim.Native.Nat.{ℕ}
-use borrow.Author.Rules.{rules}
 use Rattle.bits.proofs.Tests.{said-no, said-yes}
 use Rattle.archive.specs.Model.{rank_of}
 use Rattle.archive.specs.Inner.{rest_shape, fault_is}

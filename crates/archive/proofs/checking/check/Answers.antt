@@ -2,10 +2,9 @@
 use mathlib.Core.Path.{◌≡◌, sym, ap, ◌∙◌, subst}
 use mathlib.Core.Bool.{Bool, true, false}
 use mathlib.Core.List.{List}
-use Prim.Native.Nat.{ℕ, suc, ◌+◌, ◌-◌, ◌*◌, ◌≤◌, ◌<◌}
+use Prim.Native.Nat.{ℕ, suc, ◌+◌, ◌-◌, ◌≤◌, ◌<◌}
 use native.Mathlib.Nat.{add-sub_cancel_left}
 use native.Mathlib.Omega.{arith}
-use borrow.Author.Rules.{rules}
 use borrow.Author.Tests.{leb-true, eq-eqb, ne_eqb}
 use lib.ListN.{length, take, drop}
 use lib.Dec.{leb, eqb}
@@ -96,7 +95,7 @@ agreement c =
     ∙ (λ i. agreement_is (home_of (goal.at.After-body_agreement-agreement c).At-loop-left) (record { entry = c.entry_at-entry.ensures.0 i; body = take (n i) (drop off (b-of (goal.at.After-body_agreement-agreement c).At-loop-left)) }))
 
 -- its day is in two bytes
-dated : (c : After-entry_at-entry) →  (entry_at (b-of (goal.at.After-entry_at-entry c).At-loop-left) c.loop-left.at).day < 65536
+dated : (c : After-entry_at-entry) → (entry_at (b-of (goal.at.After-entry_at-entry c).At-loop-left) c.loop-left.at).day < 65536
 dated c = subst (λ (e : Entry). e.day < 65536) c.entry_at-entry.ensures.0 c.entry_at-entry.ensures.1.day
 
 pub at_fault-requires : goal.at_fault-requires

@@ -1,12 +1,10 @@
 -- Entry by entry, the search from there on finds what the whole search finds. Assumes nothing.
 use mathlib.Core.Path.{◌≡◌, refl, sym, ap, ◌∙◌}
 use mathlib.Core.List.{List}
-use Prim.Native.Nat.{ℕ, ◌+◌, ◌*◌, ◌≤◌}
+use Prim.Native.Nat.{ℕ}
 use native.Mathlib.Omega.{arith}
-use borrow.Author.Rules.{rules}
-use lib.ListN.{length}
 use Rattle.bits.specs.Frame.{bytes_for}
-use Rattle.archive.specs.Model.{Held, rank_of, rank, header_width, entry_width, body_size, sizes}
+use Rattle.archive.specs.Model.{Held, rank_of, rank, header_width, body_size}
 use Rattle.archive.specs.Reading.{held_at, held_from, held_in, bodies_at}
 use Rattle.archive.specs.Inner.{place_of, seek}
 use Rattle.archive.specs.declared.contents.Entry.{Entry}

@@ -1,17 +1,10 @@
 -- Entry by entry, the search from there on finds what the whole search finds. Assumes nothing.
-use mathlib.Core.Path.{◌≡◌, refl, sym, ap, ◌∙◌}
-use mathlib.Core.List.{List}
-use Prim.Native.Nat.{ℕ, ◌+◌, ◌*◌, ◌≤◌}
-use native.Mathlib.Omega.{arith}
-use borrow.Author.Rules.{rules}
+use mathlib.Core.Path.{◌≡◌}
+use Prim.Native.Nat.{◌+◌, ◌*◌, ◌≤◌}
 use lib.ListN.{length}
-use Rattle.bits.specs.Frame.{bytes_for}
-use Rattle.archive.specs.Model.{Held, rank_of, rank, header_width, entry_width, body_size, sizes}
-use Rattle.archive.specs.Reading.{held_at, held_from, held_in, bodies_at}
-use Rattle.archive.specs.Inner.{place_of, seek}
-use Rattle.archive.specs.declared.contents.Entry.{Entry}
-use Rattle.archive.proofs.Bytes.Walking.{sizes-next, seek-past, seek-held, seek_gap, seek-none}
-use Rattle.archive.proofs.Bytes.Checking.{sound}
+use Rattle.archive.specs.Model.{header_width, entry_width, sizes}
+use Rattle.archive.specs.Reading.{held_from, held_in, bodies_at}
+use Rattle.archive.specs.Inner.{seek}
 use Rattle.archive.proofs.checking.find.Given as goal
 
 abbrev pub invariant-loop-left : goal.invariant-loop-left

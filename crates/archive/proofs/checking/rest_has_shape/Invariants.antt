@@ -1,18 +1,9 @@
 -- Entry by entry, what is left decides about the shape. Assumes nothing.
-use mathlib.Core.Path.{◌≡◌, refl, sym, ap, ◌∙◌, subst}
-use mathlib.Core.Bool.{Bool, true, ◌&&◌}
-use mathlib.Core.List.{List}
-use Prim.Native.Nat.{ℕ, ◌+◌, ◌-◌, ◌*◌, ◌≤◌, ◌<◌}
-use native.Mathlib.Omega.{arith}
-use borrow.Author.Rules.{rules}
+use mathlib.Core.Path.{◌≡◌}
+use Prim.Native.Nat.{◌+◌, ◌*◌, ◌≤◌}
 use lib.ListN.{length}
-use Rattle.bits.specs.Frame.{bytes_for}
-use Rattle.bits.proofs.Tests.{said-no, said-yes}
-use Rattle.archive.specs.Model.{rank_of, in_range, entry_width}
-use Rattle.archive.specs.Reading.{entry_at, size_at}
-use Rattle.archive.specs.Inner.{may_follow, rest_shape}
-use Rattle.archive.specs.declared.contents.Entry.{Entry}
-use Rattle.archive.proofs.Bytes.Checking.{follows-not, follows, room_for, shape-none}
+use Rattle.archive.specs.Model.{entry_width}
+use Rattle.archive.specs.Inner.{rest_shape}
 use Rattle.archive.proofs.checking.rest_has_shape.Given as goal
 
 abbrev pub invariant-loop-left : goal.invariant-loop-left

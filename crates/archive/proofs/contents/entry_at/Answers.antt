@@ -1,5 +1,4 @@
 -- Each number is the one at its place, and fits its bytes. Assumes nothing.
-use borrow.Author.Rules.{rules}
 use Rattle.archive.proofs.contents.entry_at.Goals as goal
 
 pub returns : goal.returns

@@ -1,6 +1,5 @@
 -- Each byte is a digit of its number. Assumes nothing.
 use mathlib.Core.Path.{refl}
-use borrow.Author.Rules.{rules}
 use Rattle.archive.specs.Model.{entry_bytes}
 use Rattle.archive.proofs.contents.entry_bytes.Goals as goal
 

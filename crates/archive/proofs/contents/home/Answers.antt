@@ -1,6 +1,5 @@
 -- The number of the first three bytes, where there is a header. Assumes nothing.
 use mathlib.Core.Path.{◌∙◌}
-use borrow.Author.Rules.{rules}
 use borrow.Author.Tests.{le-leb, lt-leb}
 use Rattle.archive.specs.Reading.{home_of}
 use Rattle.archive.proofs.contents.home.Goals as goal

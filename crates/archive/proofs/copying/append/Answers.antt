@@ -1,5 +1,4 @@
 -- What the writer leaves in the part that is lent on is the bytes, and all around it stays. Assumes nothing.
-use borrow.Author.Rules.{rules}
 use Rattle.archive.proofs.Bytes.Copied.{lent}
 use Rattle.archive.proofs.copying.append.Goals as goal
 

@@ -1,6 +1,5 @@
 -- The front, then the back. Assumes nothing.
 use native.Mathlib.Omega.{arith}
-use borrow.Author.Rules.{rules}
 use Rattle.bits.proofs.Laying.{then}
 use Rattle.archive.proofs.Bytes.Copied.{length_front}
 use Rattle.archive.proofs.copying.splice.Goals as goal

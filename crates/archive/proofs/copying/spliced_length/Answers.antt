@@ -1,6 +1,5 @@
 -- The sum of the parts' lengths. Assumes nothing.
 use native.Mathlib.Omega.{arith}
-use borrow.Author.Rules.{rules}
 use Rattle.archive.proofs.copying.spliced_length.Goals as goal
 
 pub returns : goal.returns

@@ -1,9 +1,7 @@
 -- Byte by byte: those passed are the body's, the others as they were. Assumes nothing.
-use mathlib.Core.Path.{◌≡◌, refl, ◌∙◌}
-use mathlib.Core.List.{◌++◌}
-use Prim.Native.Nat.{◌≤◌, ◌-◌}
+use mathlib.Core.Path.{refl, ◌∙◌}
 use native.Mathlib.Omega.{arith}
-use lib.ListN.{length, take, drop, length-set}
+use lib.ListN.{length-set}
 use Rattle.archive.proofs.Bytes.Copied.{copied-one, copied_all}
 use Rattle.archive.proofs.copying.write_body.Goals as goal
 

@@ -2,7 +2,6 @@
 use mathlib.Core.Path.{◌≡◌, ap, ◌∙◌}
 use Prim.Native.Nat.{ℕ}
 use native.Mathlib.Omega.{arith}
-use borrow.Author.Rules.{rules}
 use Rattle.bits.proofs.Laying.{then}
 use Rattle.archive.specs.Model.{header_bytes}
 use Rattle.archive.specs.Reading.{home_of}

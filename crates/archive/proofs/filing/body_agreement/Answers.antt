@@ -1,7 +1,6 @@
 -- The walk's refusal, or whether the accepted PDU is filed under the entry. Assumes nothing.
 use mathlib.Core.Path.{◌≡◌, sym, ap, ◌∙◌}
 use mathlib.Core.Bool.{Bool}
-use borrow.Author.Rules.{rules}
 use Rattle.bits.specs.Bits.{pick}
 use Rattle.walk.specs.declared.BitPlace.TheVariants.{Nowhere}
 use Rattle.archive.specs.Inner.{agreement_is}

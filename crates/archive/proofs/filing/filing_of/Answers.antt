@@ -1,6 +1,5 @@
 -- What judging says of the head is what is filed. Assumes nothing.
 use mathlib.Core.Path.{sym, ◌∙◌}
-use borrow.Author.Rules.{rules}
 use Rattle.archive.proofs.Model.Bodies.{filing-other, filing-part}
 use Rattle.archive.proofs.filing.filing_of.Goals as goal
 

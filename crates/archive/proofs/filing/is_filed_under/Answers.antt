@@ -1,6 +1,5 @@
 -- The PDU's own key, compared number by number. Assumes nothing.
 use mathlib.Core.Path.{◌≡◌, sym, ap, ◌∙◌}
-use borrow.Author.Rules.{rules}
 use borrow.Author.Tests.{eq-eqb, ne_eqb}
 use Rattle.archive.specs.Filing.{same_key, agrees}
 use Rattle.archive.specs.Inner.{filing_under}

@@ -1,9 +1,7 @@
 -- Each turn passes the last digit of what is left. Assumes nothing.
-use mathlib.Core.Path.{◌≡◌, ap}
-use Prim.Native.Nat.{◌+◌, ◌≤◌}
+use mathlib.Core.Path.{ap}
 use native.Mathlib.Omega.{arith}
 use lib.ListN.{length}
-use Rattle.archive.specs.Listing.{decimal}
 use Rattle.archive.proofs.Text.Decimal.{decimal-one, length_more, within}
 use Rattle.archive.proofs.listing.digits_of.Goals as goal
 

@@ -1,10 +1,8 @@
 -- Each turn passes the last digit of what is left. Assumes nothing.
-use mathlib.Core.Path.{◌≡◌, ap}
+use mathlib.Core.Path.{◌≡◌}
 use Prim.Native.Nat.{◌+◌, ◌≤◌}
-use native.Mathlib.Omega.{arith}
 use lib.ListN.{length}
 use Rattle.archive.specs.Listing.{decimal}
-use Rattle.archive.proofs.Text.Decimal.{decimal-one, length_more, within}
 use Rattle.archive.proofs.listing.digits_of.Given as goal
 
 abbrev pub invariant-loop-rest : goal.invariant-loop-rest

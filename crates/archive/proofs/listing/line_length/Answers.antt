@@ -1,6 +1,5 @@
 -- The digits of five numbers, and the words. Assumes nothing.
 use native.Mathlib.Omega.{arith}
-use borrow.Author.Rules.{rules}
 use Rattle.archive.proofs.Text.Lines.{length-line}
 use Rattle.archive.proofs.listing.line_length.Goals as goal
 

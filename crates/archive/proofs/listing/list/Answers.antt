@@ -3,7 +3,6 @@ use mathlib.Core.Path.{◌≡◌, sym, ap, ◌∙◌}
 use mathlib.Core.Bool.{true, false}
 use Prim.Native.Nat.{ℕ}
 use native.Mathlib.Omega.{arith}
-use borrow.Author.Rules.{rules}
 use borrow.Author.Tests.{le-leb, lt-leb}
 use lib.ListN.{length}
 use lib.Dec.{leb}
@@ -25,9 +24,9 @@ pub returns-in-Refused : goal.returns-in-Refused
 unfolding list_is list_out
 returns-in-Refused c =
     let e = sym c.check-checked.ensures ∙ c.in-Refused.is in record {
-  value = rw e;
-  out_after = rw e;
-}
+      value = rw e;
+      out_after = rw e;
+    }
 
 pub returns-then-out-text_length : goal.returns-then-out-text_length
 unfolding list_is list_out
@@ -35,9 +34,9 @@ returns-then-out-text_length c =
     let a = c.args in
     let k : leb (length (listing (reading a.archive.now))) (length a.out.now) ≡ false =
     lt-leb (length (listing (reading a.archive.now))) (length a.out.now) (omega (arith, c.text_length.ensures)) in record {
-  value = rw (c.plain.ensures, ok (goal.at.returns-then-out-text_length c).In_default, k);
-  out_after = rw (ok (goal.at.returns-then-out-text_length c).In_default, k);
-}
+      value = rw (c.plain.ensures, ok (goal.at.returns-then-out-text_length c).In_default, k);
+      out_after = rw (ok (goal.at.returns-then-out-text_length c).In_default, k);
+    }
 
 pub write_text-requires : goal.write_text-requires
 write_text-requires c =
@@ -50,9 +49,9 @@ returns c =
     let k : leb (length (listing (reading a.archive.now))) (length a.out.now) ≡ true =
     le-leb (length (listing (reading a.archive.now))) (length a.out.now) (omega (arith, c.text_length.ensures)) in
     let w = at_front c.write_text.ensures in record {
-  value = rw (ok (goal.at.returns c).In_default, k) (ap (λ (n : ℕ). Bytes n) w.0);
-  out_after = rw (ok (goal.at.returns c).In_default, k) w.1;
-}
+      value = rw (ok (goal.at.returns c).In_default, k) (ap (λ (n : ℕ). Bytes n) w.0);
+      out_after = rw (ok (goal.at.returns c).In_default, k) w.1;
+    }
 
 pub text_length-requires : goal.text_length-requires
 text_length-requires c =

@@ -1,6 +1,5 @@
 -- By the check: `refused 7` and where, or the listing. Assumes nothing.
 use mathlib.Core.Path.{sym, ◌∙◌}
-use borrow.Author.Rules.{rules}
 use Rattle.archive.specs.Listing.{report_of, told_of, report_is, report_out, told_out}
 use Rattle.archive.proofs.Model.Checked.{checked-archive}
 use Rattle.archive.proofs.Text.Within.{nothing}
@@ -10,20 +9,20 @@ pub returns-in-Refused : goal.returns-in-Refused
 unfolding report_of told_of report_is report_out told_out
 returns-in-Refused c =
     let e = sym c.check.ensures ∙ c.in-Refused.is in record {
-  value = rw e (λ i. record { printed = c.write_refused.ensures.value i; told = c.write_fault.ensures.value i });
-  out_after = rw e c.write_refused.ensures.out_after;
-  told_after = rw e c.write_fault.ensures.out_after;
-}
+      value = rw e (λ i. record { printed = c.write_refused.ensures.value i; told = c.write_fault.ensures.value i });
+      out_after = rw e c.write_refused.ensures.out_after;
+      told_after = rw e c.write_fault.ensures.out_after;
+    }
 
 pub returns-in-Archive : goal.returns-in-Archive
 unfolding report_of told_of report_is report_out told_out
 returns-in-Archive c =
     let none = nothing c.args.told.now in
     let e = sym c.check.ensures ∙ c.in-Archive.is in record {
-  value = rw e (λ i. record { printed = c.write_listing.ensures.value i; told = none.0 i });
-  out_after = rw e c.write_listing.ensures.out_after;
-  told_after = rw e none.1;
-}
+      value = rw e (λ i. record { printed = c.write_listing.ensures.value i; told = none.0 i });
+      out_after = rw e c.write_listing.ensures.out_after;
+      told_after = rw e none.1;
+    }
 
 pub write_listing-requires : goal.write_listing-requires
 write_listing-requires c = checked-archive _ (sym c.check.ensures ∙ c.in-Archive.is)

@@ -1,5 +1,4 @@
 -- One store. Assumes nothing.
-use borrow.Author.Rules.{rules}
 use Rattle.bits.proofs.Laying.{one}
 use Rattle.archive.proofs.listing.write_byte.Goals as goal
 

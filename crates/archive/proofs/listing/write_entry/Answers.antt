@@ -3,7 +3,6 @@ use mathlib.Core.Path.{◌≡◌}
 use mathlib.Core.List.{◌++◌}
 use Prim.Native.Nat.{ℕ, ◌+◌, ◌≤◌}
 use native.Mathlib.Omega.{arith}
-use borrow.Author.Rules.{rules}
 use lib.ListN.{length, length-append}
 use Rattle.bits.proofs.Laying.{then, rest-fits}
 use Rattle.walk.specs.declared.BitPlace.TheVariants as bit
@@ -21,13 +20,13 @@ pub returns-then-out-digits_of : goal.returns-then-out-digits_of
 returns-then-out-digits_of c =
     let i = c.args.index in let all =
     too_long (fault_text (entry.At i) bit.Nowhere) _ (omega (arith, size i, c.digits_of.ensures.0, c.if-out-digits_of.true)) in record {
-  value = all.0;
-  out_after = all.1;
-}
+      value = all.0;
+      out_after = all.1;
+    }
 
 -- room for the whole
 whole : (c : Else-out-digits_of) → let a = c.args in 0 + length (fault_text (entry.At a.index) bit.Nowhere) ≤ length a.out.now
-whole c =  omega (arith, size c.args.index, c.digits_of.ensures.0, c.if-out-digits_of.false)
+whole c = omega (arith, size c.args.index, c.digits_of.ensures.0, c.if-out-digits_of.false)
 
 pub write_item-requires : goal.write_item-requires
 unfolding fault_text
@@ -40,6 +39,6 @@ returns c =
     let a = c.args in let all =
     laid-whole (entry_word ++ item a.index line_end) a.out.now (omega (arith, whole (goal.at.returns c).Else-out-digits_of))
     (then (omega (arith, whole (goal.at.returns c).Else-out-digits_of)) c.append-index_at.ensures c.write_item.ensures) in record {
-  value = all.0;
-  out_after = all.1;
-}
+      value = all.0;
+      out_after = all.1;
+    }

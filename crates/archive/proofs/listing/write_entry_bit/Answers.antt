@@ -2,7 +2,6 @@
 use mathlib.Core.Path.{◌≡◌}
 use Prim.Native.Nat.{ℕ, ◌+◌, ◌≤◌}
 use native.Mathlib.Omega.{arith}
-use borrow.Author.Rules.{rules}
 use lib.ListN.{length}
 use Rattle.walk.specs.declared.BitPlace.TheVariants as bit
 use Rattle.archive.specs.Listing.{decimal, entry_word, bit_word, fault_text}
@@ -21,9 +20,9 @@ returns-then-out-digits_of c =
     let a = c.args in let all =
     too_long (fault_text (entry.At a.index) (bit.At a.bit)) _
     (omega (arith, size a.index a.bit, c.digits_of.ensures.0, c.digits_of-2.ensures.0, c.if-out-digits_of.true)) in record {
-  value = all.0;
-  out_after = all.1;
-}
+      value = all.0;
+      out_after = all.1;
+    }
 
 -- room for the whole
 whole : (c : Else-out-digits_of) → let a = c.args in
@@ -40,6 +39,6 @@ pub returns : goal.returns
 unfolding fault_text
 returns c = let all =
     laid-whole _ _ (whole (goal.at.returns c).Else-out-digits_of) c.write_two_items.ensures in record {
-  value = all.0;
-  out_after = all.1;
-}
+      value = all.0;
+      out_after = all.1;
+    }

@@ -1,5 +1,4 @@
 -- By entry and place. Assumes nothing.
-use borrow.Author.Rules.{rules}
 use Rattle.archive.specs.Listing.{fault_text}
 use Rattle.archive.proofs.Text.Within.{nothing}
 use Rattle.archive.proofs.listing.write_fault.Goals as goal

@@ -1,5 +1,4 @@
 -- The line of the home network and the entry count. Assumes nothing.
-use borrow.Author.Rules.{rules}
 use Rattle.archive.specs.Listing.{first_line}
 use Rattle.archive.proofs.listing.write_first.Goals as goal
 

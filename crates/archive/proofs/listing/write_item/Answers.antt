@@ -1,6 +1,5 @@
 -- The number, then the word. Assumes nothing.
 use native.Mathlib.Omega.{arith}
-use borrow.Author.Rules.{rules}
 use Rattle.bits.proofs.Laying.{then, first_fits, rest-fits}
 use Rattle.archive.specs.Listing.{item, decimal}
 use Rattle.archive.proofs.listing.write_item.Goals as goal

@@ -2,7 +2,6 @@
 use mathlib.Core.List.{List, ◌++◌}
 use Prim.Native.Nat.{ℕ, ◌+◌, ◌≤◌}
 use native.Mathlib.Omega.{arith}
-use borrow.Author.Rules.{rules}
 use lib.ListN.{length}
 use Rattle.bits.proofs.Laying.{then, first_fits, rest-fits}
 use Rattle.archive.specs.Listing.{space, part_word, bits_word, day_word, line_end, item, line}

@@ -1,13 +1,12 @@
 -- Whatever lays the lines that are left lays them all: each turn lays one. Assumes nothing.
 use mathlib.Core.Path.{◌≡◌, refl, sym, ap, ◌∙◌, subst}
 use mathlib.Core.List.{List, ◌++◌}
-use Prim.Native.Nat.{ℕ, ◌+◌, ◌-◌, ◌*◌, ◌≤◌}
+use Prim.Native.Nat.{ℕ, ◌+◌, ◌-◌, ◌≤◌}
 use native.Mathlib.Omega.{arith}
 use lib.ListN.{length}
 use Rattle.bits.specs.Inner.{Laid}
 use Rattle.bits.proofs.Laying.{then, none, first_fits, rest-fits}
-use Rattle.archive.specs.Model.{header_width, entry_width}
-use Rattle.archive.specs.Reading.{count_of}
+use Rattle.archive.specs.Model.{entry_width}
 use Rattle.archive.specs.Inner.{lines_from}
 use Rattle.archive.specs.Listing.{line}
 use Rattle.archive.specs.declared.contents.Entry.{Entry}
@@ -45,14 +44,14 @@ write_line-at-requires c =
 
 pub loop-left-preserved : goal.loop-left-preserved
 loop-left-preserved c = (
-      omega arith,
-      c.write_line-at.auto.out ∙ c.loop-left.invariant.1,
-      rest-fits (others (goal.at.loop-left-preserved c).At-loop-left) (room (goal.at.loop-left-preserved c).After-entry_at) c.write_line-at.ensures,
-      λ out' end rest.
-          c.loop-left.invariant.3 out' end
-          (subst (λ (s : List ℕ). Laid c.loop-left.out c.loop-left.at s out' end) (sym (turn (goal.at.loop-left-preserved c).After-entry_at))
-          (then (omega (arith, room (goal.at.loop-left-preserved c).After-entry_at)) c.write_line-at.ensures rest)),
-    )
+  omega arith,
+  c.write_line-at.auto.out ∙ c.loop-left.invariant.1,
+  rest-fits (others (goal.at.loop-left-preserved c).At-loop-left) (room (goal.at.loop-left-preserved c).After-entry_at) c.write_line-at.ensures,
+  λ out' end rest.
+      c.loop-left.invariant.3 out' end
+      (subst (λ (s : List ℕ). Laid c.loop-left.out c.loop-left.at s out' end) (sym (turn (goal.at.loop-left-preserved c).After-entry_at))
+      (then (omega (arith, room (goal.at.loop-left-preserved c).After-entry_at)) c.write_line-at.ensures rest)),
+)
 
 pub shape_of-out : goal.shape_of-out
 shape_of-out c = c.loop-left.invariant.1

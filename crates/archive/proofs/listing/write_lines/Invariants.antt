@@ -1,17 +1,12 @@
 -- Whatever lays the lines that are left lays them all: each turn lays one. Assumes nothing.
-use mathlib.Core.Path.{◌≡◌, refl, sym, ap, ◌∙◌, subst}
-use mathlib.Core.List.{List, ◌++◌}
-use Prim.Native.Nat.{ℕ, ◌+◌, ◌-◌, ◌*◌, ◌≤◌}
-use native.Mathlib.Omega.{arith}
+use mathlib.Core.Path.{◌≡◌}
+use mathlib.Core.List.{List}
+use Prim.Native.Nat.{ℕ, ◌+◌, ◌*◌, ◌≤◌}
 use lib.ListN.{length}
 use Rattle.bits.specs.Inner.{Laid}
-use Rattle.bits.proofs.Laying.{then, none, first_fits, rest-fits}
 use Rattle.archive.specs.Model.{header_width, entry_width}
 use Rattle.archive.specs.Reading.{count_of}
 use Rattle.archive.specs.Inner.{lines_from}
-use Rattle.archive.specs.Listing.{line}
-use Rattle.archive.specs.declared.contents.Entry.{Entry}
-use Rattle.archive.proofs.Text.Lines.{lines_from-next, lines_from-none}
 use Rattle.archive.proofs.listing.write_lines.Given as goal
 
 abbrev pub invariant-loop-left : goal.invariant-loop-left

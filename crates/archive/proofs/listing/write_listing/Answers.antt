@@ -2,7 +2,6 @@
 use Prim.Native.Nat.{◌≤◌}
 use native.Mathlib.Omega.{arith}
 use lib.ListN.{length}
-use borrow.Author.Rules.{rules}
 use Rattle.archive.specs.Reading.{reading}
 use Rattle.archive.specs.Listing.{listing}
 use Rattle.archive.proofs.Text.Within.{too_long, laid-whole}
@@ -12,18 +11,18 @@ pub returns-then-out-text_length : goal.returns-then-out-text_length
 returns-then-out-text_length c =
     let a = c.args in let all =
     too_long (listing (reading a.archive.now)) a.out.now (omega (arith, c.text_length.ensures, c.if-out-text_length.true)) in record {
-  value = all.0;
-  out_after = all.1;
-}
+      value = all.0;
+      out_after = all.1;
+    }
 
 pub returns : goal.returns
 returns c =
     let a = c.args in
     let fits : length (listing (reading a.archive.now)) ≤ length a.out.now = omega (arith, c.text_length.ensures, c.if-out-text_length.false) in let all =
     laid-whole (listing (reading a.archive.now)) a.out.now fits c.write_text.ensures in record {
-  value = all.0;
-  out_after = all.1;
-}
+      value = all.0;
+      out_after = all.1;
+    }
 
 pub text_length-requires : goal.text_length-requires
 text_length-requires c =

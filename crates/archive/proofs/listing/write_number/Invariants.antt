@@ -1,15 +1,11 @@
 -- Each turn puts the last digit of what is left in front of those that are there: whatever lays the digits left lays them all.
 -- Assumes nothing.
-use mathlib.Core.Path.{◌≡◌, refl, sym, ap, ◌∙◌, subst}
-use mathlib.Core.List.{List, [], ◌∷◌, ◌++◌}
-use Prim.Native.Nat.{ℕ, ◌+◌, ◌-◌, ◌/◌, ◌%◌, ◌≤◌}
-use native.Mathlib.Omega.{arith}
-use borrow.Author.Rules.{rules}
+use mathlib.Core.Path.{◌≡◌}
+use mathlib.Core.List.{List}
+use Prim.Native.Nat.{ℕ, ◌+◌, ◌≤◌}
 use lib.ListN.{length}
 use Rattle.bits.specs.Inner.{Laid}
-use Rattle.archive.specs.Listing.{digit, decimal}
-use Rattle.archive.proofs.Text.Decimal.{decimal-one, decimal-more, length_more}
-use Rattle.archive.proofs.Bytes.Copied.{before_it}
+use Rattle.archive.specs.Listing.{decimal}
 use Rattle.archive.proofs.listing.write_number.Given as goal
 
 abbrev pub invariant-loop-rest : goal.invariant-loop-rest

@@ -3,7 +3,6 @@ use mathlib.Core.Path.{◌≡◌, sym, ap, ◌∙◌}
 use mathlib.Core.List.{List, ◌++◌}
 use Prim.Native.Nat.{ℕ, ◌+◌, ◌≤◌}
 use native.Mathlib.Omega.{arith}
-use borrow.Author.Rules.{rules}
 use lib.ListN.{length}
 use Rattle.bits.proofs.Laying.{then, first_fits, rest-fits}
 use Rattle.archive.specs.Model.{header_width}
@@ -36,9 +35,9 @@ room c = omega (arith, ap length (parts c), c.requires.1)
 pub write_lines-requires : goal.write_lines-requires
 write_lines-requires c =
     let s = sound (b-of (goal.at.write_lines-requires c).After-count) c.requires.0 in record {
-  archive_in_bounds = omega (arith, s.whole);
-  archive_in_bounds_2 = rest-fits (rest (goal.at.write_lines-requires c).After-count) (room (goal.at.write_lines-requires c).After-count) c.write_first-lines_at.ensures;
-}
+      archive_in_bounds = omega (arith, s.whole);
+      archive_in_bounds_2 = rest-fits (rest (goal.at.write_lines-requires c).After-count) (room (goal.at.write_lines-requires c).After-count) c.write_first-lines_at.ensures;
+    }
 
 pub returns : goal.returns
 returns c =

@@ -2,7 +2,6 @@
 use mathlib.Core.List.{◌++◌}
 use Prim.Native.Nat.{◌+◌, ◌≤◌}
 use native.Mathlib.Omega.{arith}
-use borrow.Author.Rules.{rules}
 use lib.ListN.{length}
 use Rattle.bits.proofs.Laying.{then, first_fits, rest-fits}
 use Rattle.archive.specs.Listing.{line_end, item, two_items}

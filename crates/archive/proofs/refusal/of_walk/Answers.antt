@@ -1,6 +1,5 @@
 -- The walk's answer, case by case. Assumes nothing.
 use mathlib.Core.Path.{sym, ap, ◌∙◌}
-use borrow.Author.Rules.{rules}
 use Rattle.archive.specs.Inner.{walked_refusal}
 use Rattle.archive.proofs.refusal.of_walk.Goals as goal
 

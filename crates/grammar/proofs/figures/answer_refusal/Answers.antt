@@ -1,5 +1,4 @@
 -- Result, then delivery status. Assumes nothing.
-use borrow.Author.Rules.{rules}
 use mathlib.Core.Path.{refl, ◌∙◌}
 use Rattle.grammar.proofs.Rows.{first_some, number-most}
 use borrow.Author.Tests.{le-leb}

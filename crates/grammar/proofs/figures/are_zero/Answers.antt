@@ -1,5 +1,4 @@
 -- Three, three and three. Assumes nothing.
-use borrow.Author.Rules.{rules}
 use Rattle.bits.proofs.Tests.{said-no, said-yes}
 use Rattle.grammar.proofs.figures.are_zero.Goals as goal
 

@@ -1,5 +1,4 @@
 -- Delivery first. Assumes nothing.
-use borrow.Author.Rules.{rules}
 use borrow.Author.Tests.{le-leb, lt-leb}
 use Rattle.grammar.proofs.figures.definition_refusal.Goals as goal
 

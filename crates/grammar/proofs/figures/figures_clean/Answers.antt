@@ -1,5 +1,4 @@
 -- Each type leaves its own figures out. Assumes nothing.
-use borrow.Author.Rules.{rules}
 use Rattle.codec.specs.Parts.{seq, shaped, number, absent, element, tested}
 use Rattle.grammar.specs.Grammar.{none, figures}
 use Rattle.grammar.proofs.figures.figures_clean.Goals as goal

@@ -1,5 +1,4 @@
 -- Each type has its figures in their places. Assumes nothing.
-use borrow.Author.Rules.{rules}
 use Rattle.grammar.specs.Rows.{figures_in}
 use Rattle.grammar.proofs.figures.figures_in.Goals as goal
 

@@ -1,5 +1,4 @@
 -- Each type has its refusals. Assumes nothing.
-use borrow.Author.Rules.{rules}
 use mathlib.Core.Path.{sym, ◌∙◌}
 use native.Mathlib.Omega.{arith}
 use Rattle.codec.specs.Parts.{seq, shaped, number, absent, element, tested}

@@ -1,5 +1,4 @@
 -- Each type has its run of bits. Assumes nothing.
-use borrow.Author.Rules.{rules}
 use Rattle.grammar.specs.Rows.{run_of}
 use Rattle.grammar.proofs.figures.figures_run.Goals as goal
 

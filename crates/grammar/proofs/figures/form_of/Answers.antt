@@ -1,5 +1,4 @@
 -- Each type has its row. Assumes nothing.
-use borrow.Author.Rules.{rules}
 use Rattle.grammar.specs.Rows.{form_of}
 use Rattle.grammar.proofs.figures.form_of.Goals as goal
 

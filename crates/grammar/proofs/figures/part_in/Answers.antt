@@ -1,5 +1,4 @@
 -- Each type has its part. Assumes nothing.
-use borrow.Author.Rules.{rules}
 use Rattle.grammar.specs.Rows.{part_in}
 use Rattle.grammar.proofs.figures.part_in.Goals as goal
 

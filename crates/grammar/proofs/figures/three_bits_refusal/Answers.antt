@@ -1,5 +1,4 @@
 -- Wider than its element, or as reserved. Assumes nothing.
-use borrow.Author.Rules.{rules}
 use borrow.Author.Tests.{lt-ltb, le-ltb}
 use native.Mathlib.Omega.{arith}
 use Rattle.grammar.proofs.figures.three_bits_refusal.Goals as goal

@@ -1,5 +1,4 @@
 -- Each meaning has its refusal. Assumes nothing.
-use borrow.Author.Rules.{rules}
 use Rattle.grammar.specs.SiteSheet.{digit_refusal}
 use Rattle.grammar.proofs.site.digit_refusal.Goals as goal
 

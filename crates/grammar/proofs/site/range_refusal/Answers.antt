@@ -1,5 +1,4 @@
 -- Each meaning has its refusal in each kind of list. Assumes nothing.
-use borrow.Author.Rules.{rules}
 use Rattle.grammar.specs.SiteSheet.{range_refusal}
 use Rattle.grammar.proofs.site.range_refusal.Goals as goal
 

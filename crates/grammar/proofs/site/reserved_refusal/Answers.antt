@@ -1,5 +1,4 @@
 -- By `between_refusal`. Assumes nothing.
-use borrow.Author.Rules.{rules}
 use borrow.Author.Tests.{eq-eqb, ne_eqb}
 use Rattle.grammar.proofs.Codes.{reserved-between}
 use Rattle.grammar.proofs.site.reserved_refusal.Goals as goal

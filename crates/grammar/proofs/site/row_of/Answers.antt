@@ -1,6 +1,5 @@
 -- The sixteen rows are the rule's values at 0 to 15, which antt computes in one test. Assumes nothing.
 use native.Mathlib.Omega.{arith}
-use borrow.Author.Rules.{rules}
 use borrow.Author.Tests.{lt-leb, ne_eqb}
 use Rattle.bits.proofs.Table.{at}
 use Rattle.grammar.specs.SiteSheet.{range_type, row_of}

@@ -1,5 +1,4 @@
 -- Each meaning has its refusal. Assumes nothing.
-use borrow.Author.Rules.{rules}
 use Rattle.grammar.specs.SiteSheet.{service_refusal}
 use Rattle.grammar.proofs.site.service_refusal.Goals as goal
 

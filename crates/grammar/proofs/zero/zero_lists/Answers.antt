@@ -1,5 +1,4 @@
 -- All of it is zero. Assumes nothing.
-use borrow.Author.Rules.{rules}
 use Rattle.grammar.proofs.zero.zero_lists.Goals as goal
 
 pub returns : goal.returns

@@ -1,12 +1,9 @@
 -- Each turn passes an entry. Assumes nothing.
-use mathlib.Core.Logic.{⊎_elim}
 use Prim.Native.Nat.{◌-◌}
-use borrow.Author.Rules.{rules}
 use Rattle.bits.specs.Bits.{bits}
 use Rattle.grammar.specs.Grammar.{identity, no_identity}
-use Rattle.grammar.proofs.Steps.{no_identity-at}
 use Rattle.rules.specs.Matching.{is_entry}
-use Rattle.in_place.proofs.Among.{Along, along-none, along-next, along-more, along-all, kept, missed}
+use Rattle.in_place.proofs.Among.{Along}
 use Rattle.in_place.proofs.identities.mixed_at.Given as goal
 
 abbrev pub invariant-loop-done : goal.invariant-loop-done

@@ -1,10 +1,6 @@
 -- Each turn passes an entry, by its present bit. Assumes nothing.
-use Prim.Native.Nat.{◌+◌, ◌-◌, ◌≤◌, ◌<◌}
-use native.Mathlib.Omega.{arith}
-use borrow.Author.Rules.{rules}
-use Rattle.walk.proofs.Sights.{bit_lt}
-use Rattle.in_place.proofs.Among.{along-none}
-use Rattle.in_place.proofs.Skipping.{Over, over-near, over-more, over-all}
+use Prim.Native.Nat.{◌-◌}
+use Rattle.in_place.proofs.Skipping.{Over}
 use Rattle.in_place.proofs.identities.mixed_end.Given as goal
 
 abbrev pub invariant-loop-done : goal.invariant-loop-done

@@ -3,7 +3,6 @@ use mathlib.Core.Path.{◌≡◌, sym, ap₂, ◌∙◌, subst}
 use mathlib.Core.List.{List}
 use Prim.Native.Nat.{ℕ}
 use lib.ListN.{get_or}
-use borrow.Author.Rules.{rules}
 use Rattle.bits.specs.Bits.{bits}
 use Rattle.codec.specs.Places.{places}
 use Rattle.grammar.specs.Grammar.{identity, no_identity, zero_identity}
@@ -48,7 +47,7 @@ entry_at-last-requires c =
     record { few = c.requires.few; reads = record { value = x.entry; end = x.middle; read = x.first } }
 
 pub returns : goal.returns
-returns c =  
+returns c =
     let x = ends (goal.at.returns c).Start in
     let y = last (goal.at.returns c).After-entry_at-first in
     let o = read-once y.first c.entry_at-last.ensures in

@@ -1,17 +1,15 @@
 -- As long as each entry ends where it was expected to. Assumes nothing.
 use mathlib.Core.Path.{subst}
-use mathlib.Core.Logic.{⊎_elim}
-use Prim.Native.Nat.{ℕ, ◌-◌}
+use Prim.Native.Nat.{ℕ}
 use native.Mathlib.Omega.{arith}
-use borrow.Author.Rules.{rules}
 use Rattle.bits.specs.Bits.{bits}
 use Rattle.bits.proofs.Bytes.{length-bits}
-use Rattle.grammar.specs.Grammar.{identity, no_identity}
+use Rattle.grammar.specs.Grammar.{identity}
 use Rattle.grammar.proofs.Steps.{no_identity-at}
 use Rattle.reader.proofs.Elements.{identity-short}
 use Rattle.rules.specs.Matching.{is_entry}
 use Rattle.in_place.specs.Inner.{Says}
-use Rattle.in_place.proofs.Among.{Along, along-none, along-next, along-more, along-all, kept, missed}
+use Rattle.in_place.proofs.Among.{along-none, along-next, along-more, along-all, kept, missed}
 use Rattle.in_place.proofs.identities.singles_at.Goals.{then-entry, else-entry}
 use Rattle.in_place.proofs.identities.singles_at.Goals as goal
 
@@ -20,12 +18,12 @@ identity_at-entry-requires c =
     record { few = c.requires.2.few; reads = along-next c.loop-done.invariant c.loop-done-test.true }
 
 pub overflow_add-end : goal.overflow_add-end
-overflow_add-end c = 
+overflow_add-end c =
     let short = identity-short _ _ (along-next c.loop-done.invariant c.loop-done-test.true) in
     omega (arith, c.requires.2.few, c.requires.1, length-bits c.args.s.now, short)
 
 pub loop-done-preserved : goal.loop-done-preserved
-loop-done-preserved c =    let a = c.args in
+loop-done-preserved c = let a = c.args in
     along-more c.loop-done.invariant c.loop-done-test.true
     (subst (λ (q : ℕ). Says identity (is_entry a.missing a.user) (bits a.s.now) c.loop-done.at c.identity_at-entry.result.has q)
     c.if-entry-end.false c.identity_at-entry.ensures)

@@ -1,17 +1,9 @@
 -- As long as each entry ends where it was expected to. Assumes nothing.
-use mathlib.Core.Path.{subst}
-use mathlib.Core.Logic.{⊎_elim}
-use Prim.Native.Nat.{ℕ, ◌-◌}
-use native.Mathlib.Omega.{arith}
-use borrow.Author.Rules.{rules}
+use Prim.Native.Nat.{◌-◌}
 use Rattle.bits.specs.Bits.{bits}
-use Rattle.bits.proofs.Bytes.{length-bits}
 use Rattle.grammar.specs.Grammar.{identity, no_identity}
-use Rattle.grammar.proofs.Steps.{no_identity-at}
-use Rattle.reader.proofs.Elements.{identity-short}
 use Rattle.rules.specs.Matching.{is_entry}
-use Rattle.in_place.specs.Inner.{Says}
-use Rattle.in_place.proofs.Among.{Along, along-none, along-next, along-more, along-all, kept, missed}
+use Rattle.in_place.proofs.Among.{Along}
 use Rattle.in_place.proofs.identities.singles_at.Given as goal
 
 abbrev pub invariant-loop-done : goal.invariant-loop-done

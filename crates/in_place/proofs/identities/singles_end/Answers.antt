@@ -1,9 +1,8 @@
 -- As long as each entry ends where it was expected to. Assumes nothing.
 use mathlib.Core.Path.{◌≡◌, ap, ◌∙◌, subst}
-use Prim.Native.Nat.{ℕ, ◌+◌, ◌-◌, ◌*◌, ◌≤◌, ◌<◌}
+use Prim.Native.Nat.{ℕ, ◌+◌, ◌*◌, ◌≤◌, ◌<◌}
 use native.Mathlib.Nat.{add_assoc}
 use native.Mathlib.Omega.{arith}
-use borrow.Author.Rules.{rules}
 use Rattle.walk.proofs.Sights.{bit_lt}
 use Rattle.in_place.proofs.Among.{along-none}
 use Rattle.in_place.proofs.Skipping.{Over, over-near, over-more, over-all}
@@ -18,7 +17,7 @@ bit : (c : After-bit_at) → c.bit_at.result < 2
 bit c = bit_lt c.args.s.now (c.loop-done.at + 24) c.bit_at.ensures
 
 pub loop-done-preserved : goal.loop-done-preserved
-loop-done-preserved c =   let a = c.args in
+loop-done-preserved c = let a = c.args in
     let end : c.loop-done.at + 25 + 24 * c.bit_at.result ≡ c.loop-done.at + a.width =
     add_assoc c.loop-done.at 25 (24 * c.bit_at.result) ∙ ap (λ (w : ℕ). c.loop-done.at + w) c.if-bit_at-width.false in
     subst (λ (q : ℕ). Over a.count a.s.now a.start (c.loop-done.done + 1) q) end

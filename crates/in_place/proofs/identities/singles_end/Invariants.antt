@@ -1,12 +1,6 @@
 -- As long as each entry ends where it was expected to. Assumes nothing.
-use mathlib.Core.Path.{◌≡◌, ap, ◌∙◌, subst}
-use Prim.Native.Nat.{ℕ, ◌+◌, ◌-◌, ◌*◌, ◌≤◌, ◌<◌}
-use native.Mathlib.Nat.{add_assoc}
-use native.Mathlib.Omega.{arith}
-use borrow.Author.Rules.{rules}
-use Rattle.walk.proofs.Sights.{bit_lt}
-use Rattle.in_place.proofs.Among.{along-none}
-use Rattle.in_place.proofs.Skipping.{Over, over-near, over-more, over-all}
+use Prim.Native.Nat.{◌-◌}
+use Rattle.in_place.proofs.Skipping.{Over}
 use Rattle.in_place.proofs.identities.singles_end.Given as goal
 
 abbrev pub invariant-loop-done : goal.invariant-loop-done

@@ -1,16 +1,14 @@
 -- Each turn compares a digit. Assumes nothing.
-use Prim.Native.Nat.{◌-◌}
 use native.Mathlib.Omega.{arith}
-use borrow.Author.Rules.{rules}
-use Rattle.in_place.proofs.Digits.{Compared, compared-none, compared-more, compared-other, compared-all, compared-near}
+use Rattle.in_place.proofs.Digits.{compared-none, compared-more, compared-other, compared-all, compared-near}
 use Rattle.in_place.proofs.numbers.are_digits.Goals as goal
 
 pub returns-then-window-digits : goal.returns-then-window-digits
-returns-then-window-digits c =  
+returns-then-window-digits c =
     compared-other c.loop-i.invariant c.loop-i-test.true (omega arith) c.window.ensures c.if-window-digits.true
 
 pub loop-i-preserved : goal.loop-i-preserved
-loop-i-preserved c =  
+loop-i-preserved c =
     compared-more c.loop-i.invariant c.loop-i-test.true (omega arith) c.window.ensures c.if-window-digits.false
 
 pub returns : goal.returns

@@ -1,8 +1,6 @@
 -- Each turn compares a digit. Assumes nothing.
 use Prim.Native.Nat.{◌-◌}
-use native.Mathlib.Omega.{arith}
-use borrow.Author.Rules.{rules}
-use Rattle.in_place.proofs.Digits.{Compared, compared-none, compared-more, compared-other, compared-all, compared-near}
+use Rattle.in_place.proofs.Digits.{Compared}
 use Rattle.in_place.proofs.numbers.are_digits.Given as goal
 
 abbrev pub invariant-loop-i : goal.invariant-loop-i

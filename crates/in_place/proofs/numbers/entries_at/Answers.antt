@@ -1,12 +1,6 @@
 -- Each turn passes an entry. Assumes nothing.
-use mathlib.Core.Logic.{⊎_elim}
-use Prim.Native.Nat.{◌-◌}
-use borrow.Author.Rules.{rules}
-use Rattle.bits.specs.Bits.{bits}
-use Rattle.grammar.specs.Grammar.{external, no_external}
 use Rattle.grammar.proofs.Steps.{no_external-at}
-use Rattle.rules.specs.Matching.{is_number}
-use Rattle.in_place.proofs.Among.{Along, along-none, along-next, along-more, along-all, kept, missed}
+use Rattle.in_place.proofs.Among.{along-none, along-next, along-more, along-all, kept, missed}
 use Rattle.in_place.proofs.numbers.entries_at.Goals.{then-entry, else-entry}
 use Rattle.in_place.proofs.numbers.entries_at.Goals as goal
 
@@ -15,7 +9,7 @@ number_at-entry-requires c =
     record { few = c.requires.1.few; reads = along-next c.loop-done.invariant c.loop-done-test.true }
 
 pub loop-done-preserved : goal.loop-done-preserved
-loop-done-preserved c =  
+loop-done-preserved c =
     along-more c.loop-done.invariant c.loop-done-test.true c.number_at-entry.ensures
     (elim c.if-entry.branch [
       | then-entry w ↦ kept c.loop-done.has w.if-entry.true w.has-is

@@ -2,7 +2,6 @@
 use mathlib.Core.Path.{◌≡◌}
 use Prim.Native.Nat.{◌+◌, ◌/◌, ◌^◌, ◌≤◌}
 use native.Mathlib.Omega.{arith}
-use borrow.Author.Rules.{rules}
 use Rattle.reader.proofs.Elements.{number_fits}
 use Rattle.in_place.proofs.Windows.{front-is}
 use Rattle.in_place.proofs.Digits.{length-read, length-few, digits-reads, other_length, same_length}
@@ -21,14 +20,14 @@ near c =
     )
 
 pub returns-then-count-length : goal.returns-then-count-length
-returns-then-count-length c =  other_length _ _ c.requires.reads (count-is (goal.at.returns-then-count-length c).After-window) _ c.if-count-length.true
+returns-then-count-length c = other_length _ _ c.requires.reads (count-is (goal.at.returns-then-count-length c).After-window) _ c.if-count-length.true
 
 pub are_digits-requires : goal.are_digits-requires
-are_digits-requires c = 
+are_digits-requires c =
     ((near (goal.at.are_digits-requires c).After-window).1, record { few = c.requires.few; reads = digits-reads _ _ c.requires.reads (count-is (goal.at.are_digits-requires c).After-window) })
 
 pub returns : goal.returns
-returns c = 
+returns c =
     same_length _ _ c.requires.reads (count-is (goal.at.returns c).After-window) _ c.if-count-length.false c.are_digits.ensures
 
 pub overflow_add-start : goal.overflow_add-start

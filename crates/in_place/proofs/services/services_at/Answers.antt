@@ -5,7 +5,6 @@ use mathlib.Core.List.{List}
 use Prim.Native.Nat.{ℕ, ◌+◌, ◌-◌, ◌*◌, ◌/◌, ◌%◌, ◌^◌, ◌≤◌}
 use native.Mathlib.Omega.{arith}
 use lib.ListN.{take}
-use borrow.Author.Rules.{rules}
 use Rattle.bits.specs.Bits.{bits}
 use Rattle.bits.specs.Lists.{some}
 use Rattle.codec.specs.Codec.{Codec}
@@ -37,7 +36,7 @@ unfolding services
 parts b = split-headed 3 count_refusal listing (split-shaped _ _ _ _ _ b.requires.reads.read)
 
 count-is : (c : After-window-window) → c.window-window.result / 2 ^ 54 ≡ c.requires.reads.value.count
-count-is c =  front-is c.args.s.now c.args.at c.window-window.ensures 3 (omega arith) (omega arith) (parts (goal.at.After-window-window c).Start).head
+count-is c = front-is c.args.s.now c.args.at c.window-window.ensures 3 (omega arith) (omega arith) (parts (goal.at.After-window-window c).Start).head
 
 few : (c : After-window-window) → c.window-window.result / 2 ^ 54 ≤ 7
 few c = omega (arith, count-is c, number_small 3 (parts (goal.at.After-window-window c).Start).head)
@@ -46,7 +45,7 @@ near : (c : After-window-window) → c.args.at + 3 ≤ 4096
 near c =
     number_fits c.args.s.now c.args.at 3 (omega arith) c.requires.few (record { value = _; end = _; read = (parts (goal.at.After-window-window c).Start).head })
 
-listed : (c : After-window-window) →  let v = c.requires.reads.value in
+listed : (c : After-window-window) → let v = c.requires.reads.value in
     Read (listing (c.window-window.result / 2 ^ 54)) (bits c.args.s.now) (c.args.at + 3) v.list c.requires.reads.end
 listed c = rw (count-is c) (parts (goal.at.After-window-window c).Start).rest
 
@@ -59,10 +58,10 @@ loop-i-init c =
     start (along-none (few c) (record { value = _; end = _; read = listed c }))
 
 -- the service that is looked at
-here : (c : After-is_covering) →  let a = c.args in let i = c.loop-i.i in
+here : (c : After-is_covering) → let a = c.args in let i = c.loop-i.i in
     let at = a.at + 3 in
     Says (element 3 service_refusal) (is_covering a.service) (bits a.s.now) (at + 3 * i) c.is_covering.result (at + 3 * (i + 1))
-here c =   let a = c.args in let i = c.loop-i.i in
+here c = let a = c.args in let i = c.loop-i.i in
     let r = along-next c.loop-i.invariant c.loop-i-test.true in
     let n = (element-says 3 service_refusal (bits a.s.now) (a.at + 3 + 3 * i) r.read.same).0 in
     let place : a.at + 3 + 3 * i ≡ a.at + (3 + 3 * i) = omega arith in
@@ -86,11 +85,11 @@ whole c e =
     record { value = c.requires.reads.value; read = rw end at c.requires.reads.read; says = rw (count-is c) at (says_is e l).0 }
 
 pub returns-then-is_covering : goal.returns-then-is_covering
-returns-then-is_covering c = 
+returns-then-is_covering c =
     whole (goal.at.returns-then-is_covering c).After-window-window (along-found c.loop-i.invariant c.loop-i-test.true (here (goal.at.returns-then-is_covering c).After-is_covering) c.if-is_covering.true)
 
 pub loop-i-preserved : goal.loop-i-preserved
-loop-i-preserved c = 
+loop-i-preserved c =
     along-more c.loop-i.invariant c.loop-i-test.true (here (goal.at.loop-i-preserved c).After-is_covering) (sym c.if-is_covering.false)
 
 pub returns : goal.returns

@@ -2,7 +2,6 @@
 use mathlib.Core.Path.{refl}
 use Prim.Native.Nat.{◌+◌, ◌≤◌}
 use native.Mathlib.Omega.{arith}
-use borrow.Author.Rules.{rules}
 use Rattle.bits.specs.Bits.{bits}
 use Rattle.codec.specs.Parts.{number}
 use Rattle.grammar.specs.Grammar.{identity, no_identity, identities}
@@ -28,19 +27,19 @@ entries_of-count-requires c = legal-code _ _ (head_passed _ _ _ _ _ _ _ c.requir
 
 pub fill_entries-requires : goal.fill_entries-requires
 unfolding identities
-fill_entries-requires c =   (
-      omega (arith, c.entries_of-count.ensures, entries_of_le c.number_at-code.result),
-      record {
-        few = c.requires.few;
-        room = omega (arith, c.requires.room, c.store.auto.words);
-        reads = reads-used identity no_identity 8 c.entries_of-count.ensures
-            (reads-tested _ _ _ (rest-reads _ _ _ _ _ _ _ c.requires.reads c.number_at-code.ensures));
-      },
-    )
+fill_entries-requires c = (
+  omega (arith, c.entries_of-count.ensures, entries_of_le c.number_at-code.result),
+  record {
+    few = c.requires.few;
+    room = omega (arith, c.requires.room, c.store.auto.words);
+    reads = reads-used identity no_identity 8 c.entries_of-count.ensures
+        (reads-tested _ _ _ (rest-reads _ _ _ _ _ _ _ c.requires.reads c.number_at-code.ensures));
+  },
+)
 
 pub returns : goal.returns
 unfolding identities identities_words
-returns c =   
+returns c =
     headed_fill _ _ _ _ _ _ _ c.requires.reads (λ _. refl) (omega (arith, c.requires.room)) c.number_at-code.ensures c.store.ensures
     (fill-tested _ _ _ (rest-reads _ _ _ _ _ _ _ c.requires.reads c.number_at-code.ensures)
     (fill-used identity no_identity 8 c.entries_of-count.ensures c.fill_entries.ensures))

@@ -2,7 +2,6 @@
 use mathlib.Core.Path.{refl}
 use mathlib.Core.List.{◌++◌}
 use native.Mathlib.Omega.{arith}
-use borrow.Author.Rules.{rules}
 use Rattle.grammar.specs.Grammar.{identity_part}
 use Rattle.grammar.specs.Zero.{zero_numbers}
 use Rattle.words.specs.RecordWords.{records, identities_words, numbers_words}
@@ -16,7 +15,7 @@ fill_identities-restricted-requires c =
 
 pub fill_identities-exceptions-requires : goal.fill_identities-exceptions-requires
 unfolding identity_part
-fill_identities-exceptions-requires c = 
+fill_identities-exceptions-requires c =
     record {
       few = c.requires.few;
       room = omega (arith, c.requires.room, c.fill_identities-restricted.auto.words);
@@ -25,7 +24,7 @@ fill_identities-exceptions-requires c =
 
 pub fill_identities-end-requires : goal.fill_identities-end-requires
 unfolding identity_part
-fill_identities-end-requires c =  
+fill_identities-end-requires c =
     record {
       few = c.requires.few;
       room = omega (arith, c.requires.room, c.fill_identities-restricted.auto.words, c.fill_identities-exceptions.auto.words);
@@ -36,7 +35,7 @@ fill_identities-end-requires c =
 
 pub returns : goal.returns
 unfolding identity_part records
-returns c =  
+returns c =
     let p = c in let b = p in
     let k = p.fill_identities-restricted.auto.words in
     let l = c.fill_identities-exceptions.auto.words in

@@ -1,7 +1,6 @@
 -- A list of identities, the zeros of two, and two lists of numbers. Assumes nothing.
 use mathlib.Core.Path.{refl}
 use native.Mathlib.Omega.{arith}
-use borrow.Author.Rules.{rules}
 use Rattle.bits.specs.Bits.{bits}
 use Rattle.codec.specs.Parts.{seq}
 use Rattle.grammar.specs.Grammar.{externals, number_part}
@@ -18,11 +17,11 @@ fill_identities-numbers-requires c =
     record { few = c.requires.few; room = omega (arith, c.requires.room); reads = reads_first _ _ (reads-shaped _ _ _ _ _ c.requires.reads) }
 
 pub zero_words-requires : goal.zero_words-requires
-zero_words-requires c = 
+zero_words-requires c =
     omega (arith, c.requires.room, c.fill_identities-numbers.auto.words)
 
 pub zero_words-requires-2 : goal.zero_words-requires-2
-zero_words-requires-2 c =  
+zero_words-requires-2 c =
     omega (arith, c.requires.room, c.fill_identities-numbers.auto.words, c.zero_words.auto.words)
 
 -- the two lists of numbers
@@ -34,7 +33,7 @@ both c =
     c.fill_identities-numbers.ensures.read) (no-identities _ _)) (no-identities _ _)
 
 pub fill_numbers-excepted-requires : goal.fill_numbers-excepted-requires
-fill_numbers-excepted-requires c =  
+fill_numbers-excepted-requires c =
     record {
       few = c.requires.few;
       room = omega (arith, c.requires.room, c.fill_identities-numbers.auto.words, c.zero_words.auto.words, c.zero_words-2.auto.words);
@@ -42,7 +41,7 @@ fill_numbers-excepted-requires c =
     }
 
 pub fill_numbers-requires : goal.fill_numbers-requires
-fill_numbers-requires c =   
+fill_numbers-requires c =
     let k = c.fill_identities-numbers.auto.words in
     record {
       few = c.requires.few;
@@ -52,7 +51,7 @@ fill_numbers-requires c =
 
 pub returns : goal.returns
 unfolding number_part records
-returns c =    
+returns c =
     let k = c.fill_identities-numbers.auto.words in
     fill-shaped _ _ _ _ _ (λ _. refl)
     (fill-then _ _ identities_words (omega (arith, c.requires.room)) c.fill_identities-numbers.ensures.read c.fill_identities-numbers.ensures.put

@@ -3,7 +3,6 @@ use mathlib.Core.Path.{◌≡◌, refl}
 use mathlib.Core.List.{List}
 use Prim.Native.Nat.{ℕ, ◌+◌, ◌/◌, ◌^◌, ◌≤◌}
 use native.Mathlib.Omega.{arith}
-use borrow.Author.Rules.{rules}
 use Rattle.bits.specs.Bits.{bits}
 use Rattle.codec.specs.Parts.{number, absent, element}
 use Rattle.codec.specs.Places.{places}
@@ -56,11 +55,11 @@ held-low-requires c =
     (small_window (pdu (goal.at.held-low-requires c).After-window-window) _ c.window.ensures, omega (arith, c.least-first.ensures, few (goal.at.held-low-requires c).After-window-window), omega arith)
 
 pub put_twelve-requires : goal.put_twelve-requires
-put_twelve-requires c = 
+put_twelve-requires c =
     omega (arith, c.requires.room, c.store.auto.words)
 
 pub put_twelve-requires-2 : goal.put_twelve-requires-2
-put_twelve-requires-2 c = 
+put_twelve-requires-2 c =
     omega (arith, c.requires.room, c.store.auto.words, c.put_twelve.auto.words)
 
 abbrev window-of : After-slice_known-4-1 → After-window-window
@@ -68,7 +67,7 @@ window-of c = (goal.at.After-slice_known-4-1 c).After-window-window
 
 pub returns : goal.returns
 unfolding external number_words
-returns c =      
+returns c =
     let digits = digits-read (pdu (goal.at.returns c).After-window-window) (at (goal.at.returns c).After-window-window) (count (goal.at.returns c).After-window-window) c.least-first.result c.least-first.ensures (few (goal.at.returns c).After-window-window) (rest (goal.at.returns c).After-window-window) c.window-window.ensures
     c.window.ensures c.held-high.ensures c.held-low.ensures in
     let ends : c.args.to + 1 + 12 + 12 ≡ c.args.to + 1 + 24 = omega arith in

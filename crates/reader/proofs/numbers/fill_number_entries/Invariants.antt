@@ -1,13 +1,9 @@
 -- Each turn stores an entry; zeros follow the last. Assumes nothing.
-use mathlib.Core.Path.{refl}
 use Prim.Native.Nat.{◌-◌}
-use native.Mathlib.Omega.{arith}
-use borrow.Author.Rules.{rules}
 use Rattle.bits.specs.Bits.{bits}
 use Rattle.words.specs.RecordWords.{number_words}
 use Rattle.grammar.specs.Grammar.{external, no_external}
-use Rattle.grammar.proofs.Steps.{no_external-at}
-use Rattle.reader.proofs.Entries.{Entries, entries_none, entries_next, entries-room, entries-left, entries-more, entries-all}
+use Rattle.reader.proofs.Entries.{Entries}
 use Rattle.reader.proofs.numbers.fill_number_entries.Given as goal
 
 abbrev pub invariant-loop-i : goal.invariant-loop-i

@@ -2,7 +2,6 @@
 use mathlib.Core.Path.{refl}
 use Prim.Native.Nat.{◌+◌, ◌≤◌}
 use native.Mathlib.Omega.{arith}
-use borrow.Author.Rules.{rules}
 use Rattle.bits.specs.Bits.{bits}
 use Rattle.codec.specs.Parts.{number}
 use Rattle.grammar.specs.Grammar.{external, no_external, externals}
@@ -28,19 +27,19 @@ entries_of-count-requires c = legal-code _ _ (head_passed _ _ _ _ _ _ _ c.requir
 
 pub fill_number_entries-requires : goal.fill_number_entries-requires
 unfolding externals
-fill_number_entries-requires c =   (
-      omega (arith, c.entries_of-count.ensures, entries_of_le c.number_at-code.result),
-      record {
-        few = c.requires.few;
-        room = omega (arith, c.requires.room, c.store.auto.words);
-        reads = reads-used external no_external 8 c.entries_of-count.ensures
-            (rest-reads _ _ _ _ _ _ _ c.requires.reads c.number_at-code.ensures);
-      },
-    )
+fill_number_entries-requires c = (
+  omega (arith, c.entries_of-count.ensures, entries_of_le c.number_at-code.result),
+  record {
+    few = c.requires.few;
+    room = omega (arith, c.requires.room, c.store.auto.words);
+    reads = reads-used external no_external 8 c.entries_of-count.ensures
+        (rest-reads _ _ _ _ _ _ _ c.requires.reads c.number_at-code.ensures);
+  },
+)
 
 pub returns : goal.returns
 unfolding externals numbers_words
-returns c =   
+returns c =
     headed_fill _ _ _ _ _ _ _ c.requires.reads (λ _. refl) (omega (arith, c.requires.room)) c.number_at-code.ensures c.store.ensures
     (fill-used external no_external 8 c.entries_of-count.ensures c.fill_number_entries.ensures)
 

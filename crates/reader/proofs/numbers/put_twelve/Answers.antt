@@ -2,7 +2,6 @@
 use mathlib.Core.Path.{◌≡◌, refl}
 use Prim.Native.Nat.{◌+◌}
 use native.Mathlib.Omega.{arith}
-use borrow.Author.Rules.{rules}
 use Rattle.words.proofs.Putting.{then}
 use Rattle.reader.proofs.Entries.{put_as}
 use Rattle.reader.proofs.Runs.{twelve-is}

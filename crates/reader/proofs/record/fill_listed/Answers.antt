@@ -1,6 +1,5 @@
 -- The services, and the lists after them. Assumes nothing.
 use native.Mathlib.Omega.{arith}
-use borrow.Author.Rules.{rules}
 use Rattle.words.specs.RecordWords.{services_words}
 use Rattle.reader.proofs.Parts.{reads_first, reads-next, fill-then}
 use Rattle.reader.proofs.record.fill_listed.Goals as goal
@@ -10,7 +9,7 @@ fill_served-lists-requires c =
     record { few = c.requires.few; room = omega (arith, c.requires.room); reads = reads_first _ _ c.requires.reads }
 
 pub fill_part-requires : goal.fill_part-requires
-fill_part-requires c = 
+fill_part-requires c =
     record {
       few = c.requires.few;
       room = omega (arith, c.requires.room, c.fill_served-lists.auto.words);
@@ -18,6 +17,6 @@ fill_part-requires c =
     }
 
 pub returns : goal.returns
-returns c =  
+returns c =
     let s = c.fill_served-lists.ensures in
     fill-then _ _ services_words (omega (arith, c.requires.room)) s.read s.put c.fill_part.ensures

@@ -4,7 +4,6 @@ use mathlib.Core.Bool.{Bool}
 use mathlib.Core.List.{List}
 use Prim.Native.Nat.{◌+◌, ◌≤◌}
 use native.Mathlib.Omega.{arith}
-use borrow.Author.Rules.{rules}
 use lib.ListN.{length}
 use Rattle.bits.specs.Bits.{bits}
 use Rattle.bits.proofs.Bytes.{length-bits}
@@ -56,13 +55,13 @@ inside u =
     read-inside _ s 11 (number-there s 6 5 (omega arith) (kind-reads (start (formed u))).read.same) u.fill_users-rest.ensures.read
 
 -- they are those in their window
-figures-found : (g : After-figures_in-f) →  let at = g.fill_users-rest.result.at in
+figures-found : (g : After-figures_in-f) → let at = g.fill_users-rest.result.at in
     Read (figures_of (kind (formed (goal.at.After-figures_in-f g).After-fill_users-rest))) (pdu-bits (formed (goal.at.After-figures_in-f g).After-fill_users-rest)) at g.figures_in-f.result (at + width_of (kind (formed (goal.at.After-figures_in-f g).After-fill_users-rest)))
-figures-found g = 
+figures-found g =
     rw (g.figures_in-f.ensures, g.window.ensures) (figures-read (kind (formed (goal.at.After-figures_in-f g).After-fill_users-rest)) _ g.fill_users-rest.result.at (inside (goal.at.After-figures_in-f g).After-fill_users-rest) (from-figures (goal.at.After-figures_in-f g).After-fill_users-rest))
 
 pub fill_users-rest-requires : goal.fill_users-rest-requires
-fill_users-rest-requires c = 
+fill_users-rest-requires c =
     record {
       few = (start (goal.at.fill_users-rest-requires c).After-form_of-form).requires.few;
       room = omega (arith, (start (goal.at.fill_users-rest-requires c).After-form_of-form).requires.room, c.store.auto.words);
@@ -70,7 +69,7 @@ fill_users-rest-requires c =
     }
 
 pub three_words-requires : goal.three_words-requires
-three_words-requires c = 
+three_words-requires c =
     omega (arith, (start (formed (goal.at.three_words-requires c).After-fill_users-rest)).requires.room, c.store.auto.words, c.fill_users-rest.auto.words)
 
 pub overflow_add-listed : goal.overflow_add-listed
@@ -80,7 +79,7 @@ overflow_add-listed c = let f = formed (goal.at.overflow_add-listed c).After-fil
     omega (arith, there, length-bits s, (start f).requires.few, ap (λ (x : Form). x.width) f.form_of-form.ensures)
 
 pub fill_listed-end-requires : goal.fill_listed-end-requires
-fill_listed-end-requires c =   let f = formed (goal.at.fill_listed-end-requires c).After-fill_users-rest in
+fill_listed-end-requires c = let f = formed (goal.at.fill_listed-end-requires c).After-fill_users-rest in
     record {
       few = (start f).requires.few;
       room = omega (arith, (start f).requires.room, c.store.auto.words, c.fill_users-rest.auto.words, c.three_words.auto.words);
@@ -88,23 +87,23 @@ fill_listed-end-requires c =   let f = formed (goal.at.fill_listed-end-requires 
     }
 
 pub three_words-requires-2 : goal.three_words-requires-2
-three_words-requires-2 c =  
+three_words-requires-2 c =
     let long = c.fill_listed-end.auto.words ∙ c.three_words.auto.words ∙ c.fill_users-rest.auto.words ∙ c.store.auto.words in
     omega (arith, long, (start (formed (goal.at.three_words-requires-2 c).After-fill_users-rest)).requires.room)
 
 pub three_words-requires-3 : goal.three_words-requires-3
-three_words-requires-3 c =   
+three_words-requires-3 c =
     let long = c.fill_listed-end.auto.words ∙ c.three_words.auto.words ∙ c.fill_users-rest.auto.words ∙ c.store.auto.words in
     omega (arith, c.three_words-2.auto.words, long, (start (formed (goal.at.three_words-requires-3 c).After-fill_users-rest)).requires.room)
 
 pub shape_of-words : goal.shape_of-words
-shape_of-words c =   
+shape_of-words c =
     c.three_words-3.auto.words ∙ c.three_words-2.auto.words ∙ c.fill_listed-end.auto.words ∙ c.three_words.auto.words ∙ c.fill_users-rest.auto.words
     ∙ c.store.auto.words
 
 pub returns : goal.returns
 unfolding pdu record_words
-returns c =      let f = formed (goal.at.returns c).After-fill_users-rest in
+returns c = let f = formed (goal.at.returns c).After-fill_users-rest in
     let users = c.fill_users-rest.ensures in let room = (start f).requires.room in
     let rest = row_fill (kind f) f.form_of-form.ensures (row f) users.read (figures-found (goal.at.returns c).After-figures_in-f) c.part_in.ensures
     (omega (arith, room, c.store.auto.words)) c.fill_users-rest.auto.words c.three_words.auto.words c.fill_listed-end.auto.words

@@ -1,5 +1,4 @@
 -- There, or zeros. Assumes nothing.
-use borrow.Author.Rules.{rules}
 use mathlib.Core.Path.{refl, ap}
 use mathlib.Core.Bool.{Bool}
 use Rattle.bits.specs.Bits.{pick}

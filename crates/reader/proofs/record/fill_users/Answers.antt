@@ -1,5 +1,4 @@
 -- There, or zeros. Assumes nothing.
-use borrow.Author.Rules.{rules}
 use mathlib.Core.Path.{refl, ap}
 use mathlib.Core.Bool.{Bool}
 use Rattle.bits.specs.Bits.{pick}
@@ -23,7 +22,7 @@ fill_identities-requires c =
     record { few = p.few; room = p.room; reads = reads-alike Users p.reads }
 
 pub returns-then-carried : goal.returns-then-carried
-returns-then-carried c = 
+returns-then-carried c =
     fill-by (ap (λ (x : Bool). pick x (identities Users) no_identities) c.if-carried.true)
     (fill-alike Users (carried (goal.at.returns-then-carried c).Then-carried).reads c.fill_identities.ensures)
 

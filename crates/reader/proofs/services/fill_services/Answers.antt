@@ -3,7 +3,6 @@ use mathlib.Core.Path.{refl}
 use mathlib.Core.List.{List}
 use Prim.Native.Nat.{ℕ, ◌+◌, ◌/◌, ◌^◌, ◌≤◌}
 use native.Mathlib.Omega.{arith}
-use borrow.Author.Rules.{rules}
 use Rattle.bits.specs.Bits.{bits}
 use Rattle.codec.specs.Parts.{number, absent, element}
 use Rattle.codec.specs.Places.{places}
@@ -47,7 +46,7 @@ pub held-list-requires : goal.held-list-requires
 held-list-requires c = (small_window (pdu c) (at c) c.window-window.ensures, omega (arith, few c), omega arith)
 
 pub put_seven-requires : goal.put_seven-requires
-put_seven-requires c = 
+put_seven-requires c =
     omega (arith, c.requires.room, c.store.auto.words)
 
 abbrev window-of : After-slice_known-3-1 → After-window-window
@@ -55,7 +54,7 @@ window-of c = (goal.at.After-slice_known-3-1 c).After-window-window
 
 pub returns : goal.returns
 unfolding services services_words
-returns c =   
+returns c =
     let list = services-read (pdu (goal.at.returns c).After-window-window) (at (goal.at.returns c).After-window-window) (count (goal.at.returns c).After-window-window) (few (goal.at.returns c).After-window-window) (rest (goal.at.returns c).After-window-window) c.window-window.ensures refl c.held-list.ensures in
     headed_fill _ _ _ _ _ _ _ c.requires.reads (λ _. refl) (omega (arith, c.requires.room)) (count-read (goal.at.returns c).After-window-window) c.store.ensures
     (fill-list list c.put_seven.ensures)

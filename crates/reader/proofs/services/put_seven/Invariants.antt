@@ -1,11 +1,7 @@
 -- Each turn puts one service. Assumes nothing.
 use Prim.Native.Nat.{◌-◌}
-use native.Mathlib.Omega.{arith}
-use borrow.Author.Rules.{rules}
-use Rattle.words.proofs.Putting.{Turned, turned_none}
+use Rattle.words.proofs.Putting.{Turned}
 use Rattle.reader.specs.Inner.{one, seven_in}
-use Rattle.reader.proofs.Entries.{word_more, words-all}
-use Rattle.reader.proofs.Runs.{seven_at, seven-long}
 use Rattle.reader.proofs.services.put_seven.Given as goal
 
 abbrev pub invariant-loop-i : goal.invariant-loop-i

@@ -14,4 +14,4 @@ pub returns-then-code-eq9 : goal.returns-then-code-eq9
 returns-then-code-eq9 c = two_ends ∙ ap (λ (x : ℕ). entries_of x) (sym c.if-code-eq9.true)
 
 pub returns : goal.returns
-returns c =  sym (single c.args.code (omega (arith, c.requires, c.if-code-eq9.false))).2
+returns c = sym (single c.args.code (omega (arith, c.requires, c.if-code-eq9.false))).2

@@ -1,5 +1,4 @@
 -- One store. Assumes nothing.
-use borrow.Author.Rules.{rules}
 use Rattle.words.proofs.Putting.{word-put}
 use Rattle.reader.proofs.stores.store.Goals as goal
 

@@ -1,7 +1,6 @@
 -- Three stores. Assumes nothing.
 use mathlib.Core.Path.{refl}
 use native.Mathlib.Omega.{arith}
-use borrow.Author.Rules.{rules}
 use Prim.Native.Nat.{◌+◌}
 use lib.ListN.{set, length-set}
 use Rattle.words.proofs.Putting.{word-put, then}

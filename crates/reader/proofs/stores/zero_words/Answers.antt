@@ -1,10 +1,8 @@
 -- Each turn puts one zero. Assumes nothing.
-use Prim.Native.Nat.{ℕ, ◌-◌}
+use Prim.Native.Nat.{ℕ}
 use native.Mathlib.Omega.{arith}
-use borrow.Author.Rules.{rules}
-use lib.ListN.{replicate, get_or-replicate, length-replicate}
-use Rattle.words.proofs.Putting.{Turned, turned_none}
-use Rattle.reader.specs.Inner.{one}
+use lib.ListN.{get_or-replicate, length-replicate}
+use Rattle.words.proofs.Putting.{turned_none}
 use Rattle.reader.proofs.Entries.{word_more, words-all}
 use Rattle.reader.proofs.stores.zero_words.Goals as goal
 

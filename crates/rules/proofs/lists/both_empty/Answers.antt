@@ -1,5 +1,4 @@
 -- Each test is the definition's own, and so is each kind of destination. Assumes nothing.
-use borrow.Author.Rules.{rules}
 use borrow.Author.Tests.{eq-eqb, ne_eqb}
 use Rattle.rules.specs.Rule.{both_empty}
 use Rattle.rules.proofs.lists.both_empty.Goals as goal

@@ -1,5 +1,4 @@
 -- Each kind of destination is the definition's own case. Assumes nothing.
-use borrow.Author.Rules.{rules}
 use Rattle.rules.specs.Rule.{is_excepted}
 use Rattle.rules.proofs.lists.is_excepted.Goals as goal
 

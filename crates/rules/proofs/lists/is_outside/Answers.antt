@@ -1,5 +1,4 @@
 -- Each test is the definition's own, and so is each case of the group. Assumes nothing.
-use borrow.Author.Rules.{rules}
 use borrow.Author.Tests.{eq-eqb, ne_eqb}
 use Rattle.rules.specs.Rule.{is_outside}
 use Rattle.rules.proofs.lists.is_outside.Goals as goal

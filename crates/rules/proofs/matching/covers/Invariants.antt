@@ -1,16 +1,11 @@
 -- The invariant: what is left to search decides the answer. Assumes nothing.
-use native.Mathlib.Omega.{arith}
-use mathlib.Core.Path.{◌≡◌, refl, ap, sym, ◌∙◌}
+use mathlib.Core.Path.{◌≡◌}
 use mathlib.Core.Bool.{false}
 use Prim.Native.Nat.{◌-◌, ◌≤◌}
-use lib.ListN.{length, take}
+use lib.ListN.{take}
 use lib.Seq.{slice}
-use borrow.Author.Rules.{rules}
 use Rattle.bits.specs.Lists.{some}
-use Rattle.bits.proofs.Lists.{take-used}
-use Rattle.grammar.proofs.Arrays.{services-length}
-use Rattle.rules.specs.Matching.{is_covering, covered}
-use Rattle.rules.proofs.Search.{passed, found, some_end}
+use Rattle.rules.specs.Matching.{is_covering}
 use Rattle.rules.proofs.matching.covers.Given as goal
 
 abbrev pub invariant-services : goal.invariant-services

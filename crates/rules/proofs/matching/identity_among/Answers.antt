@@ -1,5 +1,4 @@
 -- Each meaning of the range type is the definition's own case. Assumes nothing.
-use borrow.Author.Rules.{rules}
 use Rattle.rules.specs.Matching.{identity_among}
 use Rattle.rules.proofs.matching.identity_among.Goals as goal
 

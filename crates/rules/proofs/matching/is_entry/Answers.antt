@@ -1,6 +1,5 @@
 -- Each test is the definition's own. Assumes nothing.
 use mathlib.Core.Path.{◌≡◌}
-use borrow.Author.Rules.{rules}
 use borrow.Author.Tests.{eq-eqb, ne_eqb}
 use Rattle.grammar.specs.Grammar.{network_of}
 use Rattle.rules.specs.Matching.{is_entry}

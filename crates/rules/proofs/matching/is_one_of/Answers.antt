@@ -1,11 +1,6 @@
 -- The invariant: what is left to search decides the answer. Assumes nothing.
 use native.Mathlib.Omega.{arith}
-use mathlib.Core.Path.{◌≡◌, refl, ap, sym, ◌∙◌}
-use mathlib.Core.Bool.{false}
-use Prim.Native.Nat.{◌-◌, ◌≤◌}
-use lib.ListN.{take}
-use lib.Seq.{slice}
-use borrow.Author.Rules.{rules}
+use mathlib.Core.Path.{refl, ap, sym, ◌∙◌}
 use Rattle.bits.specs.Lists.{some}
 use Rattle.bits.proofs.Lists.{take-used}
 use Rattle.grammar.specs.Grammar.{zero_identity}

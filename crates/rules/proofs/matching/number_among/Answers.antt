@@ -2,13 +2,10 @@
 use native.Mathlib.Omega.{arith}
 use mathlib.Core.Path.{◌≡◌, refl, ap, sym, ◌∙◌}
 use mathlib.Core.Bool.{false}
-use mathlib.Core.Logic.{⊎_elim}
 use mathlib.Core.List.{[]}
-use Prim.Native.Nat.{◌-◌, ◌≤◌, ◌<◌, min}
+use Prim.Native.Nat.{◌≤◌, ◌<◌, min}
 use lib.ListN as list
 use lib.ListN.{take, get_or}
-use lib.Seq.{slice}
-use borrow.Author.Rules.{rules}
 use borrow.Author.Tests.{eq-eqb, ne_eqb}
 use Rattle.bits.specs.Lists.{some}
 use Rattle.bits.proofs.Lists.{take-used}
@@ -16,7 +13,7 @@ use Rattle.grammar.specs.SiteSheet.{entries_of}
 use Rattle.grammar.specs.declared.site.Row.{Row}
 use Rattle.grammar.specs.declared.record.Number.{Number}
 use Rattle.grammar.proofs.Arrays.{numbers-length, each-digits-length}
-use Rattle.rules.specs.Matching.{same, is_number, number_among}
+use Rattle.rules.specs.Matching.{is_number, number_among}
 use Rattle.rules.proofs.Search.{passed, found, some_end, agrees, differs, same_end}
 use Rattle.rules.proofs.matching.number_among.Goals.{then-e-length+else-j-places+then-e-j, else-e-length, At-entries, In-entries, Joined-e-length, Start}
 use Rattle.rules.proofs.matching.number_among.Goals as goal

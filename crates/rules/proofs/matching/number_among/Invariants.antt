@@ -1,23 +1,11 @@
 -- The invariants: what is left to search, and to compare, decides the answer. Assumes nothing.
-use native.Mathlib.Omega.{arith}
-use mathlib.Core.Path.{◌≡◌, refl, ap, sym, ◌∙◌}
+use mathlib.Core.Path.{◌≡◌}
 use mathlib.Core.Bool.{false}
-use mathlib.Core.Logic.{⊎_elim}
-use mathlib.Core.List.{[]}
-use Prim.Native.Nat.{◌-◌, ◌≤◌, ◌<◌, min}
-use lib.ListN as list
-use lib.ListN.{take, get_or}
+use Prim.Native.Nat.{◌-◌, ◌≤◌}
+use lib.ListN.{take}
 use lib.Seq.{slice}
-use borrow.Author.Rules.{rules}
-use borrow.Author.Tests.{eq-eqb, ne_eqb}
 use Rattle.bits.specs.Lists.{some}
-use Rattle.bits.proofs.Lists.{take-used}
-use Rattle.grammar.specs.SiteSheet.{entries_of}
-use Rattle.grammar.specs.declared.site.Row.{Row}
-use Rattle.grammar.specs.declared.record.Number.{Number}
-use Rattle.grammar.proofs.Arrays.{numbers-length, each-digits-length}
-use Rattle.rules.specs.Matching.{same, is_number, number_among}
-use Rattle.rules.proofs.Search.{passed, found, some_end, agrees, differs, same_end}
+use Rattle.rules.specs.Matching.{same, is_number}
 use Rattle.rules.proofs.matching.number_among.Given as goal
 
 abbrev pub invariant-loop-j : goal.invariant-loop-j

@@ -1,5 +1,4 @@
 -- Each arm of the match is the definition's own case. Assumes nothing.
-use borrow.Author.Rules.{rules}
 use Rattle.rules.specs.Request.{digits_used}
 use Rattle.rules.proofs.request.digits_used.Goals as goal
 

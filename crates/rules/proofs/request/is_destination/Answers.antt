@@ -1,6 +1,5 @@
 -- Each arm of the match is the definition's own case. Assumes nothing.
 use native.Mathlib.Omega.{arith}
-use borrow.Author.Rules.{rules}
 use borrow.Author.Tests.{le-leb}
 use Rattle.rules.specs.Request.{is_destination}
 use Rattle.rules.proofs.request.is_destination.Goals as goal

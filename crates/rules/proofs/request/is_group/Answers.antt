@@ -1,5 +1,4 @@
 -- Each arm of the match is the definition's own case. Assumes nothing.
-use borrow.Author.Rules.{rules}
 use Rattle.rules.specs.Request.{is_group}
 use Rattle.rules.proofs.request.is_group.Goals as goal
 

@@ -1,7 +1,6 @@
 -- The tests are made in the definition's order. Assumes nothing.
 use mathlib.Core.Path.{◌≡◌}
 use mathlib.Core.Bool.{true, ◌&&◌}
-use borrow.Author.Rules.{rules}
 use Rattle.bits.proofs.Tests.{said-no, said-yes}
 use Rattle.rules.specs.Request.{is_user, is_service, is_destination, is_group, request_refusal}
 use Rattle.rules.proofs.request.request_refusal.Goals.{Else-not-is_destination, Else-not-is_group, Else-not-is_service, Else-not-is_user}

@@ -1,12 +1,10 @@
 -- The invariant: the sum so far and what is left to test decide the answer. Assumes nothing.
 use native.Mathlib.Omega.{arith}
 use mathlib.Core.Path.{◌≡◌, refl, sym, ap, ◌∙◌}
-use mathlib.Core.Bool.{◌&&◌}
-use Prim.Native.Nat.{ℕ, ◌-◌, ◌*◌, ◌≤◌, ◌<◌}
+use Prim.Native.Nat.{ℕ, ◌≤◌, ◌<◌}
 use lib.ListN.{drop}
 use lib.Seq.{slice}
 use lib.Dec.{eqb}
-use borrow.Author.Rules.{rules}
 use Rattle.bits.specs.Lists.{every}
 use Rattle.bits.proofs.Lists.{drop-used}
 use Rattle.rules.specs.Request.{is_unused}

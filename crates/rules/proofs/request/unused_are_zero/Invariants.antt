@@ -1,16 +1,11 @@
 -- The invariant: the sum so far and what is left to test decide the answer. Assumes nothing.
-use native.Mathlib.Omega.{arith}
-use mathlib.Core.Path.{◌≡◌, refl, sym, ap, ◌∙◌}
+use mathlib.Core.Path.{◌≡◌}
 use mathlib.Core.Bool.{◌&&◌}
-use Prim.Native.Nat.{ℕ, ◌-◌, ◌*◌, ◌≤◌, ◌<◌}
-use lib.ListN.{drop}
+use Prim.Native.Nat.{◌-◌, ◌*◌, ◌≤◌}
 use lib.Seq.{slice}
 use lib.Dec.{eqb}
-use borrow.Author.Rules.{rules}
 use Rattle.bits.specs.Lists.{every}
-use Rattle.bits.proofs.Lists.{drop-used}
 use Rattle.rules.specs.Request.{is_unused}
-use Rattle.rules.proofs.Search.{summed, sum-end}
 use Rattle.rules.proofs.request.unused_are_zero.Given as goal
 
 abbrev pub invariant-loop-i : goal.invariant-loop-i

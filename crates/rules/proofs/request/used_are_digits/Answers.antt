@@ -1,12 +1,9 @@
 -- The invariant: what was refused so far and what is left to test decide the answer. Assumes nothing.
 use native.Mathlib.Omega.{arith}
 use mathlib.Core.Path.{◌≡◌, refl, sym, ap, ◌∙◌, subst}
-use mathlib.Core.Bool.{◌&&◌}
-use Prim.Native.Nat.{ℕ, ◌-◌, ◌*◌, ◌≤◌}
+use Prim.Native.Nat.{ℕ, ◌≤◌}
 use lib.ListN.{take}
-use lib.Seq.{slice}
 use lib.Dec.{eqb, leb}
-use borrow.Author.Rules.{rules}
 use Rattle.bits.specs.Lists.{every}
 use Rattle.bits.proofs.Tests.{by-test}
 use Rattle.bits.proofs.Lists.{take-used}

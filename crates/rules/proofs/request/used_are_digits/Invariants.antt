@@ -1,19 +1,12 @@
 -- The invariant: what was refused so far and what is left to test decide the answer. Assumes nothing.
-use native.Mathlib.Omega.{arith}
-use mathlib.Core.Path.{◌≡◌, refl, sym, ap, ◌∙◌, subst}
+use mathlib.Core.Path.{◌≡◌}
 use mathlib.Core.Bool.{◌&&◌}
-use Prim.Native.Nat.{ℕ, ◌-◌, ◌*◌, ◌≤◌}
+use Prim.Native.Nat.{◌-◌, ◌*◌, ◌≤◌}
 use lib.ListN.{take}
 use lib.Seq.{slice}
-use lib.Dec.{eqb, leb}
-use borrow.Author.Rules.{rules}
+use lib.Dec.{eqb}
 use Rattle.bits.specs.Lists.{every}
-use Rattle.bits.proofs.Tests.{by-test}
-use Rattle.bits.proofs.Lists.{take-used}
-use Rattle.grammar.specs.SiteSheet.{digit_refusal}
-use Rattle.grammar.proofs.Codes.{digit-refusal}
 use Rattle.rules.specs.Request.{is_digit}
-use Rattle.rules.proofs.Search.{summed, sum-end}
 use Rattle.rules.proofs.request.used_are_digits.Given as goal
 
 abbrev pub invariant-loop-i : goal.invariant-loop-i

@@ -1,7 +1,6 @@
 -- By whether the first is 0. Assumes nothing.
 use mathlib.Core.Path.{◌≡◌, refl}
 use Prim.Native.Nat.{ℕ, zero, suc}
-use borrow.Author.Rules.{rules}
 use Rattle.codec.specs.Codec.{first}
 use Rattle.tally.proofs.elements.first_refusal.Goals as goal
 

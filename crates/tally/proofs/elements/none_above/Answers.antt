@@ -2,7 +2,7 @@
 use mathlib.Core.Path.{◌≡◌, refl, ◌∙◌, ap, sym}
 use mathlib.Core.Bool.{Bool, ◌&&◌, and-true, and-false}
 use mathlib.Core.List.{[], ◌∷◌, ◌++◌}
-use Prim.Native.Nat.{ℕ, ◌+◌, ◌-◌, ◌≤◌}
+use Prim.Native.Nat.{ℕ, ◌+◌}
 use native.Mathlib.Numerals.{add-one}
 use native.Mathlib.Omega.{arith}
 use borrow.Author.Tests.{le-leb, lt-leb}
@@ -16,7 +16,7 @@ use Rattle.tally.proofs.elements.none_above.Goals.{Joined-most-words, then-most-
 use Rattle.tally.proofs.elements.none_above.Goals as goal
 
 -- by either arm, the word is tested
-tested : (c : Joined-most-words) →  let a = c.args in
+tested : (c : Joined-most-words) → let a = c.args in
     c.if-most-words.none ≡ c.loop-i.none && leb (get_or a.words.now (a.from + c.loop-i.i) 0) a.most
 tested c =
     let a = c.args in

@@ -1,7 +1,6 @@
 -- Its width's refusal, then its own, after those before it. Assumes nothing.
 use mathlib.Core.Path.{ap, ◌∙◌}
 use Prim.Native.Nat.{ℕ}
-use borrow.Author.Rules.{rules}
 use Rattle.codec.specs.Codec.{first}
 use Rattle.tally.proofs.Parts.{element-is}
 use Rattle.tally.proofs.elements.tally_element.Goals as goal

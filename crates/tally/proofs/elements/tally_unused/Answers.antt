@@ -1,7 +1,6 @@
 -- Whether none is above 0. Assumes nothing.
 use mathlib.Core.Path.{refl, ap, ◌∙◌}
 use mathlib.Core.Bool.{Bool, ◌&&◌}
-use borrow.Author.Rules.{rules}
 use Rattle.tally.proofs.elements.tally_unused.Goals as goal
 
 pub returns : goal.returns

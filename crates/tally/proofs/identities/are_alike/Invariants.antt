@@ -1,16 +1,9 @@
 -- Nothing is set in all of them together, so in none. Assumes nothing.
-use mathlib.Core.Path.{◌≡◌, ap, ◌∙◌, subst}
+use mathlib.Core.Path.{◌≡◌}
 use Prim.Native.Nat.{ℕ, ◌+◌, ◌-◌, ◌*◌, ◌≤◌, ◌<◌}
-use native.Mathlib.Omega.{arith}
-use borrow.Author.Count.{below_none, below_more}
-use borrow.Author.Rules.{rules}
-use borrow.Author.Tests.{eqb-true}
-use lib.ListN.{drop, get_or}
-use Rattle.bits.proofs.Tests.{never}
-use Rattle.grammar.specs.declared.record.Identity.{Identity}
+use lib.ListN.{drop}
 use Rattle.words.specs.RecordWords.{identity_from}
 use Rattle.tally.specs.Inner.{Plain}
-use Rattle.tally.proofs.Alike.{none_other}
 use Rattle.tally.proofs.identities.are_alike.Given as goal
 
 abbrev pub invariant-loop-i : goal.invariant-loop-i

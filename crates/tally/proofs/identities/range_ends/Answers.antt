@@ -5,7 +5,6 @@ use borrow.Author.Tests.{eq-eqb}
 use Rattle.grammar.specs.Grammar.{ends_refusal, range_ends}
 use Rattle.grammar.proofs.Codes.{not-nine}
 use Rattle.words.specs.RecordWords.{entries_from, identity_from}
-use borrow.Author.Rules.{rules}
 use Rattle.tally.proofs.identities.range_ends.Goals as goal
 
 pub returns-then-code-ne9 : goal.returns-then-code-ne9

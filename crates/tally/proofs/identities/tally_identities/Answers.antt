@@ -8,7 +8,6 @@ use Rattle.tally.specs.Inner.{Fits}
 use Rattle.tally.proofs.Parts.{refusing, then, shape, test, fits-element, fits-first, fits_next, fits-shape, fits-test, tallies_as, fits_as}
 use Rattle.codec.specs.Places.{places}
 use Rattle.tally.proofs.Words.{identities_at, identities-at}
-use borrow.Author.Rules.{rules}
 use native.Mathlib.Omega.{arith}
 use Rattle.tally.proofs.identities.tally_identities.Goals.{Start}
 use Rattle.tally.proofs.identities.tally_identities.Goals as goal

@@ -11,7 +11,6 @@ use Rattle.tally.specs.Inner.{Fits}
 use Rattle.tally.proofs.Parts.{numbered, then, shape, fits-number, fits-first, fits_next, fits-shape}
 use Rattle.tally.proofs.Unused.{Absent, skipped}
 use Rattle.tally.proofs.Words.{extension-unused}
-use borrow.Author.Rules.{rules}
 use native.Mathlib.Omega.{arith}
 use Rattle.tally.proofs.identities.tally_identity.Goals.{After-identity_from-e}
 use Rattle.tally.proofs.identities.tally_identity.Goals as goal

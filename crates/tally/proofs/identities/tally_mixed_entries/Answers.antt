@@ -1,11 +1,8 @@
 -- Entry by entry, then the words that are not used. Assumes nothing.
 use mathlib.Core.Path.{◌≡◌}
 use Prim.Native.Nat.{◌+◌, ◌-◌, ◌*◌}
-use Rattle.grammar.specs.Grammar.{identity, no_identity}
-use Rattle.words.specs.RecordWords.{identity_from}
 use Rattle.tally.proofs.Unused.{uncarried-identity}
-use Rattle.tally.proofs.Entries.{Tallying, tallying-start, tallying-fits, tallying-next, tallying-done}
-use borrow.Author.Rules.{rules}
+use Rattle.tally.proofs.Entries.{tallying-start, tallying-fits, tallying-next, tallying-done}
 use native.Mathlib.Omega.{arith}
 use Rattle.tally.proofs.identities.tally_mixed_entries.Goals as goal
 

@@ -4,7 +4,6 @@ use Rattle.tally.specs.Inner.{Fits}
 use Rattle.tally.proofs.Parts.{then, shape, fits-first, fits_next, fits-shape}
 use Rattle.tally.proofs.Unused.{skipped}
 use Rattle.tally.proofs.Words.{lists_at, lists_are, numbers-unused}
-use borrow.Author.Rules.{rules}
 use native.Mathlib.Omega.{arith}
 use Rattle.tally.proofs.lists.tally_identity_part.Goals.{Start}
 use Rattle.tally.proofs.lists.tally_identity_part.Goals as goal

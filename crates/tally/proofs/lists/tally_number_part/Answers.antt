@@ -9,7 +9,6 @@ use Rattle.tally.specs.Inner.{Fits}
 use Rattle.tally.proofs.Parts.{then, shape, fits-first, fits_next, fits-shape}
 use Rattle.tally.proofs.Unused.{uncarried-identities, skipped}
 use Rattle.tally.proofs.Words.{lists_at, lists_are}
-use borrow.Author.Rules.{rules}
 use native.Mathlib.Omega.{arith}
 use Rattle.tally.proofs.lists.tally_number_part.Goals.{After-tally_unused-no_exceptions, After-tally_unused-no_restricted, Start}
 use Rattle.tally.proofs.lists.tally_number_part.Goals as goal

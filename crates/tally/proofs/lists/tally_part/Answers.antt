@@ -2,12 +2,11 @@
 use lib.ListN.{length-drop}
 use borrow.Author.Tests.{eq-eqb, ne_eqb}
 use Rattle.tally.proofs.Unused.{uncarried-part, skipped}
-use borrow.Author.Rules.{rules}
 use native.Mathlib.Omega.{arith}
 use Rattle.tally.proofs.lists.tally_part.Goals as goal
 
 pub tally_identity_part-requires : goal.tally_identity_part-requires
-tally_identity_part-requires c =  (c.requires.0, rw (eq-eqb c.args.part 1 c.if-part-eq1.true) at c.requires.1)
+tally_identity_part-requires c = (c.requires.0, rw (eq-eqb c.args.part 1 c.if-part-eq1.true) at c.requires.1)
 
 pub returns-then-part-eq1 : goal.returns-then-part-eq1
 returns-then-part-eq1 c = rw (eq-eqb c.args.part 1 c.if-part-eq1.true) c.tally_identity_part.ensures

@@ -4,7 +4,6 @@ use Prim.Native.Nat.{◌+◌, min}
 use Rattle.codec.specs.Codec.{first}
 use Rattle.words.specs.RecordWords.{narrow}
 use Rattle.tally.proofs.Digits.{digits-fit, digits_tallied}
-use borrow.Author.Rules.{rules}
 use native.Mathlib.Omega.{arith}
 use Rattle.tally.proofs.numbers.tally_digits.Goals.{After-least-used}
 use Rattle.tally.proofs.numbers.tally_digits.Goals as goal

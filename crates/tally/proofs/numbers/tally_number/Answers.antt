@@ -5,7 +5,6 @@ use Rattle.tally.specs.Inner.{Fits}
 use Rattle.tally.proofs.Parts.{then, shape, fits-element, fits-first, fits_next, fits-shape}
 use Rattle.tally.proofs.Narrow.{length-narrowed}
 use Rattle.tally.proofs.Words.{number_at, number-at}
-use borrow.Author.Rules.{rules}
 use native.Mathlib.Omega.{arith}
 use Rattle.tally.proofs.numbers.tally_number.Goals.{Start}
 use Rattle.tally.proofs.numbers.tally_number.Goals as goal

@@ -1,12 +1,8 @@
 -- Entry by entry, then the words that are not used. Assumes nothing.
-use mathlib.Core.Path.{◌≡◌}
-use Prim.Native.Nat.{◌+◌, ◌-◌, ◌*◌}
+use Prim.Native.Nat.{◌-◌}
 use Rattle.grammar.specs.Grammar.{external, no_external}
 use Rattle.words.specs.RecordWords.{number_from}
-use Rattle.tally.proofs.Unused.{uncarried-number}
-use Rattle.tally.proofs.Entries.{Tallying, tallying-start, tallying-fits, tallying-next, tallying-done}
-use borrow.Author.Rules.{rules}
-use native.Mathlib.Omega.{arith}
+use Rattle.tally.proofs.Entries.{Tallying}
 use Rattle.tally.proofs.numbers.tally_number_entries.Given as goal
 
 abbrev pub invariant-loop-i : goal.invariant-loop-i

@@ -9,7 +9,6 @@ use Rattle.tally.specs.Inner.{Fits}
 use Rattle.tally.proofs.Parts.{refusing, then, shape, fits-element, fits-first, fits_next, fits-shape, tallies_as, fits_as}
 use Rattle.codec.specs.Places.{places}
 use Rattle.tally.proofs.Words.{numbers_at, numbers-at}
-use borrow.Author.Rules.{rules}
 use native.Mathlib.Omega.{arith}
 use Rattle.tally.proofs.numbers.tally_numbers.Goals.{Start}
 use Rattle.tally.proofs.numbers.tally_numbers.Goals as goal

@@ -12,8 +12,7 @@ use Rattle.tally.specs.Tally.{Tallies}
 use Rattle.tally.specs.Inner.{Fits}
 use Rattle.tally.proofs.Parts.{refusing, fits-element}
 use Rattle.tally.proofs.Unused.{uncarried-word}
-use Rattle.tally.proofs.Entries.{Tallying, tallying-start, tallying-fits, tallying-next, tallying-done}
-use borrow.Author.Rules.{rules}
+use Rattle.tally.proofs.Entries.{tallying-start, tallying-fits, tallying-next, tallying-done}
 use native.Mathlib.Omega.{arith}
 use Rattle.tally.proofs.services.tally_service_entries.Goals.{Start}
 use Rattle.tally.proofs.services.tally_service_entries.Goals as goal

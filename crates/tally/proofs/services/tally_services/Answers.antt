@@ -9,7 +9,6 @@ use Rattle.tally.specs.Inner.{Fits}
 use Rattle.tally.proofs.Parts.{refusing, then, shape, fits-element, fits-first, fits_next, fits-shape, tallies_as, fits_as}
 use Rattle.tally.proofs.Entries.{places-most}
 use Rattle.tally.proofs.Words.{services_at, services-at}
-use borrow.Author.Rules.{rules}
 use native.Mathlib.Omega.{arith}
 use Rattle.tally.proofs.services.tally_services.Goals.{After-least-used, Start}
 use Rattle.tally.proofs.services.tally_services.Goals as goal

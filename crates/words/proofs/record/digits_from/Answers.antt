@@ -1,13 +1,11 @@
 -- Each turn fills one place. Assumes nothing.
 use mathlib.Core.Path.{refl, ap, ◌∙◌}
-use mathlib.Core.List.{List}
-use Prim.Native.Nat.{ℕ, ◌+◌, ◌-◌}
+use Prim.Native.Nat.{◌+◌}
 use native.Mathlib.Omega.{arith}
-use borrow.Author.Rules.{rules}
 use lib.ListN.{drop, length-drop}
 use Rattle.words.specs.Places.{digit_places}
-use Rattle.words.specs.RecordWords.{word, narrow}
-use Rattle.words.proofs.Filling.{first_word, Filled, filled_none, filled_more, filled-all, words-narrowed}
+use Rattle.words.specs.RecordWords.{narrow}
+use Rattle.words.proofs.Filling.{first_word, filled_none, filled_more, filled-all, words-narrowed}
 use Rattle.words.proofs.record.digits_from.Goals as goal
 
 pub loop-i-preserved : goal.loop-i-preserved

@@ -1,5 +1,4 @@
 -- Each part from its place on. Assumes nothing.
-use borrow.Author.Rules.{rules}
 use Rattle.words.specs.RecordWords.{word, record_from}
 use Rattle.words.proofs.record.fields_from.Goals as goal
 

@@ -1,5 +1,4 @@
 -- As many words as a record has, or zeros. Assumes nothing.
-use borrow.Author.Rules.{rules}
 use borrow.Author.Tests.{eq-eqb, ne_eqb}
 use Rattle.words.specs.RecordWords.{given_figures}
 use Rattle.words.proofs.record.figures_from.Goals as goal

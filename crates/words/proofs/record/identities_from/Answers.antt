@@ -1,11 +1,10 @@
 -- Each turn fills one place. Assumes nothing.
-use mathlib.Core.Path.{◌≡◌, refl, sym, ap, ◌∙◌}
-use Prim.Native.Nat.{◌+◌, ◌-◌, ◌*◌}
+use mathlib.Core.Path.{refl, sym, ap, ◌∙◌}
 use native.Mathlib.Omega.{arith}
 use lib.Seq.{drop-drop}
 use Rattle.words.specs.Places.{identity_width, list_places}
 use Rattle.words.specs.RecordWords.{entries_from, identity_from, identities_from}
-use Rattle.words.proofs.Filling.{first_word, Filled, filled_none, filled_more, filled-all}
+use Rattle.words.proofs.Filling.{first_word, filled_none, filled_more, filled-all}
 use Rattle.words.proofs.record.identities_from.Goals as goal
 
 pub loop-i-preserved : goal.loop-i-preserved

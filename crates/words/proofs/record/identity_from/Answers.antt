@@ -1,6 +1,5 @@
 -- The three words from the place on. Assumes nothing.
 use mathlib.Core.Path.{sym}
-use borrow.Author.Rules.{rules}
 use lib.Seq.{get_or-drop}
 use Rattle.words.specs.RecordWords.{identity_from}
 use Rattle.words.proofs.Filling.{first_word}

@@ -1,6 +1,5 @@
 -- Each list from its place on. Assumes nothing.
 use mathlib.Core.Path.{sym, ap, ◌∙◌}
-use borrow.Author.Rules.{rules}
 use lib.Seq.{drop-drop}
 use Rattle.words.specs.Places.{restricted_at, exceptions_at, numbers_at, excepted_at}
 use Rattle.words.specs.RecordWords.{identities_from, numbers_from, lists_from}

@@ -1,5 +1,4 @@
 -- Each figure is the word at its place. Assumes nothing.
-use borrow.Author.Rules.{rules}
 use Rattle.words.specs.RecordWords.{figures_from}
 use mathlib.Core.Path.{refl}
 use Rattle.words.proofs.record.nine_from.Goals as goal

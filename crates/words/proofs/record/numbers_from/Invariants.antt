@@ -1,11 +1,9 @@
 -- Each turn fills one place. Assumes nothing.
-use mathlib.Core.Path.{◌≡◌, refl, sym, ap, ◌∙◌}
+use mathlib.Core.Path.{◌≡◌}
 use Prim.Native.Nat.{◌+◌, ◌-◌, ◌*◌}
-use native.Mathlib.Omega.{arith}
-use lib.Seq.{drop-drop}
 use Rattle.words.specs.Places.{number_width, list_places}
-use Rattle.words.specs.RecordWords.{entries_from, number_from, numbers_from}
-use Rattle.words.proofs.Filling.{first_word, Filled, filled_none, filled_more, filled-all}
+use Rattle.words.specs.RecordWords.{number_from}
+use Rattle.words.proofs.Filling.{Filled}
 use Rattle.words.proofs.record.numbers_from.Given as goal
 
 abbrev pub invariant-loop-i : goal.invariant-loop-i

@@ -1,5 +1,4 @@
 -- Seven parts, one after the other, and together as long as the slice. Assumes nothing.
-use borrow.Author.Rules.{rules}
 use native.Mathlib.Omega.{arith}
 use Rattle.words.specs.RecordWords.{record_words}
 use Rattle.words.proofs.Putting.{then, put_whole}

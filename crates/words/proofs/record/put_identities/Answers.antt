@@ -1,13 +1,11 @@
 -- The code, then each turn puts one entry. Assumes nothing.
 use mathlib.Core.Path.{◌≡◌}
-use Prim.Native.Nat.{◌-◌}
 use native.Mathlib.Omega.{arith}
-use borrow.Author.Rules.{rules}
 use lib.ListN.{length}
 use Rattle.grammar.proofs.Arrays.{identities-length}
-use Rattle.words.specs.Places.{identity_width, list_places}
-use Rattle.words.specs.RecordWords.{identity_words, identities_words}
-use Rattle.words.proofs.Putting.{then, Turned, turned_none, turned_more, turned-all}
+use Rattle.words.specs.Places.{list_places}
+use Rattle.words.specs.RecordWords.{identities_words}
+use Rattle.words.proofs.Putting.{then, turned_none, turned_more, turned-all}
 use Rattle.words.proofs.record.put_identities.Goals.{Start}
 use Rattle.words.proofs.record.put_identities.Goals as goal
 

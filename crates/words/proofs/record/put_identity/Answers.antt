@@ -1,5 +1,4 @@
 -- Three words. Assumes nothing.
-use borrow.Author.Rules.{rules}
 use Rattle.words.specs.RecordWords.{identity_words}
 use Rattle.words.proofs.record.put_identity.Goals as goal
 

@@ -1,6 +1,5 @@
 -- Five lists, one after the other. Assumes nothing.
 use native.Mathlib.Omega.{arith}
-use borrow.Author.Rules.{rules}
 use Rattle.words.specs.RecordWords.{lists_words}
 use Rattle.words.proofs.Putting.{then}
 use Rattle.words.proofs.record.put_lists.Goals as goal

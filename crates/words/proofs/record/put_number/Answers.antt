@@ -1,14 +1,11 @@
 -- The length, then each turn puts one digit. Assumes nothing.
 use mathlib.Core.Path.{◌≡◌}
-use mathlib.Core.List.{[], ◌∷◌}
-use Prim.Native.Nat.{ℕ, ◌-◌}
 use native.Mathlib.Omega.{arith}
-use borrow.Author.Rules.{rules}
 use lib.ListN.{length}
 use Rattle.grammar.proofs.Arrays.{digits-length}
 use Rattle.words.specs.Places.{digit_places}
 use Rattle.words.specs.RecordWords.{number_words}
-use Rattle.words.proofs.Putting.{then, in_turn_words, Turned, turned_none, turned_more, turned-all}
+use Rattle.words.proofs.Putting.{then, in_turn_words, turned_none, turned_more, turned-all}
 use Rattle.words.proofs.record.put_number.Goals.{Start}
 use Rattle.words.proofs.record.put_number.Goals as goal
 

@@ -1,13 +1,8 @@
 -- The code, then each turn puts one entry. Assumes nothing.
-use mathlib.Core.Path.{◌≡◌}
 use Prim.Native.Nat.{◌-◌}
-use native.Mathlib.Omega.{arith}
-use borrow.Author.Rules.{rules}
-use lib.ListN.{length}
-use Rattle.grammar.proofs.Arrays.{numbers-length}
 use Rattle.words.specs.Places.{number_width, list_places}
-use Rattle.words.specs.RecordWords.{number_words, numbers_words}
-use Rattle.words.proofs.Putting.{then, Turned, turned_none, turned_more, turned-all}
+use Rattle.words.specs.RecordWords.{number_words}
+use Rattle.words.proofs.Putting.{Turned}
 use Rattle.words.proofs.record.put_numbers.Given as goal
 
 abbrev pub invariant-loop-i : goal.invariant-loop-i

@@ -1,14 +1,11 @@
 -- The count, then each turn puts one service. Assumes nothing.
 use mathlib.Core.Path.{◌≡◌}
-use mathlib.Core.List.{[], ◌∷◌}
-use Prim.Native.Nat.{ℕ, ◌-◌}
 use native.Mathlib.Omega.{arith}
-use borrow.Author.Rules.{rules}
 use lib.ListN.{length}
 use Rattle.grammar.proofs.Arrays.{services-length}
 use Rattle.words.specs.Places.{service_places}
 use Rattle.words.specs.RecordWords.{services_words}
-use Rattle.words.proofs.Putting.{then, in_turn_words, Turned, turned_none, turned_more, turned-all}
+use Rattle.words.proofs.Putting.{then, in_turn_words, turned_none, turned_more, turned-all}
 use Rattle.words.proofs.record.put_services.Goals.{Start}
 use Rattle.words.proofs.record.put_services.Goals as goal
 

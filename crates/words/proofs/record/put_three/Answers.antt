@@ -1,6 +1,5 @@
 -- Three words, one after the other. Assumes nothing.
 use native.Mathlib.Omega.{arith}
-use borrow.Author.Rules.{rules}
 use Rattle.words.proofs.Putting.{then}
 use Rattle.words.proofs.record.put_three.Goals as goal
 

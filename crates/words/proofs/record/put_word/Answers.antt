@@ -1,5 +1,4 @@
 -- One store. Assumes nothing.
-use borrow.Author.Rules.{rules}
 use Rattle.words.proofs.Putting.{word-put}
 use Rattle.words.proofs.record.put_word.Goals as goal
 

@@ -1,14 +1,12 @@
 -- Each turn fills one place. Assumes nothing.
 use mathlib.Core.Path.{refl, sym, ap, ◌∙◌}
-use mathlib.Core.List.{List}
-use Prim.Native.Nat.{ℕ, ◌+◌, ◌-◌}
+use Prim.Native.Nat.{◌+◌}
 use native.Mathlib.Omega.{arith}
-use borrow.Author.Rules.{rules}
 use lib.ListN.{take, drop, length-drop}
 use lib.Seq.{drop-drop}
 use Rattle.words.specs.Places.{service_places}
-use Rattle.words.specs.RecordWords.{word, services_from}
-use Rattle.words.proofs.Filling.{first_word, Filled, filled_none, filled_more, filled-all, words-taken}
+use Rattle.words.specs.RecordWords.{services_from}
+use Rattle.words.proofs.Filling.{first_word, filled_none, filled_more, filled-all, words-taken}
 use Rattle.words.proofs.record.services_from.Goals as goal
 
 pub loop-i-preserved : goal.loop-i-preserved

@@ -1,14 +1,9 @@
 -- Each turn fills one place. Assumes nothing.
-use mathlib.Core.Path.{refl, sym, ap, ◌∙◌}
 use mathlib.Core.List.{List}
-use Prim.Native.Nat.{ℕ, ◌+◌, ◌-◌}
-use native.Mathlib.Omega.{arith}
-use borrow.Author.Rules.{rules}
-use lib.ListN.{take, drop, length-drop}
-use lib.Seq.{drop-drop}
+use Prim.Native.Nat.{ℕ, ◌-◌}
 use Rattle.words.specs.Places.{service_places}
-use Rattle.words.specs.RecordWords.{word, services_from}
-use Rattle.words.proofs.Filling.{first_word, Filled, filled_none, filled_more, filled-all, words-taken}
+use Rattle.words.specs.RecordWords.{word}
+use Rattle.words.proofs.Filling.{Filled}
 use Rattle.words.proofs.record.services_from.Given as goal
 
 abbrev pub invariant-loop-i : goal.invariant-loop-i

@@ -1,7 +1,6 @@
 -- Each arm is the definition's own case. Assumes nothing.
 use mathlib.Core.Path.{sym}
 use mathlib.Core.Bool.{or-false}
-use borrow.Author.Rules.{rules}
 use borrow.Author.Tests.{ne_eqb}
 use Rattle.words.specs.RequestWords.{are_destination}
 use Rattle.words.proofs.request.are_destination.Goals as goal

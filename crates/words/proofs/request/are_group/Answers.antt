@@ -1,5 +1,4 @@
 -- Each arm is the definition's own case. Assumes nothing.
-use borrow.Author.Rules.{rules}
 use borrow.Author.Tests.{ne_eqb}
 use Rattle.words.specs.RequestWords.{are_group}
 use Rattle.words.proofs.request.are_group.Goals as goal

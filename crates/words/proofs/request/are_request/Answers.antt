@@ -1,5 +1,4 @@
 -- Both tests. Assumes nothing.
-use borrow.Author.Rules.{rules}
 use Rattle.bits.proofs.Tests.{said-no, said-yes}
 use Rattle.words.specs.RequestWords.{are_request}
 use Rattle.words.proofs.request.are_request.Goals as goal
@@ -10,4 +9,4 @@ returns-then-not-are_destination c = rw (said-no c.are_destination.ensures c.if-
 
 pub returns : goal.returns
 unfolding are_request
-returns c =  rw (said-yes c.are_destination.ensures c.if-not-are_destination.false) c.are_group.ensures
+returns c = rw (said-yes c.are_destination.ensures c.if-not-are_destination.false) c.are_group.ensures

@@ -1,7 +1,6 @@
 -- By the kind. Assumes nothing.
 use mathlib.Core.Path.{ap}
 use Prim.Native.Nat.{ℕ}
-use borrow.Author.Rules.{rules}
 use borrow.Author.Tests.{ne_eqb}
 use Rattle.rules.specs.declared.request.Destination.TheVariants.{Number}
 use Rattle.words.specs.RequestWords.{destination_from}

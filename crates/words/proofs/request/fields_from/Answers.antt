@@ -1,5 +1,4 @@
 -- Each part from its words. Assumes nothing.
-use borrow.Author.Rules.{rules}
 use Rattle.words.specs.Places.{service_at}
 use Rattle.words.specs.RecordWords.{word}
 use Rattle.words.specs.RequestWords.{user_from, request_from}

@@ -1,5 +1,4 @@
 -- By whether it is given. Assumes nothing.
-use borrow.Author.Rules.{rules}
 use borrow.Author.Tests.{ne_eqb}
 use Rattle.words.specs.RequestWords.{group_from}
 use Rattle.words.proofs.request.group_from.Goals as goal

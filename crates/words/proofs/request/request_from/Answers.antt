@@ -1,5 +1,4 @@
 -- As many words as a request has, which are one's, or none. Assumes nothing.
-use borrow.Author.Rules.{rules}
 use borrow.Author.Tests.{eq-eqb, ne_eqb}
 use Rattle.bits.proofs.Tests.{said-no, said-yes}
 use Rattle.words.specs.RequestWords.{given_request}

@@ -1,6 +1,5 @@
 -- Each meaning of a range type has its number of entries. Assumes nothing.
 use Rattle.tally.proofs.RangeTypes.{by_meaning}
-use borrow.Author.Rules.{rules}
 use Rattle.writer.proofs.put.entries_of.Goals as goal
 
 pub returns-in-Empty : goal.returns-in-Empty

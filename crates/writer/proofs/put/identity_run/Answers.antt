@@ -1,7 +1,6 @@
 -- An identity is 25 bits, or 49 with its extension. Assumes nothing.
 use Rattle.tally.proofs.Words.{identity_at, identity-at}
 use Rattle.writer.proofs.Runs.{plain-run, extended_run}
-use borrow.Author.Rules.{rules}
 use native.Mathlib.Omega.{arith}
 use Rattle.writer.proofs.put.identity_run.Goals as goal
 

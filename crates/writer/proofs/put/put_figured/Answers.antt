@@ -1,5 +1,4 @@
 -- The figures alone, or with services and lists behind them. Assumes nothing.
-use borrow.Author.Rules.{rules}
 use mathlib.Core.Path.{◌≡◌, refl, sym, ap, ◌∙◌}
 use mathlib.Core.List.{◌++◌}
 use native.Mathlib.Omega.{arith}
@@ -37,18 +36,18 @@ found c = c.figures_from-figures.ensures ∙ figures-found _ (eq-eqb _ _ c.requi
 run : (c : After-figures_run-run) → c.figures_run-run.result ≡ run_of (start c).args.kind (figures_from (start c).args.words.now)
 run c = c.figures_run-run.ensures ∙ ap (run_of (start c).args.kind) (found (goal.at.After-figures_run-run c).After-figures_from-figures)
 
-alone : (c : Then-not-form) →  let a = (start (goal.at.Then-not-form c).After-figures_run-run).args in
+alone : (c : Then-not-form) → let a = (start (goal.at.Then-not-form c).After-figures_run-run).args in
     (figured a.kind).print (from_record (record_from a.words.now)).1.1 ≡ bits_of a.form.width c.figures_run-run.result
-alone c =  lone-print _ _ (wide (goal.at.Then-not-form c).After-figures_run-run) (run (goal.at.Then-not-form c).After-figures_run-run) (sym (served (goal.at.Then-not-form c).After-figures_run-run) ∙ not-true (start (goal.at.Then-not-form c).After-figures_run-run).args.form.services c.if-not-form.true)
+alone c = lone-print _ _ (wide (goal.at.Then-not-form c).After-figures_run-run) (run (goal.at.Then-not-form c).After-figures_run-run) (sym (served (goal.at.Then-not-form c).After-figures_run-run) ∙ not-true (start (goal.at.Then-not-form c).After-figures_run-run).args.form.services c.if-not-form.true)
 
 pub put_run-requires : goal.put_run-requires
 put_run-requires c =
     (omega (arith, wide (goal.at.put_run-requires c).After-figures_run-run, narrow (start (goal.at.put_run-requires c).After-figures_run-run).args.kind), room-run _ _ (alone (goal.at.put_run-requires c).Then-not-form) (start (goal.at.put_run-requires c).After-figures_run-run).requires.3)
 
 pub returns-then-not-form : goal.returns-then-not-form
-returns-then-not-form c =  put_as-run _ _ (alone (goal.at.returns-then-not-form c).Then-not-form) c.put_run.ensures
+returns-then-not-form c = put_as-run _ _ (alone (goal.at.returns-then-not-form c).Then-not-form) c.put_run.ensures
 
-listed : (c : Else-not-form) →  let a = (start (goal.at.Else-not-form c).After-figures_run-run).args in (part : ℕ) → part ≡ part_in a.kind (figures_from a.words.now)
+listed : (c : Else-not-form) → let a = (start (goal.at.Else-not-form c).After-figures_run-run).args in (part : ℕ) → part ≡ part_in a.kind (figures_from a.words.now)
     → (figured a.kind).print (from_record (record_from a.words.now)).1.1
     ≡ (seq (number a.form.width) (λ x. services)).print (c.figures_run-run.result % 32, services_from (drop 29 a.words.now))
     ++ (part_of part).print (lists_from (drop 37 a.words.now))
@@ -64,7 +63,7 @@ put_services-after_services-requires c =
       left (part_of (part_in (start (goal.at.put_services-after_services-requires c).After-figures_run-run).args.kind (figures_from w))) (lists_from (drop 37 w)) (listed (goal.at.put_services-after_services-requires c).Else-not-form _ refl) (start (goal.at.put_services-after_services-requires c).After-figures_run-run).requires.3,
     )
 
-part : (c : After-part_in) → 
+part : (c : After-part_in) →
     c.part_in.result ≡ part_in (start (goal.at.After-part_in c).After-figures_run-run).args.kind (figures_from (start (goal.at.After-part_in c).After-figures_run-run).args.words.now)
 part c =
     c.part_in.ensures ∙ ap (part_in (start (goal.at.After-part_in c).After-figures_run-run).args.kind) (found (goal.at.After-part_in c).After-figures_from-figures)

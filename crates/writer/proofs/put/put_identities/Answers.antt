@@ -8,7 +8,6 @@ use Rattle.tally.proofs.Words.{identities_at, identities-at}
 use Rattle.writer.specs.Inner.{Room}
 use Rattle.writer.proofs.Puts.{room-first, room_next, room-shape, room-element, put_then, put-shape, put_element, room-test, put-test}
 use Rattle.writer.proofs.PutsEntries.{room-used, put-used}
-use borrow.Author.Rules.{rules}
 use native.Mathlib.Omega.{arith}
 use Rattle.writer.proofs.put.put_identities.Goals.{Start}
 use Rattle.writer.proofs.put.put_identities.Goals as goal

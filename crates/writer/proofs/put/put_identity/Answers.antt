@@ -5,7 +5,6 @@ use Rattle.grammar.specs.Grammar.{identity}
 use Rattle.words.specs.RecordWords.{identity_from}
 use lib.ListN.{drop}
 use Rattle.writer.proofs.Runs.{room-run, put_as-run, alone, ended}
-use borrow.Author.Rules.{rules}
 use native.Mathlib.Omega.{arith}
 use Rattle.writer.proofs.put.put_identity.Goals.{After-identity_run-run}
 use Rattle.writer.proofs.put.put_identity.Goals as goal

@@ -4,7 +4,6 @@ use Rattle.grammar.specs.Grammar.{identity, no_identity}
 use Rattle.grammar.proofs.Sizes.{size-no_identity}
 use Rattle.words.specs.RecordWords.{identity_from}
 use Rattle.writer.proofs.PutsEntries.{Putting, putting-start, putting-room, putting-next, putting-done}
-use borrow.Author.Rules.{rules}
 use native.Mathlib.Omega.{arith}
 use Rattle.writer.proofs.put.put_identity_entries.Goals.{After-put_identity-first, Start}
 use Rattle.writer.proofs.put.put_identity_entries.Goals as goal
@@ -20,7 +19,7 @@ pub put_identity-first-requires : goal.put_identity-first-requires
 put_identity-first-requires c =
     (omega (arith, c.requires.0), putting-room (none (goal.at.put_identity-first-requires c).Start) (omega (arith, c.if-n-eq0.false)) c.requires.1)
 
-one : (c : After-put_identity-first) →  let a = c.args in
+one : (c : After-put_identity-first) → let a = c.args in
     Putting identity no_identity identity_from 3 8 a.n a.words.now a.from a.out.now a.at 1 (a.from + 3) c.put_identity-first.new.out c.put_identity-first.result.at
 one c =
     putting-next (none (goal.at.After-put_identity-first c).Start) (omega (arith, c.if-n-eq0.false)) c.requires.1 c.put_identity-first.auto.out c.put_identity-first.ensures.0

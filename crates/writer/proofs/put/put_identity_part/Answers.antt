@@ -4,7 +4,6 @@ use Rattle.grammar.proofs.Sizes.{size-no_externals}
 use Rattle.tally.proofs.Words.{lists_at, lists_are}
 use Rattle.writer.specs.Inner.{Room}
 use Rattle.writer.proofs.Puts.{room-first, room_next, room-shape, put_then, put-shape, put-none}
-use borrow.Author.Rules.{rules}
 use native.Mathlib.Omega.{arith}
 use Rattle.writer.proofs.put.put_identity_part.Goals.{Start}
 use Rattle.writer.proofs.put.put_identity_part.Goals as goal

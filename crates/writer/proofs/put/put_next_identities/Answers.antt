@@ -1,20 +1,15 @@
 -- Entry by entry, up to the last that is used. Assumes nothing.
-use Prim.Native.Nat.{◌-◌}
-use Rattle.grammar.specs.Grammar.{identity, no_identity}
 use Rattle.grammar.proofs.Sizes.{size-no_identity}
-use Rattle.words.specs.RecordWords.{identity_from}
-use Rattle.writer.specs.Inner.{Ended}
-use Rattle.writer.proofs.PutsEntries.{Putting, putting-start, putting-room, putting-next, putting-done}
-use borrow.Author.Rules.{rules}
+use Rattle.writer.proofs.PutsEntries.{putting-start, putting-room, putting-next, putting-done}
 use native.Mathlib.Omega.{arith}
 use Rattle.writer.proofs.put.put_next_identities.Goals as goal
 
 pub put_next_identity-next-requires : goal.put_next_identity-next-requires
 put_next_identity-next-requires c = (
-      omega (arith, c.loop-i.invariant.0.there, c.requires.0, c.requires.1, c.loop-i-test.true),
-      c.loop-i.invariant.1,
-      putting-room c.loop-i.invariant.0 c.loop-i-test.true c.requires.1,
-    )
+  omega (arith, c.loop-i.invariant.0.there, c.requires.0, c.requires.1, c.loop-i-test.true),
+  c.loop-i.invariant.1,
+  putting-room c.loop-i.invariant.0 c.loop-i-test.true c.requires.1,
+)
 
 pub loop-i-preserved : goal.loop-i-preserved
 loop-i-preserved c =

@@ -1,12 +1,9 @@
 -- Entry by entry, up to the last that is used. Assumes nothing.
 use Prim.Native.Nat.{◌-◌}
 use Rattle.grammar.specs.Grammar.{identity, no_identity}
-use Rattle.grammar.proofs.Sizes.{size-no_identity}
 use Rattle.words.specs.RecordWords.{identity_from}
 use Rattle.writer.specs.Inner.{Ended}
-use Rattle.writer.proofs.PutsEntries.{Putting, putting-start, putting-room, putting-next, putting-done}
-use borrow.Author.Rules.{rules}
-use native.Mathlib.Omega.{arith}
+use Rattle.writer.proofs.PutsEntries.{Putting}
 use Rattle.writer.proofs.put.put_next_identities.Given as goal
 
 abbrev pub invariant-loop-i : goal.invariant-loop-i

@@ -7,7 +7,6 @@ use Rattle.bits.specs.Bits.{bits_of}
 use Rattle.grammar.specs.Grammar.{identity}
 use Rattle.words.specs.RecordWords.{identity_from}
 use Rattle.writer.proofs.Runs.{alone, after-bits, ended, room_again, put_again}
-use borrow.Author.Rules.{rules}
 use native.Mathlib.Omega.{arith}
 use Rattle.writer.proofs.put.put_next_identity.Goals.{After-identity_run-run}
 use Rattle.writer.proofs.put.put_next_identity.Goals as goal

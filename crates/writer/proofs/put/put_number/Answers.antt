@@ -12,7 +12,6 @@ use Rattle.tally.proofs.Words.{number_at, number-at}
 use Rattle.writer.specs.Inner.{Room, code_bits}
 use Rattle.writer.proofs.Runs.{put_as-run, room-front, room-over, put-over}
 use Rattle.writer.proofs.Codes.{length-small, number-front, number-rest}
-use borrow.Author.Rules.{rules}
 use native.Mathlib.Omega.{arith}
 use Rattle.writer.proofs.put.put_number.Goals.{After-least-late, After-with_twelve, After-with_twelve-2, Start}
 use Rattle.writer.proofs.put.put_number.Goals as goal
@@ -30,7 +29,7 @@ few c = length-small c.args.words.now c.args.from (omega (arith, c.requires.0)) 
 abbrev others : (c : Start) → ℕ → List Bool
 others c late = code_bits 4 (take late (drop (c.args.from + 13) c.args.words.now))
 
-front : (c : After-with_twelve) (late : ℕ) → 
+front : (c : After-with_twelve) (late : ℕ) →
     let early = c.bits-early_bits.result.0 in
     c.least-early.result + late ≡ min (word c.args.words.now c.args.from) 24
     → external.print (number_at c.args.words.now c.args.from) ≡ bits_of (5 + early) (c.with_twelve.result / 2 ^ (48 - early))
@@ -47,9 +46,9 @@ with_twelve-requires c =
 
 pub put_run-middle-requires : goal.put_run-middle-requires
 put_run-middle-requires c = (
-      omega (arith, c.bits-early_bits.ensures, c.least-early.ensures),
-      room-front _ _ _ (front (goal.at.put_run-middle-requires c).After-with_twelve (min (word c.args.words.now c.args.from) 24 - c.least-early.result) (omega (arith, c.least-early.ensures))) (room (goal.at.put_run-middle-requires c).Start),
-    )
+  omega (arith, c.bits-early_bits.ensures, c.least-early.ensures),
+  room-front _ _ _ (front (goal.at.put_run-middle-requires c).After-with_twelve (min (word c.args.words.now c.args.from) 24 - c.least-early.result) (omega (arith, c.least-early.ensures))) (room (goal.at.put_run-middle-requires c).Start),
+)
 
 pub returns-then-count-lt13 : goal.returns-then-count-lt13
 unfolding code_bits
@@ -66,14 +65,14 @@ with_twelve-requires-2 c =
     (omega arith, omega (arith, c.requires.0))
 
 -- the whole number by the first run, where there is a second
-both : (c : After-least-late) → 
+both : (c : After-least-late) →
     let early = c.bits-early_bits.result.0 in
     external.print (number_at c.args.words.now c.args.from)
     ≡ bits_of (5 + early) (c.with_twelve.result / 2 ^ (48 - early)) ++ others (goal.at.After-least-late c).Start (c.least-late.result - 12)
 both c =
     front (goal.at.After-least-late c).After-with_twelve (c.least-late.result - 12) (omega (arith, c.least-early.ensures, c.least-late.ensures, c.if-count-lt13.false))
 
-over : (c : After-with_twelve-2) →   
+over : (c : After-with_twelve-2) →
     let late = c.bits-late_bits.result.0 in
     bits_of (c.put_run-middle.result % 8 + late) (c.with_twelve-2.result / 2 ^ (48 - late))
     ≡ bits_of (c.put_run-middle.result % 8) (c.with_twelve.result / 2 ^ (48 - c.bits-early_bits.result.0)) ++ others (goal.at.After-with_twelve-2 c).Start (c.least-late.result - 12)
@@ -89,9 +88,9 @@ wide c =
 
 pub put_run-requires : goal.put_run-requires
 put_run-requires c = (
-      omega (arith, c.bits-late_bits.ensures, c.least-late.ensures),
-      room-over _ _ _ (both (goal.at.put_run-requires c).After-least-late) (room (goal.at.put_run-requires c).Start) c.put_run-middle.ensures _ _ _ (wide (goal.at.put_run-requires c).After-least-late) (omega arith) (over (goal.at.put_run-requires c).After-with_twelve-2),
-    )
+  omega (arith, c.bits-late_bits.ensures, c.least-late.ensures),
+  room-over _ _ _ (both (goal.at.put_run-requires c).After-least-late) (room (goal.at.put_run-requires c).Start) c.put_run-middle.ensures _ _ _ (wide (goal.at.put_run-requires c).After-least-late) (omega arith) (over (goal.at.put_run-requires c).After-with_twelve-2),
+)
 
 pub returns : goal.returns
 returns c =

@@ -1,12 +1,8 @@
 -- Entry by entry, up to the last that is used. Assumes nothing.
 use Prim.Native.Nat.{◌-◌}
 use Rattle.grammar.specs.Grammar.{external, no_external}
-use Rattle.grammar.proofs.Sizes.{size-no_external}
 use Rattle.words.specs.RecordWords.{number_from}
-use Rattle.words.proofs.LegalRecords.{SmallNumber}
-use Rattle.writer.proofs.PutsEntries.{Putting, putting-start, putting-room, putting-next, putting-done, each-entry}
-use borrow.Author.Rules.{rules}
-use native.Mathlib.Omega.{arith}
+use Rattle.writer.proofs.PutsEntries.{Putting}
 use Rattle.writer.proofs.put.put_number_entries.Given as goal
 
 abbrev pub invariant-loop-i : goal.invariant-loop-i

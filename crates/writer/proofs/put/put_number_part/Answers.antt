@@ -8,7 +8,6 @@ use Rattle.words.specs.RecordWords.{numbers_from}
 use Rattle.tally.proofs.Words.{lists_at, lists_are}
 use Rattle.writer.specs.Inner.{Room, Small}
 use Rattle.writer.proofs.Puts.{room-first, room_next, room-shape, put_then, put-shape, put-none}
-use borrow.Author.Rules.{rules}
 use native.Mathlib.Omega.{arith}
 use Rattle.writer.proofs.put.put_number_part.Goals.{After-put_identities-after_groups, Start}
 use Rattle.writer.proofs.put.put_number_part.Goals as goal

@@ -10,7 +10,6 @@ use Rattle.tally.proofs.Words.{numbers_at, numbers-at}
 use Rattle.writer.specs.Inner.{Room}
 use Rattle.writer.proofs.Puts.{room-first, room_next, room-shape, room-element, put_then, put-shape, put_element}
 use Rattle.writer.proofs.PutsEntries.{room-used, put-used}
-use borrow.Author.Rules.{rules}
 use native.Mathlib.Omega.{arith}
 use Rattle.writer.proofs.put.put_numbers.Goals.{Start}
 use Rattle.writer.proofs.put.put_numbers.Goals as goal

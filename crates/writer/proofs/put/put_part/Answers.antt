@@ -2,7 +2,6 @@
 use borrow.Author.Tests.{eq-eqb, ne_eqb}
 use Rattle.grammar.proofs.Sizes.{size-no_part}
 use Rattle.writer.proofs.Puts.{put-none}
-use borrow.Author.Rules.{rules}
 use Rattle.writer.proofs.put.put_part.Goals as goal
 
 pub put_identity_part-requires : goal.put_identity_part-requires
@@ -14,11 +13,11 @@ returns-then-part-eq1 c =
 
 pub put_number_part-requires : goal.put_number_part-requires
 put_number_part-requires c = (
-      c.requires.0,
-      c.requires.1,
-      rw (ne_eqb c.args.part 1 c.if-part-eq1.false, eq-eqb c.args.part 2 c.if-part-eq2.true) at
-          c.requires.2,
-    )
+  c.requires.0,
+  c.requires.1,
+  rw (ne_eqb c.args.part 1 c.if-part-eq1.false, eq-eqb c.args.part 2 c.if-part-eq2.true) at
+      c.requires.2,
+)
 
 pub returns-then-part-eq2 : goal.returns-then-part-eq2
 returns-then-part-eq2 c =

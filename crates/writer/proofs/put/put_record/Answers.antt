@@ -1,5 +1,4 @@
 -- SS type, PDU type, affected users, and what follows them. Assumes nothing.
-use borrow.Author.Rules.{rules}
 use mathlib.Core.Path.{◌≡◌, sym, subst}
 use native.Mathlib.Omega.{arith}
 use Rattle.codec.specs.Codec.{Codec}
@@ -40,7 +39,7 @@ unfolding record_from
 put_element-after_kind-requires c = (omega arith, room-element 5 kind_refusal (room-first _ (kind-room (goal.at.put_element-after_kind-requires c).After-put_element-after_ss)))
 
 -- after the PDU type: the row of its table
-row_room : (c : After-put_element-after_kind) → 
+row_room : (c : After-put_element-after_kind) →
     Room (rowed c.pdu_type-kind.result) (from_record (record_from (start (goal.at.After-put_element-after_kind c).After-form_of-form).args.words.now)).1 c.put_element-after_kind.new.out c.put_element-after_kind.result
 unfolding record_from
 row_room c =
@@ -54,11 +53,11 @@ unfolding record_from
 put_users-after_users-requires c =
     ((start (goal.at.put_users-after_users-requires c).After-form_of-form).requires.0, rw c.form_of-form.ensures (room-first _ (row_room (goal.at.put_users-after_users-requires c).After-put_element-after_kind)))
 
-users : (c : After-put_users-after_users) →  
+users : (c : After-put_users-after_users) →
     Puts (users_of c.pdu_type-kind.result) (record_from (start (goal.at.After-put_users-after_users c).After-form_of-form).args.words.now).affected
     c.put_element-after_kind.new.out c.put_users-after_users.new.out c.put_element-after_kind.result c.put_users-after_users.result
 unfolding record_from
-users c = 
+users c =
     rw c.form_of-form.ensures at c.put_users-after_users.ensures
 
 pub put_figured-requires : goal.put_figured-requires

@@ -8,7 +8,6 @@ use Rattle.tally.proofs.Words.{services_at, services-at}
 use Rattle.writer.specs.Inner.{Room}
 use Rattle.writer.proofs.Runs.{room-run, put_as-run}
 use Rattle.writer.proofs.Codes.{services-run}
-use borrow.Author.Rules.{rules}
 use native.Mathlib.Omega.{arith}
 use Rattle.writer.proofs.put.put_services.Goals.{After-with_codes, Start}
 use Rattle.writer.proofs.put.put_services.Goals as goal

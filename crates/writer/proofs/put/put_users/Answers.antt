@@ -1,5 +1,4 @@
 -- There, or not. Assumes nothing.
-use borrow.Author.Rules.{rules}
 use native.Mathlib.Omega.{arith}
 use Rattle.grammar.specs.declared.site.ListKind.TheVariants.{Users, Identities}
 use Rattle.grammar.proofs.Sizes.{size-no_identities}

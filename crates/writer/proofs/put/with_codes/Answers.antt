@@ -1,6 +1,6 @@
 -- Code by code. Assumes nothing.
 use mathlib.Core.Path.{◌≡◌, ◌∙◌, ap, sym, subst}
-use Prim.Native.Nat.{ℕ, ◌+◌, ◌-◌, ◌*◌, ◌%◌, ◌^◌, ◌≤◌, ◌<◌}
+use Prim.Native.Nat.{ℕ, ◌+◌, ◌*◌, ◌%◌, ◌^◌, ◌<◌}
 use native.Mathlib.Nat.{lt_of_lt_of_le, mul-le-mul_left, mod-lt}
 use lib.ListN.{take, drop, get_or, length-drop}
 use lib.Seq.{get_or-drop}
@@ -8,13 +8,12 @@ use lib.Arith.{digits_lt}
 use lib.Pow.{pow-add, pow_mono}
 use Rattle.writer.specs.Inner.{CodesAfter}
 use Rattle.writer.proofs.Codes.{no-codes, more-codes}
-use borrow.Author.Rules.{rules}
 use native.Mathlib.Omega.{arith}
 use Rattle.writer.proofs.put.with_codes.Goals.{In-loop-i}
 use Rattle.writer.proofs.put.with_codes.Goals as goal
 
 -- a code more takes at most four bits more
-wider : (c : In-loop-i) →  let s = c.args.scale in (d : ℕ)
+wider : (c : In-loop-i) → let s = c.args.scale in (d : ℕ)
     → c.loop-i.run * s + d % s < 2 ^ (8 + 4 * (c.loop-i.i + 1))
 wider c d =
     let s = c.args.scale in
@@ -22,7 +21,7 @@ wider c d =
     subst (λ (m : ℕ). c.loop-i.run * s + d % s < m) (sym (pow-add 2 (8 + 4 * c.loop-i.i) 4) ∙ ap (λ (n : ℕ). 2 ^ n) size)
     (lt_of_lt_of_le (digits_lt c.loop-i.invariant.1 (mod-lt d c.requires.1)) (mul-le-mul_left (2 ^ (8 + 4 * c.loop-i.i)) c.requires.2))
 
-fits : (c : In-loop-i) →  let s = c.args.scale in (d : ℕ)
+fits : (c : In-loop-i) → let s = c.args.scale in (d : ℕ)
     → c.loop-i.run * s + d % s < 2 ^ 56
 fits c d = lt_of_lt_of_le (wider c d) (pow_mono {j = 56} (omega (arith, c.requires.3, c.loop-i-test.true)))
 

@@ -1,15 +1,8 @@
 -- Code by code. Assumes nothing.
-use mathlib.Core.Path.{◌≡◌, ◌∙◌, ap, sym, subst}
-use Prim.Native.Nat.{ℕ, ◌+◌, ◌-◌, ◌*◌, ◌%◌, ◌^◌, ◌≤◌, ◌<◌}
-use native.Mathlib.Nat.{lt_of_lt_of_le, mul-le-mul_left, mod-lt}
-use lib.ListN.{take, drop, get_or, length-drop}
-use lib.Seq.{get_or-drop}
-use lib.Arith.{digits_lt}
-use lib.Pow.{pow-add, pow_mono}
+use mathlib.Core.Path.{◌≡◌}
+use Prim.Native.Nat.{ℕ, ◌+◌, ◌-◌, ◌*◌, ◌^◌, ◌≤◌, ◌<◌}
+use lib.ListN.{take, drop}
 use Rattle.writer.specs.Inner.{CodesAfter}
-use Rattle.writer.proofs.Codes.{no-codes, more-codes}
-use borrow.Author.Rules.{rules}
-use native.Mathlib.Omega.{arith}
 use Rattle.writer.proofs.put.with_codes.Given as goal
 
 abbrev pub invariant-loop-i : goal.invariant-loop-i

@@ -1,7 +1,6 @@
 -- Digit by digit. Assumes nothing.
 use Prim.Native.Nat.{◌+◌}
 use native.Mathlib.Omega.{arith}
-use borrow.Author.Rules.{rules}
 use Rattle.writer.proofs.Codes.{four-codes}
 use Rattle.writer.proofs.put.with_four.Goals as goal
 

@@ -1,6 +1,5 @@
 -- Four, four and four. Assumes nothing.
 use native.Mathlib.Omega.{arith}
-use borrow.Author.Rules.{rules}
 use Rattle.writer.proofs.Codes.{twelve-codes}
 use Rattle.writer.proofs.put.with_twelve.Goals as goal
 

@@ -1,16 +1,15 @@
 //! Compares the calls of the library with the reference: `calls [SEED]`.
 //!
-//! Each case lends both sides equal buffers of random content and compares the answers, every byte or word of
-//! every buffer, margins before and after what was lent, and the numbers behind the last pointers: a length,
-//! a day or a decision, and where a refused call stopped. It ends with how often each answer of each call was
-//! met, each refusal of a PDU that has a place, each value of each code of each PDU and each reserved one, 7
-//! for each damage to an archive and for each fault in one, and an archive accepted with other bits of a day;
-//! 6, 8 and 9 for each reason that capture can have, 9 in the place of each of its other answers, and the same
-//! PDU captured with a lower, the same and a higher day; each index of archives of 0, 1, 64 and 512 entries,
-//! 9 for each wrong count of a key's words and in the place of each other answer of entry; a reload of each part under each definition type, 9
-//! and 12 for each reason that either reload can have; each decision for a visitor from another network, and a
-//! visitor's call that is decided otherwise with the home network for the visitor's own. One that was never
-//! met is a failure too.
+//! Each case lends both sides equal buffers of random content and compares the answers, every byte or word of every
+//! buffer, margins before and after what was lent, and the numbers behind the last pointers: a length, a day or a
+//! decision, and where a refused call stopped. It ends with how often each answer of each call was met, each refusal
+//! of a PDU that has a place, each value of each code of each PDU and each reserved one, 7 for each damage to an
+//! archive and for each fault in one, and an archive accepted with other bits of a day; 6, 8 and 9 for each reason
+//! that capture can have, 9 in the place of each of its other answers, and the same PDU captured with a lower, the
+//! same and a higher day; each index of archives of 0, 1, 64 and 512 entries, 9 for each wrong count of a key's words
+//! and in the place of each other answer of entry; a reload of each part under each definition type, 9 and 12 for
+//! each reason that either reload can have; each decision for a visitor from another network, and a visitor's call
+//! that is decided otherwise with the home network for the visitor's own. One that was never met is a failure too.
 
 #![forbid(unsafe_code)]
 
