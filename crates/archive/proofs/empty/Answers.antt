@@ -12,7 +12,7 @@ use Rattle.archive.proofs.empty.Goals as goal
 
 pub returns-then-home-ge16777216 : goal.returns-then-home-ge16777216
 unfolding empty_is empty_out
-returns-then-home-ge16777216 c = let h = le-ltb _ _ c.if-home-ge16777216.true in record {
+returns-then-home-ge16777216 c = let h = le-ltb c.args.home 16777216 c.if-home-ge16777216.true in record {
   value = rw (c.plain.ensures, h);
   out_after = rw h;
 }

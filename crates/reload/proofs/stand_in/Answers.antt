@@ -6,12 +6,12 @@ use Rattle.reload.proofs.stand_in.Goals as goal
 
 pub returns-then-part-eq1 : goal.returns-then-part-eq1
 unfolding stands_in
-returns-then-part-eq1 c = rw (c.no_numbers.ensures, eq-eqb _ 1 c.if-part-eq1.true)
+returns-then-part-eq1 c = rw (c.no_numbers.ensures, eq-eqb c.args.part 1 c.if-part-eq1.true)
 
 pub returns-then-part-eq2 : goal.returns-then-part-eq2
 unfolding stands_in
 returns-then-part-eq2 c =
-    rw (c.no_identities.ensures, ne_eqb _ 1 c.if-part-eq1.false, eq-eqb _ 2 c.if-part-eq2.true)
+    rw (c.no_identities.ensures, ne_eqb _ 1 c.if-part-eq1.false, eq-eqb c.args.part 2 c.if-part-eq2.true)
 
 pub returns-then-lists-ne0 : goal.returns-then-lists-ne0
 unfolding stands_in
