@@ -85,7 +85,7 @@ pub record EntryAt (b : List ℕ) (at : ℕ) (e : Entry) : Type 0 where
   pub bits : e.bits.0 ≡ two_bytes b (at + 7)
   pub day : e.day ≡ two_bytes b (at + 9)
 
--- "Bodies, in contents order, each in its rounded_up bytes, nothing between or after": entries from one place on, bodies from another
+-- "Bodies, in contents order, each in its rounded-up bytes, nothing between or after": entries from one place on, bodies from another
 abbrev pub Laid : List ℕ → ℕ → ℕ → List Held → Type 0
 Laid b at off [] = off ≡ length b
 Laid b at off (h ∷ hs) =
