@@ -15,12 +15,7 @@ pub fn boc_terminal_reset(table: &mut [u8]) -> u32
 }
 
 // Takes a line: a set line changes the table, the read form writes to `out`; the text's length in bytes goes to `length`.
-pub fn boc_terminal_line(
-    line: &[u8],
-    table: &mut [u8],
-    out: &mut [u8],
-    length: &mut usize,
-) -> u32
+pub fn boc_terminal_line(line: &[u8], table: &mut [u8], out: &mut [u8], length: &mut usize) -> u32
     ensures value { result ≡ line_number (line_answer line.now table.old out.old) }
     ensures table_after { table.new ≡ table_after line.now table.old }
     ensures out_after { out.new ≡ out_after line.now table.old out.old }

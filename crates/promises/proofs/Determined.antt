@@ -14,4 +14,5 @@ pub mod Barring
 pub mod InPlace
 pub mod Reload
 pub mod Boc
+pub mod Text
 pub mod Terminals

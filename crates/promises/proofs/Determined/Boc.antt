@@ -1,4 +1,4 @@
--- Each of the eleven calls for C has one possible outcome: the number it returns, the buffer, and the numbers behind its pointers.
+-- Each of the thirteen calls for C has one possible outcome: the number it returns, the buffer, and the numbers behind its pointers.
 use Rattle.boc.proofs as boc
 use Rattle.promises.specs.Determined.{Determined, by_equations}
 
@@ -76,3 +76,9 @@ boc_decide_in_place_determined = by_equations (λ κs a x v p. (p.0, λ i. (tt, 
 
 pub boc_contents_determined : Determined boc.boc_contents.Kinds.ps boc.boc_contents.Kinds.r boc.boc_contents.Reads.Learnt
 boc_contents_determined = by_equations (λ κs a x v p. (p.0, λ i. (tt, (p.1.0 i, (p.1.1.0 i, (p.1.1.1.0 i, (p.1.1.1.1 i, tt)))))))
+
+pub boc_terminal_reset_determined : Determined boc.serial.boc_terminal_reset.Kinds.ps boc.serial.boc_terminal_reset.Kinds.r boc.serial.boc_terminal_reset.Reads.Learnt
+boc_terminal_reset_determined = by_equations (λ κs a x v p. (p.0, λ i. (p.1 i, tt)))
+
+pub boc_terminal_line_determined : Determined boc.serial.boc_terminal_line.Kinds.ps boc.serial.boc_terminal_line.Kinds.r boc.serial.boc_terminal_line.Reads.Learnt
+boc_terminal_line_determined = by_equations (λ κs a x v p. (p.0, λ i. (tt, (p.1.0 i, (p.1.1.0 i, (p.1.1.1 i, tt))))))
