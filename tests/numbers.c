@@ -105,9 +105,9 @@ WRITTEN(BOC_DISTRIBUTION_NOT_VALID, 6);
 WRITTEN(BOC_DISTRIBUTION_INSUFFICIENT, 7);
 
 /* Rejection causes: table 38. */
-SPECIFIED(BOC_CAUSE_GROUP, 0, outside_group);
-SPECIFIED(BOC_CAUSE_SERVICE, 1, restricted_service);
-SPECIFIED(BOC_CAUSE_DESTINATION, 2, restricted_address);
+SPECIFIED(BOC_CAUSE_GROUP, 0, cause_OutsideGroup);
+SPECIFIED(BOC_CAUSE_SERVICE, 1, cause_RestrictedService);
+SPECIFIED(BOC_CAUSE_DESTINATION, 2, cause_RestrictedAddress);
 
 /* Interrogation results: table 35. */
 WRITTEN(BOC_RESULT_FAILED, 0);
@@ -157,9 +157,9 @@ WRITTEN(BOC_KEY_PART, 2);
 WRITTEN(BOC_KEY_WORDS, 3);
 
 /* Decisions: the causes of table 38, then allowed and not held. */
-SPECIFIED(BOC_BARRED_GROUP, 0, outside_group);
-SPECIFIED(BOC_BARRED_SERVICE, 1, restricted_service);
-SPECIFIED(BOC_BARRED_DESTINATION, 2, restricted_address);
+SPECIFIED(BOC_BARRED_GROUP, 0, cause_OutsideGroup);
+SPECIFIED(BOC_BARRED_SERVICE, 1, cause_RestrictedService);
+SPECIFIED(BOC_BARRED_DESTINATION, 2, cause_RestrictedAddress);
 SPECIFIED(BOC_ALLOWED, 3, decided_Allowed);
 SPECIFIED(BOC_PART_NOT_HELD, 4, decided_NotHeld);
 

@@ -1,9 +1,9 @@
 -- Whatever is offered, restoring gives the last PDU accepted for the user and part, and its day, or 11: each capture puts its PDU in or changes nothing.
 -- Assumes nothing.
+use Rattle.std.specs.Prelude.{Result, Ok, Err, Option, None, Some}
 use mathlib.Core.Path.{◌≡◌, refl, sym, ap, ◌∙◌, subst}
 use mathlib.Core.Bool.{Bool, true, false}
 use mathlib.Core.List.{List, [], ◌∷◌}
-use mathlib.Core.Option.{Option, none, some}
 use Prim.Native.Nat.{ℕ, ◌≤◌}
 use lib.ListN.{length, take}
 use lib.Dec.{leb}
@@ -18,22 +18,20 @@ use Rattle.archive.specs.Keeping.{over, empty_is, empty_out, held_for, captured,
 use Rattle.archive.specs.Restoring.{lookup, delivered, body_of, restore_is, restores, restore_out}
 use Rattle.archive.specs.History.{Offer, kept_of, answer_to, after, after_all, offered_for, latest, last_accepted}
 use Rattle.archive.specs.declared.contents.Key.{Key}
-use Rattle.archive.specs.declared.Stored.{Stored}
-use Rattle.archive.specs.declared.Stored.TheVariants.{Bytes, Refused}
 use Rattle.archive.specs.declared.Restored.{Restored}
-use Rattle.archive.specs.declared.Restored.TheVariants as restored
 use Rattle.archive.proofs.Calls.Restore.{as-delivered, restore-leaves}
 use Rattle.archive.proofs.Calls.AfterCapture.{new-archive, new-reads, held_after}
 use Rattle.archive.proofs.Calls.Empty.{empty_holds}
+use Rattle.archive.specs.declared.refusal.Refusal.{Refusal}
 
 -- ---- one offer
 
 -- what is held is the last PDU accepted
 abbrev pub Matches : Option Held → Option Offer → Type 0
-Matches none none = Unit {0}
-Matches (some h) (some o) = (h.body ≡ o.pdu) × (h.entry.bits ≡ record { 0 = o.bits }) × (h.entry.day ≡ o.day)
-Matches none (some o) = ⊥
-Matches (some h) none = ⊥
+Matches None None = Unit {0}
+Matches (Some h) (Some o) = (h.body ≡ o.pdu) × (h.entry.bits ≡ record { 0 = o.bits }) × (h.entry.day ≡ o.day)
+Matches None (Some o) = ⊥
+Matches (Some h) None = ⊥
 
 module _ (k : Key) (r : in_range k ≡ true) where
   abbrev held_in : List ℕ → Option Held
@@ -44,19 +42,19 @@ module _ (k : Key) (r : in_range k ≡ true) where
   unfolding after
   step b o last ok m = go (answer_to b o) refl
     where
-      now : (x : Stored) → List ℕ
+      now : (x : Result ℕ Refusal) → List ℕ
       now x = kept_of x b (capture_out b o.pdu o.bits o.day o.lent)
 
-      picked : (p : Bool) {l : Option Held} → l ≡ pick p (some (held_for (reading b).home o.pdu o.bits o.day)) (held_in b) → (n : ℕ)
-          → Matches l (latest (Bytes n) p o last)
-      picked true e n = subst (λ (l : Option Held). Matches l (some o)) (sym e) (refl, refl, refl)
+      picked : (p : Bool) {l : Option Held} → l ≡ pick p (Some (held_for (reading b).home o.pdu o.bits o.day)) (held_in b) → (n : ℕ)
+          → Matches l (latest (Ok n) p o last)
+      picked true e n = subst (λ (l : Option Held). Matches l (Some o)) (sym e) (refl, refl, refl)
       picked false e n = subst (λ (l : Option Held). Matches l last) (sym e) m
 
-      go : (x : Stored) → answer_to b o ≡ x
+      go : (x : Result ℕ Refusal) → answer_to b o ≡ x
           → (is_archive (now (answer_to b o)) ≡ true) × (Matches (held_in (now (answer_to b o))) (latest (answer_to b o) (same_key (offered_for b o) k) o last))
-      go (Bytes n) e =
+      go (Ok n) e =
           rw e (new-archive b o.pdu o.bits o.day n o.lent e, picked (same_key (offered_for b o) k) (held_after b o.pdu o.bits o.day n o.lent e k r) n)
-      go (Refused k) e = rw e (ok, m)
+      go (Err k) e = rw e (ok, m)
 
   steps : (b : List ℕ) (os : List Offer) (last : Option Offer) → is_archive b ≡ true → Matches (held_in b) last
       → (is_archive (after_all b os) ≡ true) × (Matches (held_in (after_all b os)) (last_accepted k b last os))
@@ -69,20 +67,20 @@ module _ (k : Key) (r : in_range k ≡ true) where
 -- ---- what restoring gives
 
 -- of the last PDU accepted: its bits and its day, or 11 if there was none
-abbrev pub given_of : Option Offer → ℕ → Restored
-given_of none room = restored.Refused (plain 11)
-given_of (some o) room = pick (leb (bytes_for o.bits) room) (restored.Bits (record { 0 = o.bits }) o.day) (restored.Refused (plain 8))
+abbrev pub given_of : Option Offer → ℕ → Result Restored Refusal
+given_of None room = Err (plain 11)
+given_of (Some o) room = pick (leb (bytes_for o.bits) room) (Ok (record { bits = record { 0 = o.bits }; day = o.day })) (Err (plain 8))
 
 abbrev pub pdu_of : Option Offer → List ℕ
-pdu_of none = []
-pdu_of (some o) = o.pdu
+pdu_of None = []
+pdu_of (Some o) = o.pdu
 
 gives : (l : Option Held) (last : Option Offer) (room : ℕ) → Matches l last → (delivered l room ≡ given_of last room) × (body_of l ≡ pdu_of last)
-gives none none room m = (refl, refl)
-gives (some h) (some o) room m =
-    ((λ i. pick (leb (bytes_for (m.1 i).0) room) (restored.Bits (m.1 i) (m.2 i)) (restored.Refused (plain 8))), m.0)
-gives none (some o) room m = absurd m
-gives (some h) none room m = absurd m
+gives None None room m = (refl, refl)
+gives (Some h) (Some o) room m =
+    ((λ i. pick (leb (bytes_for (m.1 i).0) room) (Ok (record { bits = m.1 i; day = m.2 i })) (Err (plain 8))), m.0)
+gives None (Some o) room m = absurd m
+gives (Some h) None room m = absurd m
 
 -- ---- the history
 
@@ -91,9 +89,9 @@ same_home : (b : List ℕ) (o : Offer) → (reading (after b o)).home ≡ (readi
 unfolding after captured
 same_home b o = go (answer_to b o) refl
   where
-    go : (x : Stored) → answer_to b o ≡ x → (reading (kept_of (answer_to b o) b (capture_out b o.pdu o.bits o.day o.lent))).home ≡ (reading b).home
-    go (Bytes n) e = rw e (ap (λ (a : Archive). a.home) (new-reads b o.pdu o.bits o.day n o.lent e))
-    go (Refused k) e = rw e
+    go : (x : Result ℕ Refusal) → answer_to b o ≡ x → (reading (kept_of (answer_to b o) b (capture_out b o.pdu o.bits o.day o.lent))).home ≡ (reading b).home
+    go (Ok n) e = rw e (ap (λ (a : Archive). a.home) (new-reads b o.pdu o.bits o.day n o.lent e))
+    go (Err k) e = rw e
 
 home-kept : (b : List ℕ) (os : List Offer) → (reading (after_all b os)).home ≡ (reading b).home
 unfolding after_all
@@ -106,23 +104,23 @@ pub record Kept (home : ℕ) (b : List ℕ) (k : Key) (last : Option Offer) : Ty
   pub home-is : (reading b).home ≡ home
   pub held : Matches (lookup k (reading b).held) last
 
-pub kept : (home : ℕ) (lent : List ℕ) (m : ℕ) → empty_is home (length lent) ≡ Bytes m → (os : List Offer) (k : Key) → in_range k ≡ true
-    → Kept home (after_all (take m (empty_out home lent)) os) k (last_accepted k (take m (empty_out home lent)) none os)
+pub kept : (home : ℕ) (lent : List ℕ) (m : ℕ) → empty_is home (length lent) ≡ Ok m → (os : List Offer) (k : Key) → in_range k ≡ true
+    → Kept home (after_all (take m (empty_out home lent)) os) k (last_accepted k (take m (empty_out home lent)) None os)
 kept home lent m e os k r =
     let start = take m (empty_out home lent) in
     let z = empty_holds home lent m e in
-    let none-held : Matches (held_in k r start) none = subst (λ (a : Archive). Matches (lookup k a.held) none) (sym z.1) tt in
-    let s = steps k r start os none z.0 none-held in
+    let none-held : Matches (held_in k r start) None = subst (λ (a : Archive). Matches (lookup k a.held) None) (sym z.1) tt in
+    let s = steps k r start os None z.0 none-held in
     record { archive = s.0; home-is = home-kept start os ∙ ap (λ (a : Archive). a.home) z.1; held = s.1 }
 
 -- and restoring gives it, or 11
-module _ (home : ℕ) (lent : List ℕ) (m : ℕ) (e : empty_is home (length lent) ≡ Bytes m) (os : List Offer) (k : Key) (r : in_range k ≡ true)
+module _ (home : ℕ) (lent : List ℕ) (m : ℕ) (e : empty_is home (length lent) ≡ Ok m) (os : List Offer) (k : Key) (r : in_range k ≡ true)
     (out : List ℕ) where
   abbrev pub start : List ℕ
   start = take m (empty_out home lent)
 
   abbrev pub last : Option Offer
-  last = last_accepted k start none os
+  last = last_accepted k start None os
 
   pub history : (restore_is (after_all start os) k (length out) ≡ given_of last (length out))
       × (restore_out (after_all start os) k out ≡ restores (given_of last (length out)) (pdu_of last) out)
@@ -133,11 +131,11 @@ module _ (home : ℕ) (lent : List ℕ) (m : ℕ) (e : empty_is home (length len
       (x, restore-leaves (after_all start os) k out x ∙ ap (λ (w : List ℕ). restores (given_of last (length out)) w out) g.1)
 
   -- none was accepted for them: 11, and no byte changed
-  pub never : last ≡ none → (restore_is (after_all start os) k (length out) ≡ restored.Refused (plain 11)) × (restore_out (after_all start os) k out ≡ out)
+  pub never : last ≡ None → (restore_is (after_all start os) k (length out) ≡ Err (plain 11)) × (restore_out (after_all start os) k out ≡ out)
   never n = rw n at history
 
   -- otherwise, with room for it, exactly the bits of the last, and its day
-  pub always : (o : Offer) → last ≡ some o → bytes_for o.bits ≤ length out
-      → (restore_is (after_all start os) k (length out) ≡ restored.Bits (record { 0 = o.bits }) o.day)
+  pub always : (o : Offer) → last ≡ Some o → bytes_for o.bits ≤ length out
+      → (restore_is (after_all start os) k (length out) ≡ Ok (record { bits = record { 0 = o.bits }; day = o.day }))
       × (restore_out (after_all start os) k out ≡ over o.pdu out)
   always o l h = rw (l, le-leb (bytes_for o.bits) (length out) h) at history

@@ -1,5 +1,4 @@
 -- The text of a listing: digits, lines, and how long they are.
-pub mod Decimal
 pub mod Lines
 pub mod Sizes
 pub mod Within

@@ -1,7 +1,6 @@
 -- Worked cases with several entries: the bytes of numbers, limits, a PDU put in its place, a history of offers, what breaks a
 -- rule, and the listing.
-use Rattle.std.specs.Prelude.{◌≡◌, refl, true, false, List, [], ◌∷◌, ◌++◌, ℕ, take, replicate}
-use Rattle.std.proofs.Math.Option.{none, some}
+use Rattle.std.specs.Prelude.{◌≡◌, refl, true, false, List, [], ◌∷◌, ◌++◌, ℕ, take, replicate, Err, Ok, None, Some}
 use Rattle.archive.specs.Model.{Held, header_bytes, entry_bytes, length_of, within_limits, in_range}
 use Rattle.archive.specs.Filing.{filing_of, body_agrees}
 use Rattle.archive.specs.Reading.{home_of, count_of, entry_at, is_archive}
@@ -10,17 +9,11 @@ use Rattle.archive.specs.Checking.{check_is}
 use Rattle.archive.specs.Keeping.{empty_is, put}
 use Rattle.archive.specs.Restoring.{held_nth, entry_is, fetch_is, restore_is, restore_out}
 use Rattle.archive.specs.History.{Offer, after, after_all, last_accepted}
-use Rattle.archive.specs.Listing.{digits, decimal, item, two_items, first_line, line, lines, listing, fault_text, told_of}
+use Rattle.text.specs.Decimal.{digits, decimal, item}
+use Rattle.archive.specs.Listing.{two_items, first_line, line, lines, listing, fault_text, told_of}
 use Rattle.archive.specs.Examples.{calls}
 use Rattle.archive.specs.declared.contents.Key.{Key}
 use Rattle.archive.specs.declared.contents.Entry.{Entry}
-use Rattle.walk.specs.declared.BitPlace.TheVariants.{At, Nowhere}
-use Rattle.archive.specs.declared.checking.Checked.TheVariants as check
-use Rattle.archive.specs.declared.Stored.TheVariants as stored
-use Rattle.archive.specs.declared.Listed.TheVariants as listed
-use Rattle.archive.specs.declared.Fetched.TheVariants.{Body, NotHeld}
-use Rattle.archive.specs.declared.Fetched.TheVariants as fetch
-use Rattle.archive.specs.declared.Restored.TheVariants as restored
 
 -- a user and part, and an entry
 abbrev key : ℕ → ℕ → ℕ → Key
@@ -49,7 +42,7 @@ limits : (within_limits 512 65536 ≡ true) × (within_limits 513 65536 ≡ fals
 limits = (refl, refl, refl)
 
 -- home networks and lent buffers from both sides
-empties : (empty_is 16777215 5 ≡ stored.Bytes 5) × (empty_is 16777216 5 ≡ stored.Refused (plain 9)) × (empty_is 0 4 ≡ stored.Refused (plain 8))
+empties : (empty_is 16777215 5 ≡ Ok 5) × (empty_is 16777216 5 ≡ Err (plain 9)) × (empty_is 0 4 ≡ Err (plain 8))
 unfolding empty_is
 empties = (refl, refl, refl)
 
@@ -131,36 +124,36 @@ history = refl
 
 -- the last accepted of user 1/5 is the second, not the first, nor the failed one, nor the one of no day; the visitor's stays; no other user or
 -- part has one
-last-accepted : (last_accepted (key 1 5 1) nothing none offers ≡ some second)
-    × (last_accepted (key 7 4 2) nothing none offers ≡ some visitor)
-    × (last_accepted (key 1 5 2) nothing none offers ≡ none)
-    × (last_accepted (key 1 4 2) nothing none offers ≡ none)
+last-accepted : (last_accepted (key 1 5 1) nothing None offers ≡ Some second)
+    × (last_accepted (key 7 4 2) nothing None offers ≡ Some visitor)
+    × (last_accepted (key 1 5 2) nothing None offers ≡ None)
+    × (last_accepted (key 1 4 2) nothing None offers ≡ None)
 unfolding calls body_agrees filing_of after after_all last_accepted
 last-accepted = (refl, refl, refl, refl)
 
 -- where their bodies begin, and their days; nothing is held for another part, or in an empty archive; one byte more or less, and no header, is no archive
-fetched : (fetch_is kept (key 1 5 1) ≡ Body 27 (record { 0 = 66 }) 299)
-    × (fetch_is kept (key 7 4 2) ≡ Body 36 (record { 0 = 87 }) 65535)
-    × (fetch_is kept (key 7 4 1) ≡ NotHeld)
-    × (fetch_is nothing (key 1 5 1) ≡ NotHeld)
-    × (fetch_is (kept ++ (0x00 ∷ [])) (key 1 5 1) ≡ fetch.Refused (plain 7))
-    × (fetch_is (take 46 kept) (key 1 5 1) ≡ fetch.Refused (plain 7))
-    × (fetch_is [] (key 1 5 1) ≡ fetch.Refused (plain 7))
+fetched : (fetch_is kept (key 1 5 1) ≡ Ok (Some (record { off = 27; bits = record { 0 = 66 }; day = 299 })))
+    × (fetch_is kept (key 7 4 2) ≡ Ok (Some (record { off = 36; bits = record { 0 = 87 }; day = 65535 })))
+    × (fetch_is kept (key 7 4 1) ≡ Ok None)
+    × (fetch_is nothing (key 1 5 1) ≡ Ok None)
+    × (fetch_is (kept ++ (0x00 ∷ [])) (key 1 5 1) ≡ Err (plain 7))
+    × (fetch_is (take 46 kept) (key 1 5 1) ≡ Err (plain 7))
+    × (fetch_is [] (key 1 5 1) ≡ Err (plain 7))
 unfolding calls body_agrees filing_of fetch_is in_range
 fetched = (refl, refl, refl, refl, refl, refl, refl)
 
 -- the entries by their index, and none beyond the last; what is no archive has none
-entries : (entry_is kept 0 ≡ listed.Entry (entry_on 299 1 5 1 66))
-    × (entry_is kept 1 ≡ listed.Entry (entry_on 65535 7 4 2 87))
-    × (entry_is kept 2 ≡ listed.Refused (plain 11))
-    × (entry_is nothing 0 ≡ listed.Refused (plain 11))
-    × (entry_is (take 46 kept) 2 ≡ listed.Refused (plain 7))
+entries : (entry_is kept 0 ≡ Ok (entry_on 299 1 5 1 66))
+    × (entry_is kept 1 ≡ Ok (entry_on 65535 7 4 2 87))
+    × (entry_is kept 2 ≡ Err (plain 11))
+    × (entry_is nothing 0 ≡ Err (plain 11))
+    × (entry_is (take 46 kept) 2 ≡ Err (plain 7))
 unfolding calls body_agrees filing_of entry_is held_nth
 entries = (refl, refl, refl, refl, refl)
 
 -- what is restored, and the byte after it stays
 
-restored-visitor : (restore_is kept (key 7 4 2) 11 ≡ restored.Bits (record { 0 = 87 }) 65535)
+restored-visitor : (restore_is kept (key 7 4 2) 11 ≡ Ok (record { bits = record { 0 = 87 }; day = 65535 }))
     × (restore_out kept (key 7 4 2) (replicate 12 0xff)
     ≡ 0x49 ∷ 0x82 ∷ 0x00 ∷ 0x00 ∷ 0x09 ∷ 0x00 ∷ 0x00 ∷ 0x07 ∷ 0x41 ∷ 0x60 ∷ 0x00 ∷ 0xff ∷ [])
 unfolding calls body_agrees filing_of restore_is restore_out in_range
@@ -202,28 +195,28 @@ falling = entry_bytes (entry 7 4 2 87) ++ entry_bytes (entry 1 5 1 63)
 
 -- 7 with an entry and a place: an SS type that is not 6, at 0, in the second body; in both, the first counts; no bits, which end before the
 -- SS type; a service that is missing, at 48
-bodies-refused : (check_is (of_two rising (first.pdu ++ damaged)) ≡ check.Refused (of_body 1 (At 0)))
-    × (check_is (of_two rising ((0x49 ∷ 0x80 ∷ replicate 6 0) ++ damaged)) ≡ check.Refused (of_body 0 (At 11)))
-    × (check_is (of_one (entry_bytes (entry 1 5 1 0)) []) ≡ check.Refused (of_body 0 (At 0)))
-    × (check_is (of_one (entry_bytes (entry 1 5 1 48)) (take 6 first.pdu)) ≡ check.Refused (of_body 0 (At 48)))
+bodies-refused : (check_is (of_two rising (first.pdu ++ damaged)) ≡ Err (of_body 1 (Some 0)))
+    × (check_is (of_two rising ((0x49 ∷ 0x80 ∷ replicate 6 0) ++ damaged)) ≡ Err (of_body 0 (Some 11)))
+    × (check_is (of_one (entry_bytes (entry 1 5 1 0)) []) ≡ Err (of_body 0 (Some 0)))
+    × (check_is (of_one (entry_bytes (entry 1 5 1 48)) (take 6 first.pdu)) ≡ Err (of_body 0 (Some 48)))
 unfolding calls body_agrees filing_of
 bodies-refused = (refl, refl, refl, refl)
 
 -- 7 with an entry and no place: a legal body of another user; a failed interrogation; a nonzero unused bit; 4,097 bits
-bodies-unfit : (check_is (of_one (entry_bytes (entry 1 6 1 63)) first.pdu) ≡ check.Refused (of_body 0 Nowhere))
-    × (check_is (of_one (entry_bytes (entry 1 5 1 51)) failed.pdu) ≡ check.Refused (of_body 0 Nowhere))
-    × (check_is (of_one (entry_bytes (entry 1 5 1 62)) (take 7 first.pdu ++ (0x03 ∷ []))) ≡ check.Refused (of_body 0 Nowhere))
-    × (check_is (of_one (entry_bytes (entry 1 5 1 4097)) (replicate 513 0)) ≡ check.Refused (of_body 0 Nowhere))
+bodies-unfit : (check_is (of_one (entry_bytes (entry 1 6 1 63)) first.pdu) ≡ Err (of_body 0 None))
+    × (check_is (of_one (entry_bytes (entry 1 5 1 51)) failed.pdu) ≡ Err (of_body 0 None))
+    × (check_is (of_one (entry_bytes (entry 1 5 1 62)) (take 7 first.pdu ++ (0x03 ∷ []))) ≡ Err (of_body 0 None))
+    × (check_is (of_one (entry_bytes (entry 1 5 1 4097)) (replicate 513 0)) ≡ Err (of_body 0 None))
 unfolding calls body_agrees filing_of
 bodies-unfit = (refl, refl, refl, refl)
 
 -- 7 with neither, though a body is at fault too: keys that fall, a key twice, part 3, a byte more or less, an entry too many in the header
-shapes : (check_is (of_two falling (damaged ++ first.pdu)) ≡ check.Refused (plain 7))
-    × (check_is (of_two (entry_bytes (entry 7 4 2 87) ++ entry_bytes (entry 7 4 2 87)) (damaged ++ damaged)) ≡ check.Refused (plain 7))
-    × (check_is (of_one (entry_bytes (entry 1 5 3 51)) failed.pdu) ≡ check.Refused (plain 7))
-    × (check_is (of_two rising (damaged ++ (first.pdu ++ (0x00 ∷ [])))) ≡ check.Refused (plain 7))
-    × (check_is (of_two rising (first.pdu ++ take 10 damaged)) ≡ check.Refused (plain 7))
-    × (check_is (of_two (entry_bytes (entry 1 5 1 63)) first.pdu) ≡ check.Refused (plain 7))
+shapes : (check_is (of_two falling (damaged ++ first.pdu)) ≡ Err (plain 7))
+    × (check_is (of_two (entry_bytes (entry 7 4 2 87) ++ entry_bytes (entry 7 4 2 87)) (damaged ++ damaged)) ≡ Err (plain 7))
+    × (check_is (of_one (entry_bytes (entry 1 5 3 51)) failed.pdu) ≡ Err (plain 7))
+    × (check_is (of_two rising (damaged ++ (first.pdu ++ (0x00 ∷ [])))) ≡ Err (plain 7))
+    × (check_is (of_two rising (first.pdu ++ take 10 damaged)) ≡ Err (plain 7))
+    × (check_is (of_two (entry_bytes (entry 1 5 1 63)) first.pdu) ≡ Err (plain 7))
 unfolding calls body_agrees filing_of
 shapes = (refl, refl, refl, refl, refl, refl)
 

@@ -1,6 +1,5 @@
 -- The 34-byte example of documents 01 and 02: profile A captured at home network 1, on day 300.
-use Rattle.std.specs.Prelude.{◌≡◌, refl, List, [], ◌∷◌, ℕ, length, replicate}
-use Rattle.std.proofs.Math.Option.{none, some}
+use Rattle.std.specs.Prelude.{◌≡◌, refl, List, [], ◌∷◌, ℕ, length, replicate, Ok, None, Some}
 use Rattle.bits.specs.Bits.{bits}
 use Rattle.bits.specs.Frame.{framed}
 use Rattle.grammar.specs.Grammar.{grammar, network_of}
@@ -11,10 +10,9 @@ use Rattle.archive.specs.Checking.{in_order, has_shape, bodies_from, check_is}
 use Rattle.archive.specs.Keeping.{empty_of, empty_is, empty_out, with, captured, placed, capture_is, capture_out}
 use Rattle.archive.specs.Filing.{filing_of, body_agrees, well_formed, keeps_rules}
 use Rattle.archive.specs.Restoring.{body_from, lookup}
-use Rattle.archive.specs.Listing.{digits, decimal, item, two_items, first_line, line, lines, listing, report_of, fault_text, told_of, report_is, report_out}
+use Rattle.text.specs.Decimal.{digits, decimal, item}
+use Rattle.archive.specs.Listing.{two_items, first_line, line, lines, listing, report_of, fault_text, told_of, report_is, report_out}
 use Rattle.archive.specs.declared.contents.Key.{Key}
-use Rattle.archive.specs.declared.Stored.TheVariants.{Bytes}
-use Rattle.archive.specs.declared.Fetched.TheVariants.{Body}
 
 -- profile A as a PDU of 138 bits
 abbrev pub profile_a : List ℕ
@@ -59,14 +57,14 @@ captured_again : with holding_a held_a ≡ holding_a
 captured_again = refl
 
 -- held for its user and part, and for no other part
-found_a : lookup (part_of5 1) holding_a.held ≡ some held_a
+found_a : lookup (part_of5 1) holding_a.held ≡ Some held_a
 found_a = refl
 
-other-part : lookup (part_of5 2) holding_a.held ≡ none
+other-part : lookup (part_of5 2) holding_a.held ≡ None
 other-part = refl
 
 -- its body begins after the header and the one entry
-place_a : body_from (part_of5 1) (bodies_at bytes_a) holding_a.held ≡ Body 16 (record { 0 = 138 }) 300
+place_a : body_from (part_of5 1) (bodies_at bytes_a) holding_a.held ≡ Some (record { off = 16; bits = record { 0 = 138 }; day = 300 })
 place_a = refl
 
 -- ---- the calls themselves
@@ -83,7 +81,7 @@ unfolding calls
 empty-1 = refl
 
 -- capturing A into it on day 300 writes the 34 bytes
-capture_a : capture_is (0x00 ∷ 0x00 ∷ 0x01 ∷ 0x00 ∷ 0x00 ∷ []) profile_a 138 300 34 ≡ Bytes 34
+capture_a : capture_is (0x00 ∷ 0x00 ∷ 0x01 ∷ 0x00 ∷ 0x00 ∷ []) profile_a 138 300 34 ≡ Ok 34
 unfolding calls
 capture_a = refl
 

@@ -1,13 +1,11 @@
 -- A history of offered PDUs: each is captured into a buffer that is lent for it; after a refusal one goes on with the old archive.
-use Rattle.std.specs.Prelude.{Bool, true, false, List, [], ◌∷◌, ℕ, length, take}
-use Rattle.std.proofs.Math.Option.{Option, some}
-use Rattle.reader.specs.Read.{read_is}
+use Rattle.std.specs.Prelude.{Bool, true, false, List, [], ◌∷◌, ℕ, length, take, Result, Ok, Err, Option, Some}
+use Rattle.reader.specs.Read.{read_is, found_in}
 use Rattle.archive.specs.Filing.{filed_key, same_key}
 use Rattle.archive.specs.Reading.{reading}
 use Rattle.archive.specs.Keeping.{capture_is, capture_out}
-use Rattle.archive.specs.declared.Stored.{Stored}
-use Rattle.archive.specs.declared.Stored.TheVariants.{Bytes, Refused}
 use Rattle.archive.specs.declared.contents.Key.{Key}
+use Rattle.archive.specs.declared.refusal.Refusal.{Refusal}
 
 -- an offered PDU, its bit length, its day, and the buffer lent for its capture
 pub record Offer : Type 0 where
@@ -17,11 +15,11 @@ pub record Offer : Type 0 where
   pub lent : List ℕ
 
 -- the archive to go on with: what was written, or the old one
-abbrev pub kept_of : Stored → List ℕ → List ℕ → List ℕ
-kept_of (Bytes n) old out = take n out
-kept_of (Refused f) old out = old
+abbrev pub kept_of : Result ℕ Refusal → List ℕ → List ℕ → List ℕ
+kept_of (Ok n) old out = take n out
+kept_of (Err f) old out = old
 
-abbrev pub answer_to : List ℕ → Offer → Stored
+abbrev pub answer_to : List ℕ → Offer → Result ℕ Refusal
 answer_to b o = capture_is b o.pdu o.bits o.day (length o.lent)
 
 unfoldable pub after : List ℕ → Offer → List ℕ
@@ -35,13 +33,13 @@ after_all b (o ∷ os) = after_all (after b o) os
 
 -- the key under which an offer is filed
 abbrev pub offered_for : List ℕ → Offer → Key
-offered_for b o = filed_key (reading b).home (read_is o.pdu o.bits).found
+offered_for b o = filed_key (reading b).home (found_in (read_is o.pdu o.bits))
 
 -- an accepted offer for that user and part is the last; any other offer leaves it
-abbrev pub latest : Stored → Bool → Offer → Option Offer → Option Offer
-latest (Bytes n) true o last = some o
-latest (Bytes n) false o last = last
-latest (Refused f) same o last = last
+abbrev pub latest : Result ℕ Refusal → Bool → Offer → Option Offer → Option Offer
+latest (Ok n) true o last = Some o
+latest (Ok n) false o last = last
+latest (Err f) same o last = last
 
 unfoldable pub last_accepted : Key → List ℕ → Option Offer → List Offer → Option Offer
 last_accepted k b last [] = last

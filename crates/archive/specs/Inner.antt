@@ -1,17 +1,14 @@
 -- What private functions give: a PDU's filing; the shape of what is left; where a key stands in an archive's bytes; the bytes of a capture as parts of the old archive
 -- around the new entry and body; the lines of a listing.
-use Rattle.std.specs.Prelude.{Bool, ◌&&◌, List, [], ◌∷◌, ◌++◌, ℕ, zero, suc, ◌+◌, ◌-◌, ◌*◌, ◌≤◌, ◌<◌, length, take, drop, ltb, leb, eqb}
+use Rattle.std.specs.Prelude.{Bool, ◌&&◌, List, [], ◌∷◌, ◌++◌, ℕ, zero, suc, ◌+◌, ◌-◌, ◌*◌, ◌≤◌, ◌<◌, length, take, drop, ltb, leb, eqb, Result, Err, Option, Some, None, Ok}
 use Rattle.bits.specs.Bits.{pick, guard}
 use Rattle.bits.specs.Frame.{bytes_for}
 use Rattle.grammar.specs.Grammar.{network_of}
-use Rattle.walk.specs.declared.BitPlace.{BitPlace}
 use Rattle.walk.specs.declared.Head.{Head}
-use Rattle.walk.specs.declared.Walked.{Walked}
-use Rattle.walk.specs.declared.Walked.TheVariants as walked
 use Rattle.judging.specs.Judge.{holdable}
 use Rattle.archive.specs.Model.{Held, Archive, rank_of, rank, in_range, header_width, entry_width, header_bytes, entry_bytes, body_size, sizes}
 use Rattle.archive.specs.Reading.{home_of, count_of, entry_at, held_from, reading}
-use Rattle.archive.specs.Refusals.{plain, of_pdu, of_body}
+use Rattle.archive.specs.Refusals.{plain, of_body}
 use Rattle.archive.specs.Filing.{body_agrees}
 use Rattle.archive.specs.Checking.{body_place, in_order}
 use Rattle.archive.specs.Keeping.{with}
@@ -20,27 +17,16 @@ use Rattle.archive.specs.declared.contents.Key.{Key}
 use Rattle.archive.specs.declared.contents.Entry.{Entry}
 use Rattle.archive.specs.declared.checking.Place.{Place}
 use Rattle.archive.specs.declared.refusal.Refusal.{Refusal}
-use Rattle.archive.specs.declared.checking.Checked.{Checked}
-use Rattle.archive.specs.declared.checking.Checked.TheVariants as checked
-use Rattle.archive.specs.declared.filing.Agreement.{Agreement}
-use Rattle.archive.specs.declared.filing.Agreement.TheVariants.{Agrees, Fault}
-use Rattle.archive.specs.declared.filing.Filing.{Filing}
-use Rattle.archive.specs.declared.filing.Filing.TheVariants.{Under, Nowhere}
 
 -- ---- filing
 
 -- the key of an accepted PDU with this head; nowhere if no archive entry may hold it
-unfoldable pub filing_under : ℕ → Head → Filing
-filing_under home h = pick (holdable h) (Under (record { network = network_of home h.user; ssi = h.user.ssi; part = h.result })) Nowhere
-
--- the walk's refusal, with the number 0 for none
-abbrev pub walked_refusal : Walked → Refusal
-walked_refusal (walked.Accepted h) = plain 0
-walked_refusal (walked.Refused f) = of_pdu f
+unfoldable pub filing_under : ℕ → Head → Option Key
+filing_under home h = pick (holdable h) (Some (record { network = network_of home h.user; ssi = h.user.ssi; part = h.result })) None
 
 -- whether a body agrees with its entry, and the place of its refusal if not
-unfoldable pub agreement_is : ℕ → Held → Agreement
-agreement_is home h = pick (body_agrees home h) Agrees (Fault (body_place h))
+unfoldable pub agreement_is : ℕ → Held → Result (Unit {0}) (Option ℕ)
+agreement_is home h = pick (body_agrees home h) (Ok tt) (Err (body_place h))
 
 -- the archive of some bytes with a body under an entry
 abbrev pub filed_in : List ℕ → Entry → List ℕ → Archive
@@ -57,18 +43,18 @@ unfoldable pub rest_shape : List ℕ → ℕ → ℕ → ℕ → ℕ → Bool
 rest_shape b last n at off = in_order last (held_from b n at off) && eqb (off + sizes (held_from b n at off)) (length b)
 
 -- what a body at fault comes to, for the entry of a key at an index, before the n entries from a place on
-unfoldable pub fault_is : List ℕ → Key → ℕ → ℕ → ℕ → ℕ → BitPlace → Checked
+unfoldable pub fault_is : List ℕ → Key → ℕ → ℕ → ℕ → ℕ → Option ℕ → Result (Unit {0}) Refusal
 fault_is b k n at off index place =
-    guard (in_range k && rest_shape b (rank_of k) n at off) (checked.Refused (plain 7)) (checked.Refused (of_body index place))
+    guard (in_range k && rest_shape b (rank_of k) n at off) (Err (plain 7)) (Err (of_body index place))
 
 -- ---- the place of a key, by its rank
 
--- a place with an entry, of so many bits and a day; and one with none
+-- a place with an entry, and one with none
 abbrev pub place_of : ℕ → ℕ → Entry → Place
-place_of at off e = record { at = at; off = off; entries = 1; bits = e.bits; day = e.day }
+place_of at off e = record { at = at; off = off; entry = Some e }
 
 abbrev pub gap_at : ℕ → ℕ → Place
-gap_at at off = record { at = at; off = off; entries = 0; bits = record { 0 = 0 }; day = 0 }
+gap_at at off = record { at = at; off = off; entry = None }
 
 -- the search, by order: the entry of the key, or the gap where it would go
 unfoldable pub seek : ℕ → ℕ → ℕ → List Held → Place
@@ -80,12 +66,21 @@ seek r at off (h ∷ hs) =
 
 -- ---- a new entry and body for those at a place
 
+-- how many entries stand at a place, and how many bytes their bodies have
+abbrev pub entries_in : Option Entry → ℕ
+entries_in None = 0
+entries_in (Some e) = 1
+
+abbrev pub size_in : Option Entry → ℕ
+size_in None = 0
+size_in (Some e) = bytes_for e.bits.0
+
 -- where the contents and the bodies go on after the place
 abbrev pub next_at : Place → ℕ
-next_at p = p.at + entry_width * p.entries
+next_at p = p.at + entry_width * entries_in p.entry
 
 abbrev pub rest_at : Place → ℕ
-rest_at p = p.off + bytes_for p.bits.0
+rest_at p = p.off + size_in p.entry
 
 -- the place lies within an archive's bytes
 pub record Within (p : Place) (b : List ℕ) : Type 0 where

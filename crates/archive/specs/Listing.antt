@@ -1,34 +1,15 @@
 -- The text that lists an archive, in ASCII: a line for the header, and a line for each PDU held (document 01, the program `contents`).
-use Rattle.std.specs.Prelude.{List, [], ◌∷◌, ◌++◌, ℕ, zero, suc, ◌+◌, ◌/◌, ◌%◌, length, ltb, leb}
-use Rattle.bits.specs.Bits.{pick, guard}
+use Rattle.std.specs.Prelude.{List, [], ◌∷◌, ◌++◌, ℕ, length, leb, Result, Ok, Err, Option, Some, None}
+use Rattle.bits.specs.Bits.{guard}
+use Rattle.text.specs.Decimal.{item}
 use Rattle.archive.specs.Model.{Held, Archive}
 use Rattle.archive.specs.Reading.{reading}
 use Rattle.archive.specs.Refusals.{plain}
 use Rattle.archive.specs.Checking.{check_is, if_archive}
 use Rattle.archive.specs.Keeping.{over, leaves}
-use Rattle.walk.specs.declared.BitPlace.{BitPlace}
-use Rattle.walk.specs.declared.BitPlace.TheVariants as bit
 use Rattle.archive.specs.declared.contents.Entry.{Entry}
-use Rattle.archive.specs.declared.refusal.EntryPlace.{EntryPlace}
-use Rattle.archive.specs.declared.refusal.EntryPlace.TheVariants as entry
 use Rattle.archive.specs.declared.listing.Reported.{Reported}
-use Rattle.archive.specs.declared.Stored.{Stored}
-use Rattle.archive.specs.declared.Stored.TheVariants.{Bytes, Refused}
-
--- ---- numbers
-
--- `0` is 48
-abbrev pub digit : ℕ → ℕ
-digit n = 48 + n
-
--- at most so many digits of a number, the most significant first, with no leading zeros
-unfoldable pub digits : ℕ → ℕ → List ℕ
-digits zero n = []
-digits (suc k) n = pick (ltb n 10) (digit n ∷ []) (digits k (n / 10) ++ (digit (n % 10) ∷ []))
-
--- all digits: a number of 64 bits has at most 20
-unfoldable pub decimal : ℕ → List ℕ
-decimal n = digits 20 n
+use Rattle.archive.specs.declared.refusal.Refusal.{Refusal}
 
 -- ---- words
 
@@ -70,10 +51,6 @@ line_end = 10 ∷ []
 
 -- ---- lines
 
--- a number and the word after it
-unfoldable pub item : ℕ → List ℕ → List ℕ
-item n word = decimal n ++ word
-
 -- a line of two numbers, each after its word
 unfoldable pub two_items : List ℕ → ℕ → List ℕ → ℕ → List ℕ
 two_items word n other m = word ++ (item n other ++ item m line_end)
@@ -97,11 +74,11 @@ listing a = first_line a.home (length a.held) ++ lines a.held
 
 -- ---- list: 7, then 8 if the lent buffer is too short
 
-unfoldable pub list_is : List ℕ → ℕ → Stored
+unfoldable pub list_is : List ℕ → ℕ → Result ℕ Refusal
 list_is b room =
-    if_archive (check_is b) Refused
-    (guard (leb (length (listing (reading b))) room) (Refused (plain 8))
-    (Bytes (length (listing (reading b)))))
+    if_archive (check_is b) Err
+    (guard (leb (length (listing (reading b))) room) (Err (plain 8))
+    (Ok (length (listing (reading b)))))
 
 unfoldable pub list_out : List ℕ → List ℕ → List ℕ
 list_out b out = leaves (list_is b (length out)) (listing (reading b)) out
@@ -117,10 +94,10 @@ unfoldable pub report_of : List ℕ → List ℕ
 report_of b = if_archive (check_is b) (λ f. refused_line) (listing (reading b))
 
 -- told: where a body is at fault, `entry I` or `entry I bit P`; otherwise nothing
-unfoldable pub fault_text : EntryPlace → BitPlace → List ℕ
-fault_text entry.Nowhere p = []
-fault_text (entry.At i) bit.Nowhere = entry_word ++ item i line_end
-fault_text (entry.At i) (bit.At p) = two_items entry_word i bit_word p
+unfoldable pub fault_text : Option ℕ → Option ℕ → List ℕ
+fault_text None p = []
+fault_text (Some i) None = entry_word ++ item i line_end
+fault_text (Some i) (Some p) = two_items entry_word i bit_word p
 
 unfoldable pub told_of : List ℕ → List ℕ
 told_of b = if_archive (check_is b) (λ f. fault_text f.entry f.place) []

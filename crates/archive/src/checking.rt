@@ -3,63 +3,56 @@ ghost use Rattle.std.specs.Prelude.{◌≡◌, true, ◌+◌, ◌*◌, ◌≤◌
 ghost use Rattle.archive.specs.Model.{rank_of, header_width, entry_width};
 ghost use Rattle.archive.specs.Reading.{is_archive, bodies_at, held_in};
 ghost use Rattle.archive.specs.Checking.{check_is};
-ghost use Rattle.archive.specs.Inner.{KeyFits, EntryFits, may_follow, rest_shape, fault_is, seek, next_at, rest_at};
+ghost use Rattle.archive.specs.Inner.{KeyFits, EntryFits, may_follow, rest_shape, fault_is, seek, entries_in, next_at, rest_at};
 
 use crate::contents::{ENTRY, Entry, HEADER, Key};
-use crate::filing::Agreement;
-use crate::refusal::{EntryPlace, Refusal};
+use crate::refusal::Refusal;
 use crate::{contents, filing, refusal};
-use bits::BitCount;
-use walk::BitPlace;
 
-// What a check says of bytes: an archive; or refusal 7, with the first entry whose body is at fault where all else is right.
-#[derive(Clone, Copy)]
-pub enum Checked {
-    Archive,
-    Refused(Refusal),
-}
-
-// Exactly the bytes of a well-formed archive pass. A fault of header, contents or length comes before any body's.
-pub fn check(archive: &[u8]) -> Checked
+// Exactly the bytes of a well-formed archive pass. Others get refusal 7: a fault of header, contents or length comes before any body's, and a
+// body's names the first entry whose body is at fault.
+pub fn check(archive: &[u8]) -> Result<(), Refusal>
     ensures { result ≡ check_is archive.now }
 {
     let size = archive.len();
     if size < HEADER {
-        return Checked::Refused(refusal::plain(7));
+        return Err(refusal::plain(7));
     }
     let home = contents::home(archive);
     let count = contents::count(archive);
     if !contents::within_limits(count, size) {
-        return Checked::Refused(refusal::plain(7));
+        return Err(refusal::plain(7));
     }
     let mut off = HEADER + ENTRY * count;
     if size < off {
-        return Checked::Refused(refusal::plain(7));
+        return Err(refusal::plain(7));
     }
-    let mut left = count;
-    let mut at = HEADER;
-    let mut last: u64 = 0;
-    while 0 < left {
+    // below each key that is in range
+    let mut last = Key {
+        network: 0,
+        ssi: 0,
+        part: 0,
+    };
+    for index in 0..count {
+        let at = HEADER + ENTRY * index;
         let entry = contents::entry_at(archive, at);
         if !may_follow(entry, last, size - off) {
-            return Checked::Refused(refusal::plain(7));
+            return Err(refusal::plain(7));
         }
         let key = entry.key;
         let bits = entry.bits;
         let end = off + bits.bytes();
-        let agreement = filing::body_agreement(home, entry, &archive[off..end]);
-        at += ENTRY;
-        if let Agreement::Fault(place) = agreement {
-            return at_fault(archive, key, left - 1, at, end, count - left, place);
+        if let Err(place) = filing::body_agreement(home, entry, &archive[off..end]) {
+            let after = count - index - 1;
+            return at_fault(archive, key, after, at + ENTRY, end, index, place);
         }
-        last = key.rank();
+        last = key;
         off = end;
-        left -= 1;
     }
     if off != size {
-        return Checked::Refused(refusal::plain(7));
+        return Err(refusal::plain(7));
     }
-    Checked::Archive
+    Ok(())
 }
 
 // Refusal 7 by the body at fault of the entry at an index, unless its key or what is left has not the shape of an archive's. A body that
@@ -71,32 +64,32 @@ fn at_fault(
     from: usize,
     bodies: usize,
     index: usize,
-    place: BitPlace,
-) -> Checked
+    place: Option<usize>,
+) -> Result<(), Refusal>
     requires entries_in_bounds { (from + entry_width * entries ≤ length archive.now) × (bodies ≤ length archive.now) × (length archive.now ≤ 65536) }
     requires key_fits { KeyFits key }
     ensures { result ≡ fault_is archive.now key entries from bodies index place }
 {
     if !contents::in_range(key) {
-        return Checked::Refused(refusal::plain(7));
+        return Err(refusal::plain(7));
     }
-    if !rest_has_shape(archive, entries, from, bodies, key.rank()) {
-        return Checked::Refused(refusal::plain(7));
+    if !rest_has_shape(archive, entries, from, bodies, key) {
+        return Err(refusal::plain(7));
     }
-    Checked::Refused(Refusal {
+    Err(Refusal {
         number: 7,
-        entry: EntryPlace::At(index),
+        entry: Some(index),
         place,
     })
 }
 
-// Whether an entry may stand here: its key is above a rank, and there is room for its body.
-fn may_follow(entry: Entry, last: u64, room: usize) -> bool
-    requires { EntryFits entry }
-    ensures { result ≡ may_follow entry last room }
+// Whether an entry may stand here: its key is above the last one, and there is room for its body.
+fn may_follow(entry: Entry, last: Key, room: usize) -> bool
+    requires entry_fits { EntryFits entry }
+    requires last_fits { KeyFits last }
+    ensures { result ≡ may_follow entry (rank_of last) room }
 {
-    let key = entry.key;
-    if key.rank() <= last {
+    if entry.key <= last {
         return false;
     }
     let bits = entry.bits;
@@ -104,40 +97,44 @@ fn may_follow(entry: Entry, last: u64, room: usize) -> bool
 }
 
 // Whether the entries that are left, whatever their bodies, have the shape of an archive's.
-fn rest_has_shape(archive: &[u8], entries: usize, from: usize, bodies: usize, rank: u64) -> bool
-    requires { (from + entry_width * entries ≤ length archive.now) × (bodies ≤ length archive.now) × (length archive.now ≤ 65536) }
-    ensures { result ≡ rest_shape archive.now rank entries from bodies }
+fn rest_has_shape(archive: &[u8], entries: usize, from: usize, bodies: usize, key: Key) -> bool
+    requires entries_in_bounds { (from + entry_width * entries ≤ length archive.now) × (bodies ≤ length archive.now) × (length archive.now ≤ 65536) }
+    requires key_fits { KeyFits key }
+    ensures { result ≡ rest_shape archive.now (rank_of key) entries from bodies }
 {
-    let mut left = entries;
-    let mut at = from;
     let mut off = bodies;
-    let mut last = rank;
-    while 0 < left {
-        let entry = contents::entry_at(archive, at);
+    let mut last = key;
+    for index in 0..entries {
+        let entry = contents::entry_at(archive, from + ENTRY * index);
         if !may_follow(entry, last, archive.len() - off) {
             return false;
         }
-        let key = entry.key;
-        if !contents::in_range(key) {
+        last = entry.key;
+        if !contents::in_range(last) {
             return false;
         }
         let bits = entry.bits;
-        last = key.rank();
         off += bits.bytes();
-        at += ENTRY;
-        left -= 1;
     }
     off == archive.len()
 }
 
-// A contents place and a body place: those of a key's entry, or where they would go, with no entry, no bits and day 0.
+// A contents place and a body place: those of a key's entry, with that entry; or where they would go.
 #[derive(Clone, Copy)]
 pub struct Place {
     pub at: usize,
     pub off: usize,
-    pub entries: usize,
-    pub bits: BitCount,
-    pub day: u32,
+    pub entry: Option<Entry>,
+}
+
+// How many entries stand at a place: one or none.
+pub(crate) fn entries_of(place: Place) -> usize
+    ensures { result ≡ entries_in place.entry }
+{
+    match place.entry {
+        Some(_) => 1,
+        None => 0,
+    }
 }
 
 // Where the contents, and where the bodies, go on after a place.
@@ -145,15 +142,20 @@ pub(crate) fn next_of(place: Place) -> usize
     requires { next_at place ≤ 65536 }
     ensures { result ≡ next_at place }
 {
-    place.at + ENTRY * place.entries
+    place.at + ENTRY * entries_of(place)
 }
 
 pub(crate) fn rest_of(place: Place) -> usize
     requires { rest_at place ≤ 65536 }
     ensures { result ≡ rest_at place }
 {
-    let bits = place.bits;
-    place.off + bits.bytes()
+    match place.entry {
+        Some(entry) => {
+            let bits = entry.bits;
+            place.off + bits.bytes()
+        },
+        None => place.off,
+    }
 }
 
 // The place of a key in an archive.
@@ -161,42 +163,32 @@ pub(crate) fn find(archive: &[u8], key: Key) -> Place
     requires { (is_archive archive.now ≡ true) × (KeyFits key) }
     ensures { result ≡ seek (rank_of key) header_width (bodies_at archive.now) (held_in archive.now) }
 {
-    let rank = key.rank();
-    let mut left = contents::count(archive);
-    let mut at = HEADER;
-    let mut off = HEADER + ENTRY * left;
-    while 0 < left {
+    let count = contents::count(archive);
+    let contents_end = HEADER + ENTRY * count;
+    let mut off = contents_end;
+    for index in 0..count {
+        let at = HEADER + ENTRY * index;
         let entry = contents::entry_at(archive, at);
-        let key_here = entry.key;
-        let here = key_here.rank();
         let held = entry.bits;
-        if rank <= here {
-            if here == rank {
-                return Place {
-                    at,
-                    off,
-                    entries: 1,
-                    bits: held,
-                    day: entry.day,
-                };
-            }
+        if entry.key == key {
             return Place {
                 at,
                 off,
-                entries: 0,
-                bits: BitCount(0),
-                day: 0,
+                entry: Some(entry),
+            };
+        }
+        if key < entry.key {
+            return Place {
+                at,
+                off,
+                entry: None,
             };
         }
         off += held.bytes();
-        at += ENTRY;
-        left -= 1;
     }
     Place {
-        at,
+        at: contents_end,
         off,
-        entries: 0,
-        bits: BitCount(0),
-        day: 0,
+        entry: None,
     }
 }

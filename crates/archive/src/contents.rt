@@ -1,8 +1,8 @@
 // The numbers, the header and the entries of an archive: their widths and their order.
 ghost use Rattle.std.specs.Prelude.{◌≡◌, ◌+◌, ◌≤◌, ◌<◌, length, get_or};
-ghost use Rattle.archive.specs.Model.{rank_of, in_range, header_width, entry_width, header_bytes, entry_bytes, within_limits};
+ghost use Rattle.archive.specs.Model.{in_range, bytes3, header_width, entry_width, header_bytes, entry_bytes, within_limits};
 ghost use Rattle.archive.specs.Reading.{number2, number3, home_of, entry_at};
-ghost use Rattle.archive.specs.Inner.{KeyFits, EntryFits};
+ghost use Rattle.archive.specs.Inner.{EntryFits};
 
 use bits::BitCount;
 
@@ -11,22 +11,12 @@ pub(crate) const HEADER: usize = 5;
 
 pub(crate) const ENTRY: usize = 11;
 
-// A user, by network and SSI, and a part: 1 for identities, 2 for numbers.
-#[derive(Clone, Copy)]
+// A user, by network and SSI, and a part: 1 for identities, 2 for numbers. Entries rise by network, then SSI, then part.
+#[derive(Clone, Copy, PartialEq, Eq, PartialOrd, Ord)]
 pub struct Key {
     pub network: u32,
     pub ssi: u32,
     pub part: u32,
-}
-
-impl Key {
-    // The number by which entries rise: network, then SSI, then part.
-    pub(crate) fn rank(self) -> u64
-        requires { KeyFits self }
-        ensures { result ≡ rank_of self }
-    {
-        (self.network as u64) * 4294967296 + (self.ssi as u64) * 256 + self.part as u64
-    }
 }
 
 // A contents entry: a key, the bit length of its PDU, and the day on which that was taken, below 65,536.
@@ -74,14 +64,23 @@ fn two(b: &[u8], at: usize) -> usize
     requires { at + 2 ≤ length b.now }
     ensures { (result ≡ number2 b.now at) × (result < 65536) }
 {
-    (byte(b, at) * 256 + byte(b, at + 1)) as usize
+    u16::from_be_bytes([b[at], b[at + 1]]) as usize
 }
 
 fn three(b: &[u8], at: usize) -> u32
     requires { at + 3 ≤ length b.now }
     ensures { (result ≡ number3 b.now at) × (result < 16777216) }
 {
-    byte(b, at) * 65536 + byte(b, at + 1) * 256 + byte(b, at + 2)
+    u32::from_be_bytes([0, b[at], b[at + 1], b[at + 2]])
+}
+
+// A network or an SSI as three bytes, the most significant first.
+fn three_bytes(n: u32) -> [u8; 3]
+    requires { n < 16777216 }
+    ensures { result ≡ bytes3 n }
+{
+    let [_, high, middle, low] = n.to_be_bytes();
+    [high, middle, low]
 }
 
 // The home network in the header; 0 where there is none.
@@ -107,13 +106,9 @@ pub(crate) fn header_bytes(home: u32, count: usize) -> [u8; HEADER]
     requires { (home < 16777216) × (count < 65536) }
     ensures { result ≡ header_bytes home count }
 {
-    [
-        (home / 65536) as u8,
-        (home / 256 % 256) as u8,
-        (home % 256) as u8,
-        (count / 256) as u8,
-        (count % 256) as u8,
-    ]
+    let [h0, h1, h2] = three_bytes(home);
+    let [c0, c1] = (count as u16).to_be_bytes();
+    [h0, h1, h2, c0, c1]
 }
 
 // The contents entry at a place.
@@ -138,17 +133,9 @@ pub(crate) fn entry_bytes(entry: Entry) -> [u8; ENTRY]
     ensures { result ≡ entry_bytes entry }
 {
     let key = entry.key;
-    [
-        (key.network / 65536) as u8,
-        (key.network / 256 % 256) as u8,
-        (key.network % 256) as u8,
-        (key.ssi / 65536) as u8,
-        (key.ssi / 256 % 256) as u8,
-        (key.ssi % 256) as u8,
-        key.part as u8,
-        (entry.bits.0 / 256) as u8,
-        (entry.bits.0 % 256) as u8,
-        (entry.day / 256) as u8,
-        (entry.day % 256) as u8,
-    ]
+    let [n0, n1, n2] = three_bytes(key.network);
+    let [s0, s1, s2] = three_bytes(key.ssi);
+    let [b0, b1] = (entry.bits.0 as u16).to_be_bytes();
+    let [d0, d1] = (entry.day as u16).to_be_bytes();
+    [n0, n1, n2, s0, s1, s2, key.part as u8, b0, b1, d0, d1]
 }

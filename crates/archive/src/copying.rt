@@ -7,28 +7,7 @@ ghost use Rattle.archive.specs.Inner.{Within, EntryFits, front_of, back_of, spli
 use crate::checking::Place;
 use crate::contents::{ENTRY, Entry, HEADER};
 use crate::{checking, contents};
-
-// Writes a body, or another part of an archive, to a place that is as long.
-fn write_body(body: &[u8], place: &mut [u8])
-    requires { length body.now ≡ length place.old }
-    ensures { place.new ≡ body.now }
-{
-    let mut i = 0;
-    while i < body.len() {
-        place[i] = body[i];
-        i += 1;
-    }
-}
-
-// Has bytes written in their place within the lent buffer: its middle part is lent on to the writer. Returns the place after them.
-pub(crate) fn append(out: &mut [u8], at: usize, bytes: &[u8]) -> usize
-    requires { at + length bytes.now ≤ length out.old }
-    ensures { Laid out.old at bytes.now out.new result }
-{
-    let end = at + bytes.len();
-    write_body(bytes, &mut out[at..end]);
-    end
-}
+use text::append;
 
 // Writes the header, the contents before a place and a new entry.
 fn write_front(archive: &[u8], at: usize, count: usize, entry: Entry, out: &mut [u8]) -> usize

@@ -1,72 +1,33 @@
 // The listing of an archive as text: a line for the header, then a line for each PDU held.
-ghost use Rattle.std.specs.Prelude.{◌≡◌, true, ◌∷◌, [], ◌+◌, ◌*◌, ◌≤◌, ◌<◌, length};
+ghost use Rattle.std.specs.Prelude.{◌≡◌, true, ◌+◌, ◌*◌, ◌≤◌, length};
 ghost use Rattle.bits.specs.Inner.{Laid};
+ghost use Rattle.text.specs.Decimal.{item};
 ghost use Rattle.archive.specs.Model.{header_width, entry_width};
 ghost use Rattle.archive.specs.Reading.{count_of, is_archive, reading};
 ghost use Rattle.archive.specs.Inner.{lines_in};
-ghost use Rattle.archive.specs.Listing.{decimal, item, line, two_items, first_line, listing, list_is, list_out};
+ghost use Rattle.archive.specs.Listing.{line, two_items, first_line, listing, list_is, list_out};
 ghost use Rattle.archive.specs.Listing.{refused_line, fault_text, length_within, text_within, report_is, report_out, told_out};
 
-use crate::checking::Checked;
 use crate::contents::{ENTRY, Entry, HEADER};
-use crate::refusal::{EntryPlace, Refusal};
-use crate::{Stored, checking, contents, copying, refusal};
-use walk::BitPlace;
+use crate::refusal::Refusal;
+use crate::{checking, contents, refusal};
+use text::digits_of;
 
-// How many digits a number has.
-fn digits_of(n: usize) -> usize
-    ensures { (result ≡ length (decimal n)) × (result ≤ 20) }
-{
-    let mut rest = n;
-    let mut count = 1;
-    while 10 <= rest {
-        rest /= 10;
-        count += 1;
-    }
-    count
-}
-
-// Writes a byte at a place; this and the other writers return the place after what they write.
-fn write_byte(out: &mut [u8], at: usize, byte: u8) -> usize
-    requires { at < length out.old }
-    ensures { Laid out.old at (byte ∷ []) out.new result }
-{
-    out[at] = byte;
-    at + 1
-}
-
-// Writes a number in decimal, its last digit first.
-fn write_number(out: &mut [u8], at: usize, n: usize) -> usize
-    requires { at + length (decimal n) ≤ length out.old }
-    ensures { Laid out.old at (decimal n) out.new result }
-{
-    let end = at + digits_of(n);
-    let mut rest = n;
-    let mut place = end;
-    while 10 <= rest {
-        place -= 1;
-        write_byte(out, place, 48 + (rest % 10) as u8);
-        rest /= 10;
-    }
-    write_byte(out, at, 48 + rest as u8);
-    end
-}
-
-// Writes a number and the word after it.
+// Writes a number and what stands after it; returns the place after both, as the other writers do. Not in `text`, since a public function asks for no room.
 fn write_item(out: &mut [u8], at: usize, n: usize, word: &[u8]) -> usize
     requires { at + length (item n word.now) ≤ length out.old }
     ensures { Laid out.old at (item n word.now) out.new result }
 {
-    let word_at = write_number(out, at, n);
-    copying::append(out, word_at, word)
+    let word_at = text::write_number(out, at, n);
+    text::append(out, word_at, word)
 }
 
-// Writes a line of two numbers, each after its word.
+// Writes a line of two numbers, each after its word; this and the other writers return the place after what they write.
 fn write_two_items(out: &mut [u8], word: &[u8], n: usize, other: &[u8], m: usize) -> usize
     requires { length (two_items word.now n other.now m) ≤ length out.old }
     ensures { Laid out.old 0 (two_items word.now n other.now m) out.new result }
 {
-    let first_at = copying::append(out, 0, word);
+    let first_at = text::append(out, 0, word);
     let second_at = write_item(out, first_at, n, other);
     write_item(out, second_at, m, b"\n")
 }
@@ -98,13 +59,9 @@ fn write_lines(archive: &[u8], out: &mut [u8], start: usize) -> usize
     requires archive_in_bounds_2 { start + length (lines_in archive.now) ≤ length out.old }
     ensures { Laid out.old start (lines_in archive.now) out.new result }
 {
-    let mut left = contents::count(archive);
-    let mut entry_at = HEADER;
     let mut at = start;
-    while 0 < left {
-        at = write_line(out, at, contents::entry_at(archive, entry_at));
-        entry_at += ENTRY;
-        left -= 1;
+    for index in 0..contents::count(archive) {
+        at = write_line(out, at, contents::entry_at(archive, HEADER + ENTRY * index));
     }
     at
 }
@@ -139,31 +96,25 @@ fn text_length(archive: &[u8]) -> usize
     requires { is_archive archive.now ≡ true }
     ensures { result ≡ length (listing (reading archive.now)) }
 {
-    let mut left = contents::count(archive);
+    let count = contents::count(archive);
     let home = contents::home(archive);
-    let mut size = digits_of(home as usize) + digits_of(left) + FIRST_WORDS;
-    let mut at = HEADER;
-    while 0 < left {
-        size += line_length(contents::entry_at(archive, at));
-        at += ENTRY;
-        left -= 1;
+    let mut size = digits_of(home as usize) + digits_of(count) + FIRST_WORDS;
+    for index in 0..count {
+        size += line_length(contents::entry_at(archive, HEADER + ENTRY * index));
     }
     size
 }
 
 // Lists an archive: writes the text to the lent buffer.
-pub fn list(archive: &[u8], out: &mut [u8]) -> Stored
+pub fn list(archive: &[u8], out: &mut [u8]) -> Result<usize, Refusal>
     ensures value { result ≡ list_is archive.now (length out.old) }
     ensures out_after { out.new ≡ list_out archive.now out.old }
 {
-    let checked = checking::check(archive);
-    if let Checked::Refused(refusal) = checked {
-        return Stored::Refused(refusal);
-    }
+    checking::check(archive)?;
     if out.len() < text_length(archive) {
-        return Stored::Refused(refusal::plain(8));
+        return Err(refusal::plain(8));
     }
-    Stored::Bytes(write_text(archive, out))
+    Ok(write_text(archive, out))
 }
 
 // Writes `refused 7` on a line, where there is room for it.
@@ -174,7 +125,7 @@ fn write_refused(out: &mut [u8]) -> usize
     if out.len() < 10 {
         return 0;
     }
-    copying::append(out, 0, b"refused 7\n")
+    text::append(out, 0, b"refused 7\n")
 }
 
 // Writes the listing, where there is room for it.
@@ -191,20 +142,20 @@ fn write_listing(archive: &[u8], out: &mut [u8]) -> usize
 
 // Writes `entry I` on a line, where there is room for it.
 fn write_entry(out: &mut [u8], index: usize) -> usize
-    ensures value { result ≡ length_within (fault_text (EntryPlace.At index) BitPlace.Nowhere) (length out.old) }
-    ensures out_after { out.new ≡ text_within (fault_text (EntryPlace.At index) BitPlace.Nowhere) out.old }
+    ensures value { result ≡ length_within (fault_text (Some index) None) (length out.old) }
+    ensures out_after { out.new ≡ text_within (fault_text (Some index) None) out.old }
 {
     if out.len() < 7 + digits_of(index) {
         return 0;
     }
-    let index_at = copying::append(out, 0, b"entry ");
+    let index_at = text::append(out, 0, b"entry ");
     write_item(out, index_at, index, b"\n")
 }
 
 // Writes `entry I bit P` on a line, where there is room for it.
 fn write_entry_bit(out: &mut [u8], index: usize, bit: usize) -> usize
-    ensures value { result ≡ length_within (fault_text (EntryPlace.At index) (BitPlace.At bit)) (length out.old) }
-    ensures out_after { out.new ≡ text_within (fault_text (EntryPlace.At index) (BitPlace.At bit)) out.old }
+    ensures value { result ≡ length_within (fault_text (Some index) (Some bit)) (length out.old) }
+    ensures out_after { out.new ≡ text_within (fault_text (Some index) (Some bit)) out.old }
 {
     if out.len() < 12 + digits_of(index) + digits_of(bit) {
         return 0;
@@ -219,12 +170,12 @@ fn write_fault(refusal: Refusal, out: &mut [u8]) -> usize
 {
     let entry = refusal.entry;
     let place = refusal.place;
-    let EntryPlace::At(index) = entry else {
+    let Some(index) = entry else {
         return 0;
     };
     match place {
-        BitPlace::At(bit) => write_entry_bit(out, index, bit),
-        BitPlace::Nowhere => write_entry(out, index),
+        Some(bit) => write_entry_bit(out, index, bit),
+        None => write_entry(out, index),
     }
 }
 
@@ -243,11 +194,11 @@ pub fn report(archive: &[u8], out: &mut [u8], told: &mut [u8]) -> Reported
     ensures told_after { told.new ≡ told_out archive.now told.old }
 {
     match checking::check(archive) {
-        Checked::Refused(refusal) => Reported {
+        Err(refusal) => Reported {
             printed: write_refused(out),
             told: write_fault(refusal, told),
         },
-        Checked::Archive => Reported {
+        Ok(()) => Reported {
             printed: write_listing(archive, out),
             told: 0,
         },

@@ -1,22 +1,12 @@
 // Refusals of the calls on an archive: the number; of 7 the entry whose body is at fault; and the bit place in the PDU, or in that body.
 ghost use Rattle.std.specs.Prelude.{◌≡◌};
-ghost use Rattle.archive.specs.Refusals.{plain};
-ghost use Rattle.archive.specs.Inner.{walked_refusal};
-
-use walk::{BitPlace, Walked};
-
-// The index of an entry, from 0, or none.
-#[derive(Clone, Copy)]
-pub enum EntryPlace {
-    At(usize),
-    Nowhere,
-}
+ghost use Rattle.archive.specs.Refusals.{plain, of_pdu};
 
 #[derive(Clone, Copy)]
 pub struct Refusal {
     pub number: u32,
-    pub entry: EntryPlace,
-    pub place: BitPlace,
+    pub entry: Option<usize>,
+    pub place: Option<usize>,
 }
 
 // A number, with no entry and no place.
@@ -25,24 +15,18 @@ pub(crate) fn plain(number: u32) -> Refusal
 {
     Refusal {
         number,
-        entry: EntryPlace::Nowhere,
-        place: BitPlace::Nowhere,
+        entry: None,
+        place: None,
     }
 }
 
-// The walk's refusal of a PDU that is offered, with the number 0 for none.
-pub(crate) fn of_walk(walked: Walked) -> Refusal
-    ensures { result ≡ walked_refusal walked }
+// The walk's refusal of a PDU that is offered.
+pub(crate) fn of_pdu(refusal: walk::Refusal) -> Refusal
+    ensures { result ≡ of_pdu refusal }
 {
-    match walked {
-        Walked::Accepted(_) => plain(0),
-        Walked::Refused(refusal) => {
-            let place = refusal.place;
-            Refusal {
-                number: refusal.number,
-                entry: EntryPlace::Nowhere,
-                place,
-            }
-        },
+    Refusal {
+        number: refusal.number,
+        entry: None,
+        place: refusal.place,
     }
 }

@@ -1,8 +1,7 @@
 -- The decision: 9 for a request out of its range; then 7; otherwise what the held part that judges the destination says, or "not held".
-use Rattle.std.specs.Prelude.{ℕ, List, eqb}
-use Rattle.std.proofs.Math.Option.{Option, none, some}
+use Rattle.std.specs.Prelude.{ℕ, List, eqb, Option, None, Some, Result, Ok, Err}
 use Rattle.bits.specs.Bits.{guard}
-use Rattle.reader.specs.Read.{read_is}
+use Rattle.reader.specs.Read.{found_in, read_is}
 use Rattle.rules.specs.Request.{request_refusal}
 use Rattle.rules.specs.Rule.{ruling}
 use Rattle.rules.specs.declared.request.Destination.{Destination}
@@ -14,13 +13,12 @@ use Rattle.archive.specs.Refusals.{plain}
 use Rattle.archive.specs.Checking.{check_is, if_archive}
 use Rattle.archive.specs.Restoring.{fetch_is, lookup}
 use Rattle.archive.specs.declared.contents.Key.{Key}
-use Rattle.archive.specs.declared.Fetched.{Fetched}
-use Rattle.archive.specs.declared.Fetched.TheVariants as fetched
+use Rattle.archive.specs.declared.Body.{Body}
+use Rattle.archive.specs.declared.refusal.Refusal.{Refusal}
 use Rattle.barring.specs.Decision.{decision_of}
 use Rattle.barring.specs.declared.Decision.{Decision}
-use Rattle.barring.specs.declared.Decision.TheVariants.{NotHeld, Refused}
+use Rattle.barring.specs.declared.Decision.TheVariants.{NotHeld}
 use Rattle.barring.specs.declared.JudgingPart.{JudgingPart}
-use Rattle.barring.specs.declared.JudgingPart.TheVariants.{At, Answered}
 
 -- an identity is judged by the user's identity part, an external number by the number part
 unfoldable pub part_for : Destination → ℕ
@@ -29,8 +27,8 @@ part_for (Number length) = 2
 
 -- if that part isn't held, the answer is "not held"
 abbrev pub judged_by : ℕ → Request → Option Held → Decision
-judged_by home q none = NotHeld
-judged_by home q (some h) = decision_of (ruling home (read_is h.body h.entry.bits.0).found q)
+judged_by home q None = NotHeld
+judged_by home q (Some h) = decision_of (ruling home (found_in (read_is h.body h.entry.bits.0)) q)
 
 -- the request's user, and the part that judges its destination
 abbrev pub key_for : Request → Key
@@ -40,17 +38,17 @@ key_for q = record { network = q.user.network; ssi = q.user.ssi; part = part_for
 abbrev pub part_in : List ℕ → Request → Option Held
 part_in b q = lookup (key_for q) (reading b).held
 
--- where the body stands that is fetched; or the answer, where there is none
-abbrev pub judged_at : Fetched → JudgingPart
-judged_at (fetched.Body at n day) = At at n
-judged_at fetched.NotHeld = Answered NotHeld
-judged_at (fetched.Refused f) = Answered (Refused f)
+-- where the body stands that is fetched, if one is held
+abbrev pub judged_at : Result (Option Body) Refusal → Result (Option JudgingPart) Refusal
+judged_at (Ok (Some body)) = Ok (Some (record { at = body.off; length = body.bits }))
+judged_at (Ok None) = Ok None
+judged_at (Err f) = Err f
 
-unfoldable pub judging_part : List ℕ → Request → JudgingPart
-judging_part b q = guard (eqb (request_refusal q) 0) (Answered (Refused (plain (request_refusal q)))) (judged_at (fetch_is b (key_for q)))
+unfoldable pub judging_part : List ℕ → Request → Result (Option JudgingPart) Refusal
+judging_part b q = guard (eqb (request_refusal q) 0) (Err (plain (request_refusal q))) (judged_at (fetch_is b (key_for q)))
 
-unfoldable pub decide_is : List ℕ → Request → Decision
+unfoldable pub decide_is : List ℕ → Request → Result Decision Refusal
 decide_is b q =
-    guard (eqb (request_refusal q) 0) (Refused (plain (request_refusal q)))
-    (if_archive (check_is b) Refused
-    (judged_by (reading b).home q (part_in b q)))
+    guard (eqb (request_refusal q) 0) (Err (plain (request_refusal q)))
+    (if_archive (check_is b) Err
+    (Ok (judged_by (reading b).home q (part_in b q))))

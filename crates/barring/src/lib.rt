@@ -1,34 +1,35 @@
 // Whether a call is barred: the decision from an archive (document 01, "The barring rule").
 #![tactic(auto)]
 
-ghost use Rattle.std.specs.Prelude.{◌≡◌, ◌+◌, ◌≤◌, length};
+ghost use Rattle.std.specs.Prelude.{◌≡◌, ◌+◌, ◌≤◌, length, take, drop, Ok};
 ghost use Rattle.bits.specs.Frame.{bytes_for};
+ghost use Rattle.reader.specs.Read.{answer_of, read_is};
 ghost use Rattle.barring.specs.Decision.{decision_of};
 ghost use Rattle.barring.specs.Decide.{part_for, judging_part, decide_is};
 ghost use Rattle.barring.specs.Inner.{ruling_of_body};
 
-use archive::{EntryPlace, Fetched, Key, Refusal};
+use archive::{Key, Refusal};
 use bits::BitCount;
-use pdu::BitPlace;
-use rules::Ruling;
+use rules::Cause;
 use rules::request::{Destination, Request, request_refusal};
 
-// The answer to a request: allowed; barred, with its cause; the part that judges it is not held; or refused.
+// The answer to a request: allowed; barred, with its cause; or the part that judges it is not held.
 #[derive(Clone, Copy)]
 pub enum Decision {
     Allowed,
-    Barred(u32),
+    Barred(Cause),
     NotHeld,
-    Refused(Refusal),
 }
 
 // What a part says, as the answer to a request.
-fn decision_of(ruling: Ruling) -> Decision
-    ensures { result ≡ decision_of ruling }
-{
-    match ruling {
-        Ruling::Allowed => Decision::Allowed,
-        Ruling::Barred(cause) => Decision::Barred(cause),
+impl From<Option<Cause>> for Decision {
+    ghost from_gives = { λ ruling decision. decision ≡ decision_of ruling };
+
+    fn from(ruling: Option<Cause>) -> Decision {
+        match ruling {
+            None => Decision::Allowed,
+            Some(cause) => Decision::Barred(cause),
+        }
     }
 }
 
@@ -42,35 +43,35 @@ fn part_for(destination: Destination) -> u32
     }
 }
 
-// What the body of n bits at a place of the archive says of the call.
-fn ruling_of_body(archive: &[u8], at: usize, n: BitCount, request: Request) -> Decision
-    requires { at + bytes_for n.0 ≤ length archive.now }
-    ensures { result ≡ ruling_of_body archive.now at n.0 request }
-{
-    let end = at + n.bytes();
-    let reading = pdu::read(&archive[at..end], n);
-    let part = reading.found;
-    decision_of(rules::rule(part, archive::home(archive), request))
-}
-
-// Where the part stands that judges a request: the place of its body in the archive, and its length in bits. Or the answer, where there is none.
+// Where the part stands that judges a request: the place of its body in the archive, and its length.
 #[derive(Clone, Copy)]
-pub enum JudgingPart {
-    At(usize, BitCount),
-    Answered(Decision),
+pub struct JudgingPart {
+    pub at: usize,
+    pub length: BitCount,
 }
 
-// The part that judges a request: 9 before 7, then the part of the request's user.
-pub fn judging_part(archive: &[u8], request: Request) -> JudgingPart
+// What the body of a part says of the call. The archive holds it, so it is accepted.
+fn ruling_of_body(archive: &[u8], part: JudgingPart, request: Request) -> Option<Cause>
+    requires within { part.at + bytes_for part.length.0 ≤ length archive.now }
+    requires accepted { answer_of (read_is (take (bytes_for part.length.0) (drop part.at archive.now)) part.length.0) ≡ Ok tt }
+    ensures { result ≡ ruling_of_body archive.now part.at part.length.0 request }
+{
+    let end = part.at + part.length.bytes();
+    let held = pdu::read(&archive[part.at..end], part.length).unwrap();
+    rules::rule(held, archive::home(archive), request)
+}
+
+// The part that judges a request, if it is held: 9 before 7, then the part of the request's user.
+pub fn judging_part(archive: &[u8], request: Request) -> Result<Option<JudgingPart>, Refusal>
     ensures { result ≡ judging_part archive.now request }
 {
     let number = request_refusal(request);
     if number != 0 {
-        return JudgingPart::Answered(Decision::Refused(Refusal {
+        return Err(Refusal {
             number,
-            entry: EntryPlace::Nowhere,
-            place: BitPlace::Nowhere,
-        }));
+            entry: None,
+            place: None,
+        });
     }
     let user = request.user;
     let destination = request.destination;
@@ -81,18 +82,21 @@ pub fn judging_part(archive: &[u8], request: Request) -> JudgingPart
         part,
     };
     match archive::fetch(archive, key) {
-        Fetched::Body(at, n, _) => JudgingPart::At(at, n),
-        Fetched::NotHeld => JudgingPart::Answered(Decision::NotHeld),
-        Fetched::Refused(refusal) => JudgingPart::Answered(Decision::Refused(refusal)),
+        Ok(Some(body)) => Ok(Some(JudgingPart {
+            at: body.off,
+            length: body.bits,
+        })),
+        Ok(None) => Ok(None),
+        Err(refusal) => Err(refusal),
     }
 }
 
 // Whether the archive bars the call.
-pub fn decide(archive: &[u8], request: Request) -> Decision
+pub fn decide(archive: &[u8], request: Request) -> Result<Decision, Refusal>
     ensures { result ≡ decide_is archive.now request }
 {
-    match judging_part(archive, request) {
-        JudgingPart::At(at, n) => ruling_of_body(archive, at, n, request),
-        JudgingPart::Answered(decision) => decision,
+    match judging_part(archive, request)? {
+        Some(part) => Ok(Decision::from(ruling_of_body(archive, part, request))),
+        None => Ok(Decision::NotHeld),
     }
 }

@@ -1,12 +1,12 @@
 -- The bits of bytes: of a part, of a store, and bytes with equal bits are equal. Assumes nothing.
-use mathlib.Core.Path.{◌≡◌, refl, sym, ap, ap₂, ◌∙◌}
+use mathlib.Core.Path.{◌≡◌, refl, sym, ap, ap₂, subst, ◌∙◌}
 use mathlib.Core.List.{List, [], ◌∷◌, ◌++◌, append_assoc}
 use mathlib.Core.Bool.{Bool}
 use Prim.Native.Nat.{ℕ, zero, suc, ◌+◌, ◌*◌, ◌≤◌, ◌<◌}
 use native.Mathlib.Omega.{arith}
-use lib.ListN.{length, get_or, take, drop, set, length-append, length-take, length-drop, take-append-drop}
-use lib.Seq.{get_or-append-add, split_at, set_split, take_at, drop_at, length-take-le, take-append-le, drop-append-le}
-use Rattle.bits.specs.Bits.{value, bits_of, Bytes, bits, splice}
+use lib.ListN.{length, get_or, take, drop, length-append, length-take, length-drop, take-append-drop}
+use lib.Seq.{get_or-append-add, split_at, take_at, drop_at, length-take-le, take-append-le, drop-append-le}
+use Rattle.bits.specs.Bits.{value, bits_of, Bytes, bits}
 use Rattle.bits.proofs.Numbers.{length-bits_of, value-of-bits}
 
 pub length-bits : (s : List ℕ) → length (bits s) ≡ 8 * length s
@@ -39,17 +39,6 @@ bits-take n s h =
     ap (take (8 * n)) (ap bits (sym (take-append-drop n s)) ∙ bits_append (take n s) (drop n s))
     ∙ take_at (bits (take n s)) (bits (drop n s)) (8 * n) (length-bits-take n s h)
 
--- to store a byte is to splice its bits
-pub bits-set : (s : List ℕ) (q x : ℕ) → q < length s → bits (set s q x) ≡ splice (bits s) (8 * q) (bits_of 8 x)
-unfolding bits
-bits-set s q x h =
-    let next : 8 * suc q ≡ 8 * q + length (bits_of 8 x) = omega (arith, length-bits_of 8 x) in
-    ap bits (set_split s q x h)
-    ∙ bits_append (take q s) (x ∷ drop (suc q) s)
-    ∙ ap₂ (λ (l r : List Bool). l ++ (bits_of 8 x ++ r))
-    (sym (bits-take q s (omega arith)))
-    (sym (bits-drop (suc q) s h) ∙ ap (λ (n : ℕ). drop n (bits s)) next)
-
 -- what stands before an end is the same with what stands after it cut off
 pub take-before : {A : Type 0} (l : List A) (at w end : ℕ) → at + w ≤ end → at + w ≤ length l → take w (drop at (take end l)) ≡ take w (drop at l)
 take-before l at w end h k =
@@ -72,6 +61,11 @@ bytes-front (x ∷ s) t b (suc i) = bytes-front s t (λ k. b (suc k)) i
 
 pub bytes-parts : (s t : List ℕ) → Bytes (s ++ t) → Bytes s × Bytes t
 bytes-parts s t b = (bytes-front s t b, λ i. rw (get_or-append-add s t i 0) at (b (length s + i)))
+
+pub bytes_within : (s : List ℕ) (q k : ℕ) → Bytes s → Bytes (take k (drop q s))
+bytes_within s q k b =
+    let after : Bytes (drop q s) = (bytes-parts (take q s) (drop q s) (subst Bytes (sym (take-append-drop q s)) b)).1 in
+    (bytes-parts (take k (drop q s)) (drop k (drop q s)) (subst Bytes (sym (take-append-drop k (drop q s))) after)).0
 
 -- ---- bytes with equal bits are equal
 

@@ -1,4 +1,5 @@
 -- What the cursor takes and what put leaves, by cases. Assumes nothing.
+use Rattle.std.specs.Prelude.{Some, None}
 use mathlib.Core.Path.{◌≡◌, refl, ap, ◌∙◌}
 use mathlib.Core.List.{List}
 use mathlib.Core.Bool.{Bool, true, false, ◌&&◌}
@@ -10,17 +11,16 @@ use lib.Dec.{leb}
 use Rattle.bits.specs.Bits.{bits, value, bits_of, splice}
 use Rattle.bits.specs.Frame.{bits_in}
 use Rattle.bits.specs.Element.{element_at, taken_at, has_room, put_at}
-use Rattle.bits.specs.declared.Taken.TheVariants.{Element, Short}
 use Rattle.bits.proofs.Tests.{same-pick}
 use Rattle.bits.proofs.Bytes.{length-bits, take-before}
 
 -- ---- taken
 
-pub element-there : (l : List Bool) (at w : ℕ) → at + w ≤ length l → element_at l at w ≡ Element (value (take w (drop at l))) (record { at = at + w })
+pub element-there : (l : List Bool) (at w : ℕ) → at + w ≤ length l → element_at l at w ≡ Some (value (take w (drop at l)), record { at = at + w })
 unfolding element_at
 element-there l at w h = rw (le-leb (at + w) (length l) h)
 
-pub element-short : (l : List Bool) (at w : ℕ) → length l < at + w → element_at l at w ≡ Short
+pub element-short : (l : List Bool) (at w : ℕ) → length l < at + w → element_at l at w ≡ None
 unfolding element_at
 element-short l at w h = rw (lt-leb (at + w) (length l) h)
 
@@ -28,24 +28,24 @@ take-element : (s : List ℕ) (n at w : ℕ) → 1 ≤ w → w ≤ 32 → taken_
 unfolding taken_at
 take-element s n at w l h = rw (le-leb 1 w l, le-leb w 32 h)
 
-pub take_none : (s : List ℕ) (n at : ℕ) → taken_at s n at 0 ≡ Short
+pub take_none : (s : List ℕ) (n at : ℕ) → taken_at s n at 0 ≡ None
 unfolding taken_at
 take_none s n at = refl
 
-pub take-wide : (s : List ℕ) (n at w : ℕ) → 32 < w → taken_at s n at w ≡ Short
+pub take-wide : (s : List ℕ) (n at w : ℕ) → 32 < w → taken_at s n at w ≡ None
 unfolding taken_at
 take-wide s n at w h = rw (le-leb 1 w (omega arith), lt-leb w 32 h)
 
-pub take_short : (s : List ℕ) (n at w : ℕ) → length (bits_in n s) < at + w → taken_at s n at w ≡ Short
+pub take_short : (s : List ℕ) (n at w : ℕ) → length (bits_in n s) < at + w → taken_at s n at w ≡ None
 unfolding taken_at
-take_short s n at w h = rw (element-short (bits_in n s) at w h) (same-pick (leb 1 w && leb w 32) Short)
+take_short s n at w h = rw (element-short (bits_in n s) at w h) (same-pick (leb 1 w && leb w 32) None)
 
 pub take-there : (s : List ℕ) (n at w : ℕ) → 1 ≤ w → w ≤ 32 → at + w ≤ n → at + w ≤ 8 * length s
-    → taken_at s n at w ≡ Element (value (take w (drop at (bits s)))) (record { at = at + w })
+    → taken_at s n at w ≡ Some (value (take w (drop at (bits s))), record { at = at + w })
 take-there s n at w l h k m =
     take-element s n at w l h
     ∙ element-there (bits_in n s) at w (omega (arith, length-take n (bits s), length-bits s))
-    ∙ ap (λ (x : List Bool). Element (value x) (record { at = at + w })) (take-before (bits s) at w n k (omega (arith, length-bits s)))
+    ∙ ap (λ (x : List Bool). Some (value x, record { at = at + w })) (take-before (bits s) at w n k (omega (arith, length-bits s)))
 
 -- ---- put
 

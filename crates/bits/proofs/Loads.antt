@@ -1,16 +1,18 @@
--- The number of the bits of some bytes, byte by byte and four bytes at a time. Assumes nothing.
-use mathlib.Core.Path.{◌≡◌, refl, sym, ap, ap₂, ◌∙◌, subst}
+-- The number that eight bytes are, and its bits: those of the bytes, most significant first. Assumes nothing.
+use mathlib.Core.Path.{◌≡◌, refl, sym, ap, ap₂, ◌∙◌}
 use mathlib.Core.List.{List, [], ◌∷◌, ◌++◌, append-nil}
 use mathlib.Core.Bool.{Bool}
-use Prim.Native.Nat.{ℕ, ◌+◌, ◌*◌, ◌^◌, ◌≤◌, ◌<◌}
+use Prim.Native.Nat.{ℕ, zero, suc, ◌+◌, ◌*◌, ◌^◌, ◌≤◌, ◌<◌}
 use native.Mathlib.Nat.{mod-eq_of_lt}
 use native.Mathlib.Omega.{arith}
 use native.Mathlib.Numerals.{add-one}
-use lib.ListN.{length, get_or, take, drop, length-drop}
-use lib.Seq.{get_or-drop, take-suc, take-add, drop-drop}
-use Rattle.bits.specs.Bits.{value, bits_of, bits}
-use Rattle.bits.proofs.Numbers.{length-bits_of, value_append, value-bits_of}
-use Rattle.bits.proofs.Bytes.{bits_append, length-bits-take}
+use lib.ListN.{length, get_or, take, drop}
+use lib.Seq.{take_all, take-suc, drop-drop}
+use Rattle.std.specs.Int.{w64, from_be_bytes, to_be_bytes}
+use Rattle.std.proofs.lemmas.Nat.{from_be_bytes-to_be_bytes_8}
+use Rattle.bits.specs.Bits.{value, bits_of, bits, Bytes, splice}
+use Rattle.bits.proofs.Numbers.{length-bits_of, value_append, value-bits_of, bits_of_value}
+use Rattle.bits.proofs.Bytes.{length-bits, bits_append, bits-take, bits-drop}
 
 -- one more byte
 value_byte : (t : List ℕ) (i : ℕ) → i < length t → get_or t i 0 < 256
@@ -24,32 +26,51 @@ value_byte t i h byte =
     ∙ value_append (bits (take i t)) (bits_of 8 b)
     ∙ ap₂ (λ (x y : ℕ). value (bits (take i t)) * 2 ^ x + y) (length-bits_of 8 b) (value-bits_of 8 b ∙ mod-eq_of_lt byte)
 
-module _ (s : List ℕ) (from : ℕ) where
-  pub four_bytes : from + 4 ≤ length s → get_or s from 0 < 256 → get_or s (from + 1) 0 < 256 → get_or s (from + 2) 0 < 256 → get_or s (from + 3) 0 < 256
-      → value (bits (take 4 (drop from s))) ≡ get_or s from 0 * 16777216 + get_or s (from + 1) 0 * 65536 + get_or s (from + 2) 0 * 256 + get_or s (from + 3) 0
-  unfolding value bits
-  four_bytes h b₀ b₁ b₂ b₃ =
-      let t : List ℕ = drop from s in
-      let next : (i j : ℕ) → i < 4 → from + i ≡ j → get_or s j 0 < 256 → value (bits (take (i + 1) t)) ≡ value (bits (take i t)) * 256 + get_or s j 0 =
-      λ i j hi there b.
-      let e : get_or t i 0 ≡ get_or s j 0 = get_or-drop from s i 0 ∙ ap (λ (k : ℕ). get_or s k 0) there in
-      value_byte t i (omega (arith, length-drop from s)) (subst (λ (x : ℕ). x < 256) (sym e) b) ∙ ap (λ (x : ℕ). value (bits (take i t)) * 256 + x) e in
-      omega (
-        arith,
-        next 0 from (omega arith) (omega arith) b₀,
-        next 1 (from + 1) (omega arith) refl b₁,
-        next 2 (from + 2) (omega arith) refl b₂,
-        next 3 (from + 3) (omega arith) refl b₃,
-      )
+-- the bytes of a number are bytes
+bytes-eight : (x : ℕ) → Bytes (to_be_bytes w64 x)
+bytes-eight x zero = omega arith
+bytes-eight x (suc zero) = omega arith
+bytes-eight x (suc (suc zero)) = omega arith
+bytes-eight x (suc (suc (suc zero))) = omega arith
+bytes-eight x (suc (suc (suc (suc zero)))) = omega arith
+bytes-eight x (suc (suc (suc (suc (suc zero))))) = omega arith
+bytes-eight x (suc (suc (suc (suc (suc (suc zero)))))) = omega arith
+bytes-eight x (suc (suc (suc (suc (suc (suc (suc zero))))))) = omega arith
+bytes-eight x (suc (suc (suc (suc (suc (suc (suc (suc i)))))))) = omega arith
 
-  pub eight-bytes : from + 8 ≤ length s
-      → value (bits (take 8 (drop from s))) ≡ value (bits (take 4 (drop from s))) * 4294967296 + value (bits (take 4 (drop (from + 4) s)))
-  eight-bytes h =
-      let t : List ℕ = drop from s in
-      let late : List ℕ = take 4 (drop 4 t) in
-      let size : length (bits late) ≡ 32 =
-      length-bits-take 4 (drop 4 t) (omega (arith, length-drop 4 t, length-drop from s)) in
-      ap (λ (x : List ℕ). value (bits x)) (take-add 4 4 t)
-      ∙ ap value (bits_append (take 4 t) late)
-      ∙ value_append (bits (take 4 t)) (bits late)
-      ∙ ap₂ (λ (n : ℕ) (x : List ℕ). value (bits (take 4 t)) * 2 ^ n + value (bits (take 4 x))) size (drop-drop 4 from s)
+pub value-eight : (t : List ℕ) → length t ≡ 8 → Bytes t → value (bits t) ≡ from_be_bytes w64 t
+unfolding value bits
+value-eight t size bytes =
+    let next : (i : ℕ) → i < 8 → value (bits (take (i + 1) t)) ≡ value (bits (take i t)) * 256 + get_or t i 0 =
+    λ i h. value_byte t i (omega arith) (bytes i) in
+    ap (λ (x : List ℕ). value (bits x)) (sym (take_all 8 t (omega arith)))
+    ∙ omega (
+      arith,
+      next 0 (omega arith),
+      next 1 (omega arith),
+      next 2 (omega arith),
+      next 3 (omega arith),
+      next 4 (omega arith),
+      next 5 (omega arith),
+      next 6 (omega arith),
+      next 7 (omega arith),
+    )
+
+-- the bytes of a number are those of its bits
+pub bits-eight : (x : ℕ) → x < 2 ^ 64 → bits (to_be_bytes w64 x) ≡ bits_of 64 x
+bits-eight x h =
+    let t : List ℕ = to_be_bytes w64 x in
+    let number : value (bits t) ≡ x = value-eight t refl (bytes-eight x) ∙ from_be_bytes-to_be_bytes_8 x h in
+    sym (bits_of_value (bits t)) ∙ ap₂ bits_of (length-bits t) number
+
+-- bytes put among others: their bits in place of those that were there
+pub bits-part : (s t : List ℕ) (q k : ℕ) → q + k ≤ length s → length t ≡ k
+    → bits (take q s ++ (t ++ drop k (drop q s))) ≡ splice (bits s) (8 * q) (bits t)
+bits-part s t q k inside size =
+    let end : 8 * (q + k) ≡ 8 * q + length (bits t) = omega (arith, length-bits t) in
+    bits_append (take q s) (t ++ drop k (drop q s))
+    ∙ ap₂ (λ (a b : List Bool). a ++ b)
+    (sym (bits-take q s (omega arith)))
+    (bits_append t (drop k (drop q s))
+    ∙ ap (λ (l : List Bool). bits t ++ l)
+    (ap bits (drop-drop k q s) ∙ sym (bits-drop (q + k) s inside) ∙ ap (λ (n : ℕ). drop n (bits s)) end))

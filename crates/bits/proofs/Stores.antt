@@ -3,37 +3,16 @@ use mathlib.Core.Path.{◌≡◌, sym, ap, ap₂, ◌∙◌, subst}
 use mathlib.Core.List.{List, ◌++◌, append_assoc}
 use mathlib.Core.Bool.{Bool}
 use Prim.Native.Nat.{ℕ, ◌+◌, ◌-◌, ◌*◌, ◌/◌, ◌%◌, ◌^◌, ◌≤◌, ◌<◌}
-use native.Mathlib.Nat.{add_assoc, add_comm, add-zero, mul_assoc, mod-lt}
+use native.Mathlib.Nat.{add_assoc, add-zero, mul_assoc, mod-lt}
 use native.Mathlib.Omega.{arith}
-use lib.ListN.{length, take, drop, set, length-append, length-drop, take-append-drop}
+use lib.ListN.{length, take, drop, length-append, length-drop, take-append-drop}
 use lib.Seq.{take_at, take-append-le, drop-append-le}
 use lib.Bits.{bit_and, bit_or, and_block, and_mask, mask_lt, or_block, or_shifted, or_zero_r}
-use lib.Pow.{pow_pos, pow-add, shl_exact, shr-shr, shr_mod, split, mod-mod-pow, ones_lt, ones_split}
+use lib.Pow.{pow_pos, pow-add, shl_exact, shr_mod, split, mod-mod-pow, ones_lt, ones_split}
 use Rattle.bits.specs.Bits.{value, bits_of, bits, splice}
-use Rattle.bits.proofs.Numbers.{length-bits_of, bits_of-three, bits_of_add, bits_of_mod, bits_of-parts, bits_of_value}
-use Rattle.bits.proofs.Bytes.{length-bits, bits_append, bits-take, bits-set, length-bits-take}
-use Rattle.bits.proofs.Splices.{splice_at, length-splice, splice-splice}
-
--- ---- one part of a number after the other
-
--- the first i bits of a number are put from place p on, and then the next n, with m to come
-pub splice-more : (l : List Bool) (p i n m v : ℕ) → p ≤ length l
-    → splice (splice l p (bits_of i (v / 2 ^ (n + m)))) (p + i) (bits_of n (v / 2 ^ m % 2 ^ n)) ≡ splice l p (bits_of (i + n) (v / 2 ^ m))
-splice-more l p i n m v start =
-    let old : List Bool = bits_of i (v / 2 ^ (n + m)) in
-    let own : List Bool = bits_of n (v / 2 ^ m % 2 ^ n) in
-    let shifted : v / 2 ^ (n + m) ≡ v / 2 ^ m / 2 ^ n = ap (λ (y : ℕ). v / 2 ^ y) (add_comm n m) ∙ sym (shr-shr v m n) in
-    ap (λ (x : ℕ). splice (splice l p old) (p + x) own) (sym (length-bits_of i (v / 2 ^ (n + m))))
-    ∙ splice-splice l p old own start
-    ∙ ap (splice l p) (ap₂ (λ (x : ℕ) (y : List Bool). bits_of i x ++ y) shifted (bits_of_mod n (v / 2 ^ m)) ∙ sym (bits_of_add i n (v / 2 ^ m)))
-
--- the same where the next eight are stored as the byte at q
-pub store-more : (s₀ s : List ℕ) (p i q m v : ℕ) → bits s ≡ splice (bits s₀) p (bits_of i (v / 2 ^ (8 + m))) → 8 * q ≡ p + i → q < length s → p ≤ 8 * length s₀
-    → bits (set s q (v / 2 ^ m % 2 ^ 8)) ≡ splice (bits s₀) p (bits_of (i + 8) (v / 2 ^ m))
-store-more s₀ s p i q m v sofar place inside start =
-    bits-set s q (v / 2 ^ m % 2 ^ 8) inside
-    ∙ ap₂ (λ (l : List Bool) (a : ℕ). splice l a (bits_of 8 (v / 2 ^ m % 2 ^ 8))) sofar place
-    ∙ splice-more (bits s₀) p i 8 m v (omega (arith, length-bits s₀))
+use Rattle.bits.proofs.Numbers.{length-bits_of, bits_of-three, bits_of_mod, bits_of-parts, bits_of_value}
+use Rattle.bits.proofs.Bytes.{length-bits, bits_append, bits-take, length-bits-take}
+use Rattle.bits.proofs.Splices.{splice_at, length-splice}
 
 -- ---- a field of a number
 

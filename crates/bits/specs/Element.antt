@@ -1,17 +1,16 @@
 -- An element at a place: taken by the cursor, put into a buffer.
-use Rattle.std.specs.Prelude.{ℕ, ◌+◌, ◌-◌, ◌*◌, ◌/◌, ◌%◌, List, ◌++◌, Bool, false, ◌&&◌, length, take, drop, replicate, leb}
+use Rattle.std.specs.Prelude.{ℕ, ◌+◌, ◌-◌, ◌*◌, ◌/◌, ◌%◌, List, ◌++◌, Bool, false, ◌&&◌, Option, Some, None, length, take, drop, replicate, leb}
 use Rattle.bits.specs.Bits.{pick, bits, value, bits_of, splice}
 use Rattle.bits.specs.Frame.{bits_in}
-use Rattle.bits.specs.declared.Taken.{Taken}
-use Rattle.bits.specs.declared.Taken.TheVariants.{Element, Short}
+use Rattle.bits.specs.declared.Cursor.{Cursor}
 
 -- an element of w bits at a place of a run: its value and the place after it, where the run has so many bits there
-unfoldable pub element_at : List Bool → ℕ → ℕ → Taken
-element_at l at w = pick (leb (at + w) (length l)) (Element (value (take w (drop at l))) (record { at = at + w })) Short
+unfoldable pub element_at : List Bool → ℕ → ℕ → Option (ℕ × Cursor)
+element_at l at w = pick (leb (at + w) (length l)) (Some (value (take w (drop at l)), record { at = at + w })) None
 
 -- an element of a PDU of n bits in the bytes s; an element has 1 to 32 bits
-unfoldable pub taken_at : List ℕ → ℕ → ℕ → ℕ → Taken
-taken_at s n at w = pick (leb 1 w && leb w 32) (element_at (bits_in n s) at w) Short
+unfoldable pub taken_at : List ℕ → ℕ → ℕ → ℕ → Option (ℕ × Cursor)
+taken_at s n at w = pick (leb 1 w && leb w 32) (element_at (bits_in n s) at w) None
 
 -- the number that the 57 bits from a place on are; zeros stand for those after the end
 unfoldable pub window_at : List ℕ → ℕ → ℕ

@@ -1,11 +1,10 @@
 -- Examples that antt computes. The bytes 49 82 begin profile A: SS type 18 in 6 bits, PDU type 12 in 5, range type 1 in 4.
-use Rattle.std.specs.Prelude.{◌≡◌, refl, [], ◌∷◌, true, false, ◌*◌, ◌^◌, take, drop, replicate, ltb}
+use Rattle.std.specs.Prelude.{◌≡◌, refl, [], ◌∷◌, true, false, Some, None, ◌*◌, ◌^◌, take, drop, replicate, ltb}
 use Rattle.std.proofs.Common.{arith}
 use Rattle.bits.specs.Lists.{some, every}
 use Rattle.bits.specs.Bits.{bits, bits_of, value, splice, Bytes}
 use Rattle.bits.specs.Frame.{bytes_for, bits_in, framed, bytes_of, pack}
 use Rattle.bits.specs.Element.{element_at, taken_at, window_at, put_at, lay_at}
-use Rattle.bits.specs.declared.Taken.TheVariants.{Element, Short}
 
 -- the most significant bit of the first byte comes first
 first-bits : bits (0x49 ∷ 0x82 ∷ []) ≡
@@ -24,11 +23,11 @@ unfolding bits bits_of
 in_the-middle = refl
 
 -- the PDU type, and an element that the 11 bits of a PDU do not hold whole
-pdu-type : taken_at (0x49 ∷ 0x80 ∷ []) 11 6 5 ≡ Element 12 (record { at = 11 })
+pdu-type : taken_at (0x49 ∷ 0x80 ∷ []) 11 6 5 ≡ Some (12, record { at = 11 })
 unfolding taken_at element_at bits bits_of value
 pdu-type = refl
 
-ends-before : taken_at (0x49 ∷ 0x80 ∷ []) 11 8 4 ≡ Short
+ends-before : taken_at (0x49 ∷ 0x80 ∷ []) 11 8 4 ≡ None
 unfolding taken_at element_at bits bits_of
 ends-before = refl
 
@@ -86,8 +85,8 @@ unfolding pack bytes_of bits_of value
 packed = refl
 
 -- an element has 1 to 32 bits
-widths : (taken_at (replicate 5 0xff) 40 0 0 ≡ Short) × (taken_at (replicate 5 0xff) 40 0 33 ≡ Short)
-    × (taken_at (replicate 5 0xff) 40 8 32 ≡ Element 4294967295 (record { at = 40 })) × (taken_at (replicate 5 0xff) 40 9 32 ≡ Short)
+widths : (taken_at (replicate 5 0xff) 40 0 0 ≡ None) × (taken_at (replicate 5 0xff) 40 0 33 ≡ None)
+    × (taken_at (replicate 5 0xff) 40 8 32 ≡ Some (4294967295, record { at = 40 })) × (taken_at (replicate 5 0xff) 40 9 32 ≡ None)
 unfolding taken_at element_at bits bits_of value
 widths = (refl, refl, refl, refl)
 

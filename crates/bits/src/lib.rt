@@ -2,7 +2,7 @@
 // the counts of bits and digits, and the frame of a PDU (document 01, "The two PDUs").
 #![tactic(auto)]
 
-ghost use Rattle.std.specs.Prelude.{◌≡◌, ◌+◌, ◌-◌, ◌*◌, ◌/◌, ◌%◌, ◌^◌, ◌≤◌, ◌<◌, min, ◌++◌, length, take, drop, get_or, replicate};
+ghost use Rattle.std.specs.Prelude.{◌≡◌, ◌+◌, ◌-◌, ◌*◌, ◌/◌, ◌%◌, ◌^◌, ◌≤◌, ◌<◌, min, ◌++◌, length, take, drop, replicate};
 ghost use Rattle.bits.specs.Bits.{bits, bits_of, value, splice};
 ghost use Rattle.bits.specs.Frame.{bytes_for, framed};
 ghost use Rattle.bits.specs.Element.{taken_at, window_at, has_room, put_at, has_eight, lay_at};
@@ -28,7 +28,7 @@ impl BitCount {
     pub fn bytes(self) -> usize
         ensures { result ≡ bytes_for self.0 }
     {
-        self.0 / 8 + (self.0 % 8 + 7) / 8
+        self.0.div_ceil(8)
     }
 }
 
@@ -38,38 +38,31 @@ pub struct Cursor {
     pub at: usize,
 }
 
-#[derive(Clone, Copy)]
-pub enum Taken {
-    // The element, and the cursor after it.
-    Element(u32, Cursor),
-    // The PDU ends before or inside the element.
-    Short,
-}
-
 impl Cursor {
-    // The element of `width` bits, 1 to 32, of the PDU of n bits in s. No element is wider or narrower.
-    pub fn take(self, s: &[u8], n: BitCount, width: usize) -> Taken
+    // The element of `width` bits, 1 to 32, of the PDU of n bits in s, and the cursor after it; none if the PDU ends before or inside it.
+    // No element is wider or narrower.
+    pub fn take(self, s: &[u8], n: BitCount, width: usize) -> Option<(u32, Cursor)>
         ensures { result ≡ taken_at s.now n.0 self.at width }
     {
         let at = self.at;
         let end = n.0;
         if width == 0 {
-            return Taken::Short;
+            return None;
         }
         if 32 < width {
-            return Taken::Short;
+            return None;
         }
         if end < at {
-            return Taken::Short;
+            return None;
         }
         if end - at < width {
-            return Taken::Short;
+            return None;
         }
         let next = at + width;
         if s.len() < BitCount(next).bytes() {
-            return Taken::Short;
+            return None;
         }
-        Taken::Element((window(s, at) >> (57 - width)) as u32, Cursor { at: next })
+        Some(((window(s, at) >> (57 - width)) as u32, Cursor { at: next }))
     }
 }
 
@@ -88,7 +81,7 @@ fn window_of(s: &[u8], at: usize) -> u64
     requires { 8 ≤ length s.now }
     ensures { result ≡ window_at s.now at }
 {
-    let first = least(at / 8, s.len() - 8);
+    let first = (at / 8).min(s.len() - 8);
     let into = at - 8 * first;
     if 63 < into {
         return 0;
@@ -102,35 +95,18 @@ fn padded(s: &[u8]) -> [u8; 8]
     ensures { result ≡ s.now ++ replicate (8 - length s.now) 0 }
 {
     let mut held = [0u8; 8];
-    let mut i: usize = 0;
-    while i < s.len() {
-        held[i] = s[i];
-        i += 1;
-    }
+    held[..s.len()].copy_from_slice(s);
     held
 }
 
-// The numbers that the bits of eight bytes and of four are. Written so, each becomes a single load.
+// The number that the bits of eight bytes are: a single load.
 fn eight(s: &[u8], from: usize) -> u64
     requires { from + 8 ≤ length s.now }
     ensures { result ≡ value (bits (take 8 (drop from s.now))) }
 {
-    (four(s, from) as u64) * 4294967296 + four(s, from + 4) as u64
-}
-
-fn four(s: &[u8], from: usize) -> u32
-    requires { from + 4 ≤ length s.now }
-    ensures { result ≡ value (bits (take 4 (drop from s.now))) }
-{
-    let high = byte(s, from) * 16777216 + byte(s, from + 1) * 65536;
-    high + byte(s, from + 2) * 256 + byte(s, from + 3)
-}
-
-fn byte(s: &[u8], at: usize) -> u32
-    requires { at < length s.now }
-    ensures { (result ≡ get_or s.now at 0) × (result < 256) }
-{
-    s[at] as u32
+    let mut held = [0u8; 8];
+    held.copy_from_slice(&s[from..from + 8]);
+    u64::from_be_bytes(held)
 }
 
 // The bit at a place; 0 after the end.
@@ -175,11 +151,7 @@ fn put_short(buf: &mut [u8], at: usize, width: usize, element: u64)
 {
     let mut held = padded(buf);
     put_within(&mut held, at, width, element);
-    let mut i: usize = 0;
-    while i < buf.len() {
-        buf[i] = held[i];
-        i += 1;
-    }
+    buf.copy_from_slice(&held[..buf.len()]);
 }
 
 // And in eight or more: the bits are among the eight bytes from theirs on, or among the last eight.
@@ -187,7 +159,7 @@ fn put_within(buf: &mut [u8], at: usize, width: usize, element: u64)
     requires { (8 ≤ length buf.old) × (1 ≤ width) × (width ≤ 57) × (at + width ≤ 8 * length buf.old) }
     ensures { bits buf.new ≡ splice (bits buf.old) at (bits_of width element) }
 {
-    let first = least(at / 8, buf.len() - 8);
+    let first = (at / 8).min(buf.len() - 8);
     let after = 64 - (at - 8 * first) - width;
     let old = eight(buf, first);
     set_eight(buf, first, with_field(old, width, after, element));
@@ -212,7 +184,7 @@ pub fn lay(buf: &mut [u8], at: usize, width: usize, element: u64) -> bool
         return put(buf, at, width, element);
     }
     let first = at / 8;
-    let held = byte(buf, first);
+    let held = buf[first];
     set_eight(buf, first, laid(held, at % 8, width, element));
     true
 }
@@ -228,32 +200,21 @@ fn has_eight(count: usize, at: usize, width: usize) -> bool
 }
 
 // The first r bits of a byte, the n low bits of f, and zeros: 64 bits.
-fn laid(held: u32, r: usize, n: usize, f: u64) -> u64
-    requires { (held < 256) × (r < 8) × (n ≤ 57) }
+fn laid(held: u8, r: usize, n: usize, f: u64) -> u64
+    requires { (r < 8) × (n ≤ 57) }
     ensures { bits_of 64 result ≡ bits_of r (held / 2 ^ (8 - r)) ++ (bits_of n f ++ bits_of (64 - r - n) 0) }
 {
     let size = pow2(n);
-    let high = (held >> (8 - r)) as u64;
+    let high = (held as u64) >> (8 - r);
     ((high * size + f % size) << (57 - n)) << (7 - r)
 }
 
-// The bits of eight bytes and of four become those of a number. Written so, each becomes a single store.
+// The bits of eight bytes become those of a number: a single store.
 fn set_eight(buf: &mut [u8], from: usize, x: u64)
     requires { from + 8 ≤ length buf.old }
     ensures { bits buf.new ≡ splice (bits buf.old) (8 * from) (bits_of 64 x) }
 {
-    set_four(buf, from, (x >> 32u32) as u32);
-    set_four(buf, from + 4, (x % 4294967296) as u32);
-}
-
-fn set_four(buf: &mut [u8], from: usize, x: u32)
-    requires { from + 4 ≤ length buf.old }
-    ensures { bits buf.new ≡ splice (bits buf.old) (8 * from) (bits_of 32 x) }
-{
-    buf[from] = (x >> 24u32) as u8;
-    buf[from + 1] = ((x >> 16u32) % 256) as u8;
-    buf[from + 2] = ((x >> 8u32) % 256) as u8;
-    buf[from + 3] = (x % 256) as u8;
+    buf[from..from + 8].copy_from_slice(&x.to_be_bytes());
 }
 
 fn pow2(n: usize) -> u64

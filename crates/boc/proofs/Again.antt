@@ -4,10 +4,11 @@ use mathlib.Core.List.{List, ◌++◌}
 use Prim.Native.Nat.{ℕ, ◌≤◌}
 use borrow.Author.Tests.{eq-eqb}
 use lib.ListN.{length, drop}
+use Rattle.std.specs.Prelude.{Ok}
 use Rattle.bits.specs.Bits.{Bytes}
 use Rattle.grammar.specs.declared.record.Record.{Record}
-use Rattle.reader.specs.Read.{read_is}
-use Rattle.reader.specs.declared.Answer.TheVariants.{Accepted}
+use Rattle.reader.specs.Read.{answer_of, found_in, read_is}
+use Rattle.reader.proofs.Walked.{with-found}
 use Rattle.pdu.specs.Accepted.{accepted_as}
 use Rattle.pdu.proofs.RoundTrip.{accepted-legal, written_read}
 use Rattle.words.specs.Places.{record_width}
@@ -18,12 +19,12 @@ use Rattle.words.proofs.LegalRecords.{record-sized}
 use Rattle.reader.specs.Words.{read_words}
 use Rattle.boc.specs.Calls.{write_number, write_out, write_bits}
 
-module _ (s : List ℕ) (n : ℕ) (words : List ℕ) (l : length words ≡ record_width) (a : (read_is s n).answer ≡ Accepted) where
+module _ (s : List ℕ) (n : ℕ) (words : List ℕ) (l : length words ≡ record_width) (a : answer_of (read_is s n) ≡ Ok tt) where
   abbrev found : Record
-  found = (read_is s n).found
+  found = found_in (read_is s n)
 
   whole : read_is s n ≡ accepted_as found
-  whole = λ i. record { answer = a i; found = found }
+  whole = with-found (read_is s n) a
 
   sized : SizedRecord found
   sized = record-sized found (accepted-legal s n found whole)

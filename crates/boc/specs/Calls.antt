@@ -1,40 +1,28 @@
 -- What each call returns, 0 or the refusal number, and what it leaves behind its pointers: a refusal leaves lengths, decisions and buffers as they
 -- were and says where it stopped; a success leaves entry and place as they were.
-use Rattle.std.specs.Prelude.{ℕ, List, [], ◌∷◌, length, eqb}
+use Rattle.std.specs.Prelude.{ℕ, List, [], ◌∷◌, length, eqb, Result, Ok, Err, Option, Some, None}
 use Rattle.bits.specs.Bits.{pick, guard}
-use Rattle.walk.specs.declared.BitPlace.{BitPlace}
-use Rattle.walk.specs.declared.BitPlace.TheVariants as bit
+use Rattle.bits.specs.declared.BitCount.{BitCount}
+use Rattle.walk.specs.declared.Refusal as pdu
 use Rattle.reader.specs.Read.{refusal_of}
 use Rattle.reader.specs.Words.{read_words_is}
-use Rattle.reader.specs.declared.Answer.{Answer}
-use Rattle.reader.specs.declared.Answer.TheVariants as answer
 use Rattle.writer.specs.Write.{written_number, write_is, out_is}
-use Rattle.writer.specs.declared.Written.{Written}
-use Rattle.writer.specs.declared.Written.TheVariants as written
 use Rattle.archive.specs.Refusals.{plain}
 use Rattle.archive.specs.Keeping.{stored_refusal, empty_is, capture_is}
 use Rattle.archive.specs.Restoring.{entry_is, listed_refusal, restored_refusal, restore_is}
 use Rattle.archive.specs.Listing.{list_is}
 use Rattle.archive.specs.declared.contents.Key.{Key}
-use Rattle.archive.specs.declared.refusal.EntryPlace.{EntryPlace}
-use Rattle.archive.specs.declared.refusal.EntryPlace.TheVariants as entry
-use Rattle.archive.specs.declared.Stored.{Stored}
-use Rattle.archive.specs.declared.Stored.TheVariants as stored
-use Rattle.archive.specs.declared.Listed.{Listed}
-use Rattle.archive.specs.declared.Listed.TheVariants as listed
+use Rattle.archive.specs.declared.refusal.Refusal.{Refusal}
 use Rattle.archive.specs.declared.Restored.{Restored}
-use Rattle.archive.specs.declared.Restored.TheVariants as restored
 use Rattle.reload.specs.Reload.{reloaded_refusal, reload_is, reload_out}
 use Rattle.reload.specs.declared.Definition.{Definition}
-use Rattle.reload.specs.declared.Reloaded.{Reloaded}
-use Rattle.reload.specs.declared.Reloaded.TheVariants as reloaded
 use Rattle.reload.specs.declared.Target.TheVariants.{Define, DefineExternal}
 use Rattle.words.specs.RecordWords.{are_record, record_from}
 use Rattle.words.specs.RequestWords.{is_request, request_from}
 use Rattle.barring.specs.Decide.{decide_is}
 use Rattle.barring.specs.Decision.{decided_refusal, verdict_of}
 use Rattle.barring.specs.declared.Decision.{Decision}
-use Rattle.barring.specs.declared.Decision.TheVariants as decided
+use Rattle.archive.specs.declared.contents.Entry.{Entry}
 
 -- ---- where a call stopped
 
@@ -42,19 +30,15 @@ use Rattle.barring.specs.declared.Decision.TheVariants as decided
 abbrev pub nowhere : ℕ
 nowhere = 18446744073709551615
 
-abbrev pub place_word : BitPlace → ℕ
-place_word (bit.At p) = p
-place_word bit.Nowhere = nowhere
-
-abbrev pub entry_word : EntryPlace → ℕ
-entry_word (entry.At i) = i
-entry_word entry.Nowhere = nowhere
+abbrev pub place_word : Option ℕ → ℕ
+place_word (Some p) = p
+place_word None = nowhere
 
 -- ---- boc_read
 
-abbrev pub read_place_of : Answer → ℕ → ℕ
-read_place_of answer.Accepted old = old
-read_place_of (answer.Refused f) old = place_word f.place
+abbrev pub read_place_of : Result Unit pdu.Refusal → ℕ → ℕ
+read_place_of (Ok tt) old = old
+read_place_of (Err f) old = place_word f.place
 
 abbrev pub read_number : List ℕ → ℕ → ℕ → ℕ
 read_number s n words = (refusal_of (read_words_is s n words)).number
@@ -64,9 +48,9 @@ read_place s n words old = read_place_of (read_words_is s n words) old
 
 -- ---- boc_write
 
-abbrev pub written_length : Written → ℕ → ℕ
-written_length (written.Bits n) old = n.0
-written_length (written.Refused k) old = old
+abbrev pub written_length : Result BitCount ℕ → ℕ → ℕ
+written_length (Ok n) old = n.0
+written_length (Err k) old = old
 
 -- a slice of words of another length than a record's gives 9, before anything else
 unfoldable pub write_number : List ℕ → List ℕ → ℕ
@@ -80,20 +64,20 @@ write_bits words out old = pick (are_record (length words)) (written_length (wri
 
 -- ---- boc_empty, boc_capture and boc_contents
 
-abbrev pub stored_number : Stored → ℕ
+abbrev pub stored_number : Result ℕ Refusal → ℕ
 stored_number a = (stored_refusal a).number
 
-abbrev pub stored_length : Stored → ℕ → ℕ
-stored_length (stored.Bytes n) old = n
-stored_length (stored.Refused f) old = old
+abbrev pub stored_length : Result ℕ Refusal → ℕ → ℕ
+stored_length (Ok n) old = n
+stored_length (Err f) old = old
 
-abbrev pub stored_entry : Stored → ℕ → ℕ
-stored_entry (stored.Bytes n) old = old
-stored_entry (stored.Refused f) old = entry_word f.entry
+abbrev pub stored_entry : Result ℕ Refusal → ℕ → ℕ
+stored_entry (Ok n) old = old
+stored_entry (Err f) old = place_word f.entry
 
-abbrev pub stored_place : Stored → ℕ → ℕ
-stored_place (stored.Bytes n) old = old
-stored_place (stored.Refused f) old = place_word f.place
+abbrev pub stored_place : Result ℕ Refusal → ℕ → ℕ
+stored_place (Ok n) old = old
+stored_place (Err f) old = place_word f.place
 
 abbrev pub empty_number : ℕ → List ℕ → ℕ
 empty_number home out = stored_number (empty_is home (length out))
@@ -102,7 +86,7 @@ abbrev pub empty_length : ℕ → List ℕ → ℕ → ℕ
 empty_length home out old = stored_length (empty_is home (length out)) old
 
 -- what boc_capture answers
-abbrev pub capture_answer : List ℕ → List ℕ → ℕ → ℕ → List ℕ → Stored
+abbrev pub capture_answer : List ℕ → List ℕ → ℕ → ℕ → List ℕ → Result ℕ Refusal
 capture_answer b s n day out = capture_is b s n day (length out)
 
 -- ---- boc_entry
@@ -111,83 +95,83 @@ capture_answer b s n day out = capture_is b s n day (length out)
 abbrev pub key_words : Key → List ℕ
 key_words k = k.network ∷ k.ssi ∷ k.part ∷ []
 
-abbrev pub listed_number : Listed → ℕ
+abbrev pub listed_number : Result Entry Refusal → ℕ
 listed_number a = (listed_refusal a).number
 
-abbrev pub listed_key : Listed → List ℕ → List ℕ
-listed_key (listed.Entry e) old = key_words e.key
-listed_key (listed.Refused f) old = old
+abbrev pub listed_key : Result Entry Refusal → List ℕ → List ℕ
+listed_key (Ok e) old = key_words e.key
+listed_key (Err f) old = old
 
-abbrev pub listed_length : Listed → ℕ → ℕ
-listed_length (listed.Entry e) old = e.bits.0
-listed_length (listed.Refused f) old = old
+abbrev pub listed_length : Result Entry Refusal → ℕ → ℕ
+listed_length (Ok e) old = e.bits.0
+listed_length (Err f) old = old
 
-abbrev pub listed_day : Listed → ℕ → ℕ
-listed_day (listed.Entry e) old = e.day
-listed_day (listed.Refused f) old = old
+abbrev pub listed_day : Result Entry Refusal → ℕ → ℕ
+listed_day (Ok e) old = e.day
+listed_day (Err f) old = old
 
-abbrev pub listed_entry : Listed → ℕ → ℕ
-listed_entry (listed.Entry e) old = old
-listed_entry (listed.Refused f) old = entry_word f.entry
+abbrev pub listed_entry : Result Entry Refusal → ℕ → ℕ
+listed_entry (Ok e) old = old
+listed_entry (Err f) old = place_word f.entry
 
-abbrev pub listed_place : Listed → ℕ → ℕ
-listed_place (listed.Entry e) old = old
-listed_place (listed.Refused f) old = place_word f.place
+abbrev pub listed_place : Result Entry Refusal → ℕ → ℕ
+listed_place (Ok e) old = old
+listed_place (Err f) old = place_word f.place
 
 -- 9 for another count of words than 3
-unfoldable pub entry_answer : List ℕ → ℕ → ℕ → Listed
-entry_answer b index words = guard (eqb words 3) (listed.Refused (plain 9)) (entry_is b index)
+unfoldable pub entry_answer : List ℕ → ℕ → ℕ → Result Entry Refusal
+entry_answer b index words = guard (eqb words 3) (Err (plain 9)) (entry_is b index)
 
 -- ---- boc_restore
 
-abbrev pub restored_number : Restored → ℕ
+abbrev pub restored_number : Result Restored Refusal → ℕ
 restored_number a = (restored_refusal a).number
 
-abbrev pub restored_length : Restored → ℕ → ℕ
-restored_length (restored.Bits n day) old = n.0
-restored_length (restored.Refused f) old = old
+abbrev pub restored_length : Result Restored Refusal → ℕ → ℕ
+restored_length (Ok r) old = r.bits.0
+restored_length (Err f) old = old
 
-abbrev pub restored_day : Restored → ℕ → ℕ
-restored_day (restored.Bits n day) old = day
-restored_day (restored.Refused f) old = old
+abbrev pub restored_day : Result Restored Refusal → ℕ → ℕ
+restored_day (Ok r) old = r.day
+restored_day (Err f) old = old
 
-abbrev pub restored_entry : Restored → ℕ → ℕ
-restored_entry (restored.Bits n day) old = old
-restored_entry (restored.Refused f) old = entry_word f.entry
+abbrev pub restored_entry : Result Restored Refusal → ℕ → ℕ
+restored_entry (Ok r) old = old
+restored_entry (Err f) old = place_word f.entry
 
-abbrev pub restored_place : Restored → ℕ → ℕ
-restored_place (restored.Bits n day) old = old
-restored_place (restored.Refused f) old = place_word f.place
+abbrev pub restored_place : Result Restored Refusal → ℕ → ℕ
+restored_place (Ok r) old = old
+restored_place (Err f) old = place_word f.place
 
 -- the user and part that the call names
 abbrev pub key_of : ℕ → ℕ → ℕ → Key
 key_of network ssi part = record { network = network; ssi = ssi; part = part }
 
-abbrev pub restore_answer : List ℕ → ℕ → ℕ → ℕ → List ℕ → Restored
+abbrev pub restore_answer : List ℕ → ℕ → ℕ → ℕ → List ℕ → Result Restored Refusal
 restore_answer b network ssi part out = restore_is b (key_of network ssi part) (length out)
 
 -- ---- boc_reload and boc_reload_external
 
-abbrev pub reloaded_number : Reloaded → ℕ
+abbrev pub reloaded_number : Result BitCount Refusal → ℕ
 reloaded_number a = (reloaded_refusal a).number
 
-abbrev pub reloaded_length : Reloaded → ℕ → ℕ
-reloaded_length (reloaded.Bits n) old = n.0
-reloaded_length (reloaded.Refused f) old = old
+abbrev pub reloaded_length : Result BitCount Refusal → ℕ → ℕ
+reloaded_length (Ok n) old = n.0
+reloaded_length (Err f) old = old
 
-abbrev pub reloaded_entry : Reloaded → ℕ → ℕ
-reloaded_entry (reloaded.Bits n) old = old
-reloaded_entry (reloaded.Refused f) old = entry_word f.entry
+abbrev pub reloaded_entry : Result BitCount Refusal → ℕ → ℕ
+reloaded_entry (Ok n) old = old
+reloaded_entry (Err f) old = place_word f.entry
 
-abbrev pub reloaded_place : Reloaded → ℕ → ℕ
-reloaded_place (reloaded.Bits n) old = old
-reloaded_place (reloaded.Refused f) old = place_word f.place
+abbrev pub reloaded_place : Result BitCount Refusal → ℕ → ℕ
+reloaded_place (Ok n) old = old
+reloaded_place (Err f) old = place_word f.place
 
 -- the definition that the call names
 abbrev pub definition_of : ℕ → ℕ → ℕ → Definition
 definition_of definition delivery acknowledgement = record { definition = definition; delivery = delivery; acknowledgement = acknowledgement }
 
-abbrev pub reload_answer : List ℕ → ℕ → ℕ → ℕ → ℕ → ℕ → ℕ → List ℕ → Reloaded
+abbrev pub reload_answer : List ℕ → ℕ → ℕ → ℕ → ℕ → ℕ → ℕ → List ℕ → Result BitCount Refusal
 reload_answer b network ssi part definition delivery acknowledgement out =
     reload_is Define b (key_of network ssi part) (definition_of definition delivery acknowledgement) out
 
@@ -197,7 +181,7 @@ reload_leaves b network ssi part definition delivery acknowledgement out =
     reload_out Define b (key_of network ssi part) (definition_of definition delivery acknowledgement) out
 
 -- what boc_reload_external answers of the number part, and leaves in the buffer
-abbrev pub external_answer : List ℕ → ℕ → ℕ → ℕ → ℕ → ℕ → List ℕ → Reloaded
+abbrev pub external_answer : List ℕ → ℕ → ℕ → ℕ → ℕ → ℕ → List ℕ → Result BitCount Refusal
 external_answer b network ssi definition delivery acknowledgement out =
     reload_is DefineExternal b (key_of network ssi 2) (definition_of definition delivery acknowledgement) out
 
@@ -207,33 +191,27 @@ external_leaves b network ssi definition delivery acknowledgement out =
 
 -- ---- boc_decide
 
-abbrev pub decided_number : Decision → ℕ
+abbrev pub decided_number : Result Decision Refusal → ℕ
 decided_number d = (decided_refusal d).number
 
 -- the decision's number; a refusal leaves the old one
-abbrev pub decided_verdict : Decision → ℕ → ℕ
-decided_verdict (decided.Barred cause) old = verdict_of (decided.Barred cause)
-decided_verdict decided.Allowed old = verdict_of decided.Allowed
-decided_verdict decided.NotHeld old = verdict_of decided.NotHeld
-decided_verdict (decided.Refused f) old = old
+abbrev pub decided_verdict : Result Decision Refusal → ℕ → ℕ
+decided_verdict (Ok d) old = verdict_of (Ok d)
+decided_verdict (Err f) old = old
 
-abbrev pub decided_entry : Decision → ℕ → ℕ
-decided_entry (decided.Barred cause) old = old
-decided_entry decided.Allowed old = old
-decided_entry decided.NotHeld old = old
-decided_entry (decided.Refused f) old = entry_word f.entry
+abbrev pub decided_entry : Result Decision Refusal → ℕ → ℕ
+decided_entry (Ok d) old = old
+decided_entry (Err f) old = place_word f.entry
 
-abbrev pub decided_place : Decision → ℕ → ℕ
-decided_place (decided.Barred cause) old = old
-decided_place decided.Allowed old = old
-decided_place decided.NotHeld old = old
-decided_place (decided.Refused f) old = place_word f.place
+abbrev pub decided_place : Result Decision Refusal → ℕ → ℕ
+decided_place (Ok d) old = old
+decided_place (Err f) old = place_word f.place
 
 -- 9 unless they are a request's words
-unfoldable pub decide_answer : List ℕ → List ℕ → Decision
-decide_answer b words = guard (is_request words) (decided.Refused (plain 9)) (decide_is b (request_from words))
+unfoldable pub decide_answer : List ℕ → List ℕ → Result Decision Refusal
+decide_answer b words = guard (is_request words) (Err (plain 9)) (decide_is b (request_from words))
 
 -- ---- boc_contents
 
-abbrev pub contents_answer : List ℕ → List ℕ → Stored
+abbrev pub contents_answer : List ℕ → List ℕ → Result ℕ Refusal
 contents_answer b out = list_is b (length out)

@@ -1,16 +1,14 @@
--- What the call for a line answers: it returns 0 or the refusal number, and leaves a length behind its pointer, which a refusal leaves alone.
-use Rattle.std.specs.Prelude.{List, ℕ, length}
+-- What the calls for terminals return: 0 or the refusal number. A line leaves a length behind its pointer, which a refusal leaves alone.
+use Rattle.std.specs.Prelude.{List, Result, Ok, Err, ℕ, length}
 use Rattle.terminals.specs.Answers.{line_is}
-use Rattle.terminals.specs.declared.Answer.{Answer}
-use Rattle.terminals.specs.declared.Answer.TheVariants.{Length, Refused}
 
-abbrev pub line_answer : List ℕ → List ℕ → List ℕ → Answer
+abbrev pub returned : {A : Type 0} → Result A ℕ → ℕ
+returned (Ok x) = 0
+returned (Err k) = k
+
+abbrev pub line_answer : List ℕ → List ℕ → List ℕ → Result ℕ ℕ
 line_answer s table out = line_is s table (length out)
 
-abbrev pub line_number : Answer → ℕ
-line_number (Length n) = 0
-line_number (Refused k) = k
-
-abbrev pub line_length : Answer → ℕ → ℕ
-line_length (Length n) old = n
-line_length (Refused k) old = old
+abbrev pub line_length : Result ℕ ℕ → ℕ → ℕ
+line_length (Ok n) old = n
+line_length (Err k) old = old

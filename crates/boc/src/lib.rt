@@ -5,13 +5,13 @@
 
 pub mod serial;
 
-ghost use Rattle.std.specs.Prelude.{◌≡◌, length};
+ghost use Rattle.std.specs.Prelude.{◌≡◌, length, Err};
 ghost use Rattle.reader.specs.Words.{read_words};
 ghost use Rattle.archive.specs.Refusals.{plain};
 ghost use Rattle.archive.specs.Keeping.{empty_out, capture_out};
 ghost use Rattle.archive.specs.Restoring.{restore_out};
 ghost use Rattle.archive.specs.Listing.{list_out};
-ghost use Rattle.boc.specs.Calls.{place_word, entry_word, read_number, read_place, write_number, write_out, write_bits, empty_number, empty_length};
+ghost use Rattle.boc.specs.Calls.{place_word, read_number, read_place, write_number, write_out, write_bits, empty_number, empty_length};
 ghost use Rattle.boc.specs.Calls.{stored_number, stored_length, stored_entry, stored_place, capture_answer, contents_answer};
 ghost use Rattle.boc.specs.Calls.{key_words, listed_number, listed_key, listed_length, listed_day, listed_entry, listed_place, entry_answer};
 ghost use Rattle.boc.specs.Calls.{restored_number, restored_length, restored_day, restored_entry, restored_place, key_of, restore_answer};
@@ -19,11 +19,10 @@ ghost use Rattle.boc.specs.Calls.{reloaded_number, reloaded_length, reloaded_ent
 ghost use Rattle.boc.specs.Calls.{external_answer, external_leaves};
 ghost use Rattle.boc.specs.Calls.{decided_number, decided_verdict, decided_entry, decided_place, decide_answer};
 
-use archive::{EntryPlace, Key, Listed, Refusal, Restored, Stored, listing};
+use archive::{Entry, Key, Refusal, Restored, listing};
 use barring::Decision;
 use bits::BitCount;
-use pdu::{Answer, BitPlace, Written};
-use reload::{Definition, Reloaded, Target};
+use reload::{Definition, Target};
 use words::request;
 
 // No entry, or no place: BOC_NOWHERE.
@@ -32,56 +31,48 @@ const NOWHERE: usize = 18446744073709551615;
 // Words of a key.
 const KEY_WORDS: usize = 3;
 
-fn place_word(place: BitPlace) -> usize
+// The word for C of an entry or a bit place.
+fn place_word(place: Option<usize>) -> usize
     ensures { result ≡ place_word place }
 {
-    match place {
-        BitPlace::At(bit) => bit,
-        BitPlace::Nowhere => NOWHERE,
-    }
-}
-
-fn entry_word(entry: EntryPlace) -> usize
-    ensures { result ≡ entry_word entry }
-{
-    match entry {
-        EntryPlace::At(index) => index,
-        EntryPlace::Nowhere => NOWHERE,
-    }
+    place.unwrap_or(NOWHERE)
 }
 
 // Says where an archive's call stopped; returns the refusal number.
 fn refuse(refusal: Refusal, entry: &mut usize, place: &mut usize) -> u32
     ensures value { result ≡ refusal.number }
-    ensures after { entry.new ≡ entry_word refusal.entry }
+    ensures after { entry.new ≡ place_word refusal.entry }
     ensures place_after { place.new ≡ place_word refusal.place }
 {
-    let at_entry = refusal.entry;
-    let at_place = refusal.place;
-    *entry = entry_word(at_entry);
-    *place = place_word(at_place);
+    *entry = place_word(refusal.entry);
+    *place = place_word(refusal.place);
     refusal.number
 }
 
 // Tells an answer that is a length in bytes.
-fn tell_stored(answer: Stored, length: &mut usize, entry: &mut usize, place: &mut usize) -> u32
+fn tell_stored(
+    answer: Result<usize, Refusal>,
+    length: &mut usize,
+    entry: &mut usize,
+    place: &mut usize,
+) -> u32
     ensures value { result ≡ stored_number answer }
     ensures length_after { length.new ≡ stored_length answer length.old }
     ensures after { entry.new ≡ stored_entry answer entry.old }
     ensures place_after { place.new ≡ stored_place answer place.old }
 {
     match answer {
-        Stored::Bytes(n) => {
+        Ok(n) => {
             *length = n;
             0
         },
-        Stored::Refused(refusal) => refuse(refusal, entry, place),
+        Err(refusal) => refuse(refusal, entry, place),
     }
 }
 
 // One that is a length in bits and a day.
 fn tell_restored(
-    answer: Restored,
+    answer: Result<Restored, Refusal>,
     bits: &mut usize,
     day: &mut u32,
     entry: &mut usize,
@@ -94,28 +85,33 @@ fn tell_restored(
     ensures place_after { place.new ≡ restored_place answer place.old }
 {
     match answer {
-        Restored::Bits(n, taken) => {
-            *bits = n.0;
-            *day = taken;
+        Ok(restored) => {
+            *bits = restored.bits.0;
+            *day = restored.day;
             0
         },
-        Restored::Refused(refusal) => refuse(refusal, entry, place),
+        Err(refusal) => refuse(refusal, entry, place),
     }
 }
 
 // One that is a length in bits.
-fn tell_reloaded(answer: Reloaded, bits: &mut usize, entry: &mut usize, place: &mut usize) -> u32
+fn tell_reloaded(
+    answer: Result<BitCount, Refusal>,
+    bits: &mut usize,
+    entry: &mut usize,
+    place: &mut usize,
+) -> u32
     ensures value { result ≡ reloaded_number answer }
     ensures bits_after { bits.new ≡ reloaded_length answer bits.old }
     ensures after { entry.new ≡ reloaded_entry answer entry.old }
     ensures place_after { place.new ≡ reloaded_place answer place.old }
 {
     match answer {
-        Reloaded::Bits(n) => {
+        Ok(n) => {
             *bits = n.0;
             0
         },
-        Reloaded::Refused(refusal) => refuse(refusal, entry, place),
+        Err(refusal) => refuse(refusal, entry, place),
     }
 }
 
@@ -131,7 +127,7 @@ fn store_key(key: Key, words: &mut [u32])
 
 // An entry: its key, its length in bits and its day.
 fn tell_listed(
-    answer: Listed,
+    answer: Result<Entry, Refusal>,
     key: &mut [u32],
     bits: &mut usize,
     day: &mut u32,
@@ -147,49 +143,54 @@ fn tell_listed(
     ensures place_after { place.new ≡ listed_place answer place.old }
 {
     match answer {
-        Listed::Entry(listed) => {
+        Ok(listed) => {
             let user_and_part = listed.key;
             store_key(user_and_part, key);
             *bits = listed.bits.0;
             *day = listed.day;
             0
         },
-        Listed::Refused(refusal) => refuse(refusal, entry, place),
+        Err(refusal) => refuse(refusal, entry, place),
     }
 }
 
 // And a decision: 0 to 2 barred with that cause, 3 allowed, 4 not held.
-fn tell_decided(answer: Decision, decision: &mut u32, entry: &mut usize, place: &mut usize) -> u32
+fn tell_decided(
+    answer: Result<Decision, Refusal>,
+    decision: &mut u32,
+    entry: &mut usize,
+    place: &mut usize,
+) -> u32
     ensures value { result ≡ decided_number answer }
     ensures decision_after { decision.new ≡ decided_verdict answer decision.old }
     ensures after { entry.new ≡ decided_entry answer entry.old }
     ensures place_after { place.new ≡ decided_place answer place.old }
 {
     match answer {
-        Decision::Barred(cause) => {
-            *decision = cause;
+        Ok(Decision::Barred(cause)) => {
+            *decision = u32::from(cause);
             0
         },
-        Decision::Allowed => {
+        Ok(Decision::Allowed) => {
             *decision = 3;
             0
         },
-        Decision::NotHeld => {
+        Ok(Decision::NotHeld) => {
             *decision = 4;
             0
         },
-        Decision::Refused(refusal) => refuse(refusal, entry, place),
+        Err(undecided) => refuse(undecided, entry, place),
     }
 }
 
 // The answer to words that are no request's.
-fn no_request() -> Decision
-    ensures { result ≡ Decision.Refused (plain 9) }
+fn no_request() -> Result<Decision, Refusal>
+    ensures { result ≡ Err (plain 9) }
 {
-    Decision::Refused(Refusal {
+    Err(Refusal {
         number: 9,
-        entry: EntryPlace::Nowhere,
-        place: BitPlace::Nowhere,
+        entry: None,
+        place: None,
     })
 }
 
@@ -200,11 +201,10 @@ pub fn boc_read(pdu: &[u8], bits: usize, record: &mut [u32], place: &mut usize) 
     ensures place_after { place.new ≡ read_place pdu.now bits (length «record».old) place.old }
 {
     match pdu::read_words(pdu, BitCount(bits), record) {
-        Answer::Accepted => 0,
-        Answer::Refused(refusal) => {
-            let at = refusal.place;
-            *place = place_word(at);
-            refusal.number
+        Ok(()) => 0,
+        Err(stopped) => {
+            *place = place_word(stopped.place);
+            stopped.number
         },
     }
 }
@@ -216,11 +216,11 @@ pub fn boc_write(record: &[u32], out: &mut [u8], bits: &mut usize) -> u32
     ensures bits_after { bits.new ≡ write_bits «record».now out.old bits.old }
 {
     match pdu::write_words(record, out) {
-        Written::Bits(length) => {
+        Ok(length) => {
             *bits = length.0;
             0
         },
-        Written::Refused(number) => number,
+        Err(number) => number,
     }
 }
 
@@ -231,11 +231,11 @@ pub fn boc_empty(home: u32, out: &mut [u8], length: &mut usize) -> u32
     ensures length_after { length.new ≡ empty_length home out.old length.old }
 {
     match archive::empty(home, out) {
-        Stored::Bytes(bytes) => {
+        Ok(bytes) => {
             *length = bytes;
             0
         },
-        Stored::Refused(refusal) => refusal.number,
+        Err(refusal) => refusal.number,
     }
 }
 
@@ -386,11 +386,10 @@ pub fn boc_decide(
     ensures after { entry.new ≡ decided_entry (decide_answer archive.now request.now) entry.old }
     ensures place_after { place.new ≡ decided_place (decide_answer archive.now request.now) place.old }
 {
-    let spelt = request::request_from(request);
-    if !spelt.given {
+    let Some(asked) = request::request_from(request) else {
         return tell_decided(no_request(), decision, entry, place);
-    }
-    let answer = barring::decide(archive, spelt.asked);
+    };
+    let answer = barring::decide(archive, asked);
     tell_decided(answer, decision, entry, place)
 }
 
@@ -407,11 +406,10 @@ pub fn boc_decide_in_place(
     ensures after { entry.new ≡ decided_entry (decide_answer archive.now request.now) entry.old }
     ensures place_after { place.new ≡ decided_place (decide_answer archive.now request.now) place.old }
 {
-    let spelt = request::request_from(request);
-    if !spelt.given {
+    let Some(asked) = request::request_from(request) else {
         return tell_decided(no_request(), decision, entry, place);
-    }
-    let walked = in_place::decide(archive, spelt.asked);
+    };
+    let walked = in_place::decide(archive, asked);
     tell_decided(walked, decision, entry, place)
 }
 

@@ -14,7 +14,7 @@ ghost use Rattle.boc.specs.Calls.{reloaded_entry, reloaded_place, reload_answer,
 ghost use Rattle.boc.specs.Calls.{decided_number, decided_verdict, decided_entry, decided_place, decide_answer};
 ghost use Rattle.terminals.specs.Profiles.{reset_is, reset_out};
 ghost use Rattle.terminals.specs.Answers.{table_after, out_after};
-ghost use Rattle.boc.specs.Serial.{line_answer, line_number, line_length};
+ghost use Rattle.boc.specs.Serial.{returned, line_answer, line_length};
 
 // Reads the PDU of `bits` bits in `pdu`; its record goes to `record`.
 #[unsafe(no_mangle)]
@@ -236,7 +236,7 @@ pub extern "C" fn boc_contents(
 // Sets every place of a table to the profile "both".
 #[unsafe(no_mangle)]
 pub extern "C" fn boc_terminal_reset(table: &mut [u8]) -> u32
-    ensures value { result ≡ reset_is (length table.old) }
+    ensures value { result ≡ returned (reset_is (length table.old)) }
     ensures table_after { table.new ≡ reset_out table.old }
 {
     boc::serial::boc_terminal_reset(table)
@@ -250,7 +250,7 @@ pub extern "C" fn boc_terminal_line(
     out: &mut [u8],
     length: &mut usize,
 ) -> u32
-    ensures value { result ≡ line_number (line_answer line.now table.old out.old) }
+    ensures value { result ≡ returned (line_answer line.now table.old out.old) }
     ensures table_after { table.new ≡ table_after line.now table.old }
     ensures out_after { out.new ≡ out_after line.now table.old out.old }
     ensures length_after { length.new

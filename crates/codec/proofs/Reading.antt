@@ -1,4 +1,6 @@
 -- Reading at a place, one law for each way to build a codec. Assumes nothing.
+use Rattle.std.specs.Prelude.{Option, Some, None}
+use Rattle.std.specs.Option.{ok_or}
 use mathlib.Core.Path.{◌≡◌, refl, sym, ap, ◌∙◌}
 use mathlib.Core.Bool.{Bool, true, false, ◌&&◌}
 use mathlib.Core.List.{List, [], ◌∷◌}
@@ -11,22 +13,21 @@ use borrow.Author.Tests.{ltb-true, ltb-false, lt-ltb, le-ltb, leb-true}
 use Rattle.bits.specs.Bits.{pick, value}
 use Rattle.bits.specs.Frame.{bits_in}
 use Rattle.bits.specs.Element.{element_at, taken_at}
-use Rattle.bits.specs.declared.Taken.{Taken}
-use Rattle.bits.specs.declared.Taken.TheVariants.{Element, Short}
+use Rattle.bits.specs.declared.Cursor.{Cursor}
 use Rattle.bits.proofs.Tests.{never}
 use Rattle.bits.proofs.Elements.{element-there, element-short}
 use Rattle.codec.specs.Codec.{Outcome, ok, no, and_then, Faithful, Codec, Legal}
 use Rattle.codec.specs.Parts.{number, absent, seq, unless, tested, element, shaped, mark, only}
 use Rattle.codec.specs.Places.{is_nil, nil, cons}
 use Rattle.codec.specs.Whole.{whole_parse}
-use Rattle.codec.specs.Reading.{Found, got, refused, and_next, unless_at, answer, read_at, element_of}
+use Rattle.codec.specs.Reading.{Found, got, refused, and_next, unless_at, answer, read_at, said, element_of}
 
 pub and_next_assoc : {A B C : Type 0} (o : Found A) (j : A → ℕ → Found B) (k : B → ℕ → Found C)
     → and_next (and_next o j) k ≡ and_next o (λ a at. and_next (j a at) k)
 and_next_assoc (got a at) j k = refl
 and_next_assoc (refused n p) j k = refl
 
-next-got : {A : Type 0} (o : Found A) → and_next o (λ a at. got a at) ≡ o
+pub next-got : {A : Type 0} (o : Found A) → and_next o (λ a at. got a at) ≡ o
 next-got (got a at) = refl
 next-got (refused n p) = refl
 
@@ -64,9 +65,13 @@ read_at-seq {A} {B} c d s at =
     (λ i a at'. then_at (d a) (λ b at'' s''. ok (a, b) at'' s'') s at' i)
 
 -- what the cursor takes, as an answer
-abbrev pub taken : ℕ → Taken → Found ℕ
-taken at (Element v c) = got v c.at
-taken at Short = refused 2 at
+abbrev pub taken : ℕ → Option (ℕ × Cursor) → Found ℕ
+taken at (Some (v, c)) = got v c.at
+taken at None = refused 2 at
+
+pub said-taken : (at : Cursor) (o : Option (ℕ × Cursor)) → ok_or o (record { number = 2; at = at.at }) ≡ said (taken at.at o)
+said-taken at (Some (v, c)) = refl
+said-taken at None = refl
 
 pub read_at-number : (w : ℕ) (s : List Bool) (at : ℕ) → 1 ≤ w → read_at (number w) s at ≡ taken at (element_at s at w)
 unfolding read_at number
@@ -87,7 +92,7 @@ unfolding element_of taken_at
 element_of-taken s n w at = go (leb 1 w) (leb w 32) refl
   where
     go : (a b : Bool) → leb 1 w ≡ a
-        → pick (a && b) (read_at (number w) (bits_in n s) at) (refused 2 at) ≡ taken at (pick (a && b) (element_at (bits_in n s) at w) Short)
+        → pick (a && b) (read_at (number w) (bits_in n s) at) (refused 2 at) ≡ taken at (pick (a && b) (element_at (bits_in n s) at w) None)
     go true true e = read_at-number w (bits_in n s) at (leb-true 1 w e)
     go true false e = refl
     go false b e = refl

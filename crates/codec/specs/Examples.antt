@@ -1,12 +1,11 @@
 -- An example that antt computes: a length of 2 bits, 1 or more, and as many digits of 4 bits, below 13, in three places.
-use Rattle.std.specs.Prelude.{◌≡◌, refl, false, List, [], ◌∷◌, ◌++◌, ℕ, replicate, ltb}
+use Rattle.std.specs.Prelude.{◌≡◌, refl, false, Ok, Err, List, [], ◌∷◌, ◌++◌, ℕ, replicate, ltb}
 use Rattle.bits.specs.Bits.{pick, bits, bits_of, value}
 use Rattle.codec.specs.Codec.{Codec, ok, no, first}
 use Rattle.codec.specs.Parts.{number, absent, element, tested, seq, ◌>>=◌}
 use Rattle.codec.specs.Places.{nil, cons, places}
 use Rattle.codec.specs.Whole.{whole_parse}
-use Rattle.codec.specs.Reading.{got, refused, read_at, resume, element_of, number_is, tested_is}
-use Rattle.codec.specs.declared.Reached.TheVariants.{At, Refused}
+use Rattle.codec.specs.Reading.{got, refused, read_at, said, reached, element_of, tested_is}
 
 unfoldable some : ℕ → ℕ
 some n = pick (ltb 0 n) 0 3
@@ -76,11 +75,15 @@ elements : (element_of (0x49 ∷ 0x80 ∷ []) 11 5 6 ≡ got 12 11)
 unfolding element_of read_at number bits bits_of value
 elements = (refl, refl, refl, refl)
 
--- a number that was read from place 6 to 11, under its test: passed; refused where it begins; what stood before is passed on
-tested-numbers : (tested_is (At (record { at = 6 })) (record { reached = At (record { at = 11 }); value = 12 }) 0
-    ≡ record { reached = At (record { at = 11 }); value = 12 })
-    × (tested_is (At (record { at = 6 })) (record { reached = At (record { at = 11 }); value = 13 }) 10 ≡ record { reached = Refused 10 6; value = 0 })
-    × (tested_is (At (record { at = 6 })) (record { reached = Refused 2 6; value = 0 }) 3 ≡ record { reached = Refused 2 6; value = 0 })
-    × (tested_is (Refused 3 0) (record { reached = Refused 3 0; value = 0 }) 10 ≡ record { reached = Refused 3 0; value = 0 })
-unfolding tested_is number_is resume
-tested-numbers = (refl, refl, refl, refl)
+-- an element that begins at place 6, under its test: passed; refused where it begins
+tested-elements : (tested_is (record { at = 6 }) 0 ≡ Ok tt)
+    × (tested_is (record { at = 6 }) 10 ≡ Err (record { number = 10; at = 6 }))
+unfolding tested_is
+tested-elements = (refl, refl)
+
+-- a reader's result: the value and the cursor after it, or where it stops
+results : (said (element_of (0x49 ∷ 0x80 ∷ []) 11 5 6) ≡ Ok (12, record { at = 11 }))
+    × (said (element_of (0x49 ∷ 0x80 ∷ []) 11 5 7) ≡ Err (record { number = 2; at = 7 }))
+    × (reached (element_of (0x49 ∷ 0x80 ∷ []) 11 5 6) ≡ Ok (record { at = 11 }))
+unfolding element_of read_at number bits bits_of value
+results = (refl, refl, refl)

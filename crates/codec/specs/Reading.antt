@@ -1,12 +1,11 @@
 -- Reading at a place of a PDU's own bits: what a reader that goes part by part follows.
-use Rattle.std.specs.Prelude.{Bool, ◌&&◌, List, ℕ, zero, suc, drop, leb}
+use Rattle.std.specs.Prelude.{Bool, ◌&&◌, List, ℕ, zero, suc, Result, Ok, Err, drop, leb}
 use Rattle.bits.specs.Bits.{pick}
 use Rattle.bits.specs.Frame.{bits_in}
 use Rattle.codec.specs.Codec.{Outcome, ok, no, Codec}
 use Rattle.codec.specs.Parts.{number}
-use Rattle.codec.specs.declared.Reached.{Reached}
-use Rattle.codec.specs.declared.Reached.TheVariants.{At, Refused}
-use Rattle.codec.specs.declared.NumberRead.{NumberRead}
+use Rattle.bits.specs.declared.Cursor.{Cursor}
+use Rattle.codec.specs.declared.Stop.{Stop}
 
 -- a value and the place after it, or a refusal number and its place
 pub data Found (A : Type 0) : Type 0 where
@@ -30,31 +29,23 @@ answer (no n at) = refused n at
 unfoldable pub read_at : {A : Type 0} → Codec A → List Bool → ℕ → Found A
 read_at c s at = answer (c.parse at (drop at s))
 
--- ---- from one reader to the next
+-- ---- a reader's result
 
--- reading goes on from where it stands; a refusal is passed on
-unfoldable pub resume : {A : Type 0} → Reached → (ℕ → Found A) → Found A
-resume (At c) f = f c.at
-resume (Refused n p) f = refused n p
+-- a value and the cursor after it, or where reading stops
+abbrev pub said : {A : Type 0} → Found A → Result (A × Cursor) Stop
+said (got a at) = Ok (a, record { at = at })
+said (refused n p) = Err (record { number = n; at = p })
 
--- where an answer leaves reading, and its value, or the one that stands beside a refusal
-abbrev pub reached_of : {A : Type 0} → Found A → Reached
-reached_of (got a at) = At (record { at = at })
-reached_of (refused n p) = Refused n p
-
-abbrev pub value_or : {A : Type 0} → A → Found A → A
-value_or z (got a at) = a
-value_or z (refused n p) = z
-
--- ---- a number
+-- the same without the value
+abbrev pub reached : {A : Type 0} → Found A → Result Cursor Stop
+reached (got a at) = Ok (record { at = at })
+reached (refused n p) = Err (record { number = n; at = p })
 
 -- the number of w bits at a place of the n bits in s; no element has none, or more than 32
 unfoldable pub element_of : List ℕ → ℕ → ℕ → ℕ → Found ℕ
 element_of s n w at = pick (leb 1 w && leb w 32) (read_at (number w) (bits_in n s) at) (refused 2 at)
 
-unfoldable pub number_is : Found ℕ → NumberRead
-number_is o = record { reached = reached_of o; value = value_or 0 o }
-
--- a number that was read from a place on, under a refusal number
-unfoldable pub tested_is : Reached → NumberRead → ℕ → NumberRead
-tested_is start read k = number_is (resume start (λ at. resume read.reached (λ next. unless_at k at (got read.value next))))
+-- an element that begins at a cursor, under a refusal number
+unfoldable pub tested_is : Cursor → ℕ → Result (Unit {0}) Stop
+tested_is at zero = Ok tt
+tested_is at (suc n) = Err (record { number = suc n; at = at.at })

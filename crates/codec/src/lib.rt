@@ -1,69 +1,37 @@
-// Reading a PDU element by element, left to right: each reader goes on from where the one before it stands, and passes its refusal on.
+// Reading a PDU element by element, left to right, from a cursor; the first refusal ends it.
 #![tactic(auto)]
 
 ghost use Rattle.std.specs.Prelude.{◌≡◌};
-ghost use Rattle.codec.specs.Reading.{resume, element_of, number_is, tested_is};
+ghost use Rattle.codec.specs.Reading.{element_of, said, tested_is};
 
-use bits::{BitCount, Cursor, Taken};
+use bits::{BitCount, Cursor};
 
-// Where reading stands: at a place; or refused, with the number and the bit place of the element at fault.
+// Where reading stops: the refusal number, and the bit place of the element at fault.
 #[derive(Clone, Copy)]
-pub enum Reached {
-    At(Cursor),
-    Refused(u32, usize),
+pub struct Stop {
+    pub number: u32,
+    pub at: usize,
 }
 
-// A number that was read, and where reading then stands. Beside a refusal it is 0.
-#[derive(Clone, Copy)]
-pub struct NumberRead {
-    pub reached: Reached,
-    pub value: u32,
-}
-
-// The number of `width` bits, 1 to 32, that stands next in the PDU of n bits in s; 2 if the PDU ends before or inside it.
-pub fn number(s: &[u8], n: BitCount, start: Reached, width: usize) -> NumberRead
-    ensures { result ≡ number_is (resume start (element_of s.now n.0 width)) }
+// The number of `width` bits, 1 to 32, that stands next in the PDU of n bits in s, and the cursor after it; 2 if the PDU ends before or inside it.
+pub fn number(s: &[u8], n: BitCount, at: Cursor, width: usize) -> Result<(u32, Cursor), Stop>
+    ensures { result ≡ said (element_of s.now n.0 width at.at) }
 {
-    let Reached::At(c) = start else {
-        return NumberRead {
-            reached: start,
-            value: 0,
-        };
-    };
-    let Taken::Element(v, next) = c.take(s, n, width) else {
-        return NumberRead {
-            reached: Reached::Refused(2, c.at),
-            value: 0,
-        };
-    };
-    NumberRead {
-        reached: Reached::At(next),
-        value: v,
-    }
+    at.take(s, n, width).ok_or(Stop {
+        number: 2,
+        at: at.at,
+    })
 }
 
-// A number that was read from `start` on, refused there with `refusal` unless that is 0.
-pub fn tested(start: Reached, read: NumberRead, refusal: u32) -> NumberRead
-    ensures { result ≡ tested_is start read refusal }
+// An element that begins at a cursor, refused there with `refusal` unless that is 0.
+pub fn tested(at: Cursor, refusal: u32) -> Result<(), Stop>
+    ensures { result ≡ tested_is at refusal }
 {
-    let Reached::At(c) = start else {
-        return NumberRead {
-            reached: start,
-            value: 0,
-        };
-    };
-    let after = read.reached;
-    let Reached::At(_) = after else {
-        return NumberRead {
-            reached: after,
-            value: 0,
-        };
-    };
     if refusal == 0 {
-        return read;
+        return Ok(());
     }
-    NumberRead {
-        reached: Reached::Refused(refusal, c.at),
-        value: 0,
-    }
+    Err(Stop {
+        number: refusal,
+        at: at.at,
+    })
 }

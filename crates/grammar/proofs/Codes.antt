@@ -3,17 +3,18 @@ use mathlib.Core.Path.{◌≡◌, refl, sym, ap}
 use mathlib.Core.Bool.{Bool, true, false, ◌&&◌}
 use mathlib.Core.List.{List}
 use Prim.Native.Nat.{ℕ, zero, suc, ◌≤◌, ◌<◌}
+use Rattle.std.specs.Prelude.{Option, Some, None}
 use native.Mathlib.Omega.{arith}
 use borrow.Author.Tests.{eqb-false, leb-true, leb-false, eq-eqb, ne_eqb, le-leb, lt-leb}
 use lib.Dec.{eqb, leb}
 use Rattle.bits.specs.Bits.{pick}
 use Rattle.bits.proofs.Tests.{both, picked, by-test}
 use Rattle.codec.specs.Parts.{is_zero}
-use Rattle.grammar.specs.SiteSheet.{range_type, row_of_type, row_of, entries_of, refusal_in, range_refusal, digit_of, digit_refusal, between, reserved}
+use Rattle.grammar.specs.SiteSheet.{range_type, row_of_type, row_of, entries_of, refusal_in, range_refusal, digit_of, digit_refusal, between}
 use Rattle.grammar.specs.Grammar.{range_ends}
 use Rattle.grammar.specs.declared.record.Identity.{Identity}
 use Rattle.grammar.specs.declared.site.RangeType.{RangeType}
-use Rattle.grammar.specs.declared.site.RangeType.TheVariants.{Empty, Single, FirstAndLast, NoRangeType}
+use Rattle.grammar.specs.declared.site.RangeType.TheVariants.{Empty, Single, FirstAndLast}
 use Rattle.grammar.specs.declared.site.ListKind.{ListKind}
 use Rattle.grammar.specs.declared.site.ListKind.TheVariants as of
 
@@ -23,7 +24,7 @@ unfolding row_of range_type
 entries_of_le code = go (eqb code 0) (leb code 8) refl (eqb code 9)
   where
     go : (a b : Bool) → leb code 8 ≡ b → (d : Bool)
-        → (row_of_type (pick a Empty (pick b (Single code) (pick d FirstAndLast NoRangeType)))).entries ≤ 8
+        → (row_of_type (pick a (Some Empty) (pick b (Some (Single code)) (pick d (Some FirstAndLast) None)))).entries ≤ 8
     go true b e d = omega arith
     go false true e d = leb-true code 8 e
     go false false e true = omega arith
@@ -34,8 +35,8 @@ pub single : (code : ℕ) → code ≤ 8 → (range_refusal of.Identities code �
 unfolding range_refusal row_of range_type
 single zero h = (refl, refl, refl)
 single (suc k) h =
-    let e : range_type (suc k) ≡ Single (suc k) = rw (ne_eqb (suc k) 0 (λ e. omega arith), le-leb (suc k) 8 h) in
-    (ap (refusal_in of.Identities) e, ap (refusal_in of.Numbers) e, ap (λ (t : RangeType). (row_of_type t).entries) e)
+    let e : range_type (suc k) ≡ Some (Single (suc k)) = rw (ne_eqb (suc k) 0 (λ e. omega arith), le-leb (suc k) 8 h) in
+    (ap (refusal_in of.Identities) e, ap (refusal_in of.Numbers) e, ap (λ (t : Option RangeType). (row_of_type t).entries) e)
 
 pub above-nine : (list : ListKind) (code : ℕ) → 9 < code → range_refusal list code ≡ 3
 unfolding range_refusal range_type
@@ -43,7 +44,7 @@ above-nine list code h = rw (ne_eqb code 0 (λ e. omega arith), lt-leb code 8 (o
 
 pub not-single : (code : ℕ) → 8 < code → range_refusal of.Numbers code ≡ 3
 unfolding range_refusal range_type
-not-single code h = rw (ne_eqb code 0 (λ e. omega arith), lt-leb code 8 h) (by-test (λ (t : RangeType). refusal_in of.Numbers t ≡ 3) (eqb code 9) refl refl)
+not-single code h = rw (ne_eqb code 0 (λ e. omega arith), lt-leb code 8 h) (by-test (λ (t : Option RangeType). refusal_in of.Numbers t ≡ 3) (eqb code 9) refl refl)
 
 -- only range type 9 has two ends
 pub not-nine : (code : ℕ) → (code ≡ 9 → ⊥) → (l : List Identity) → range_ends code l ≡ 0
@@ -53,14 +54,6 @@ not-nine code h l = rw (ne_eqb code 9 h)
 -- a value that is not outside its bounds
 pub between_le : (low high v : ℕ) → between low high v ≡ 0 → v ≤ high
 between_le low high v h = leb-true v high (both (leb low v) (leb v high) (picked (leb low v && leb v high) h (λ e. omega arith)).0).1
-
--- what is reserved from low to high is exactly what is between them
-pub reserved-between : (low high v : ℕ) {r : ℕ} → r ≡ between low high v → reserved low high v ≡ pick (eqb r 0) 3 0
-reserved-between low high v e = rw e (go (leb low v && leb v high))
-  where
-    go : (t : Bool) → pick {A = ℕ} t 3 0 ≡ pick (eqb (pick t 0 3) 0) 3 0
-    go true = refl
-    go false = refl
 
 -- ---- digits
 

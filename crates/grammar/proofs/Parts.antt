@@ -2,6 +2,7 @@
 use mathlib.Core.Bool.{◌&&◌}
 use mathlib.Core.List.{List}
 use Prim.Native.Nat.{ℕ, zero, suc}
+use Rattle.std.specs.Prelude.{Option, Some, None}
 use lib.ListN.{get_or}
 use lib.Dec.{leb, eqb}
 use Rattle.bits.proofs.Tests.{by-test}
@@ -16,16 +17,14 @@ use Rattle.grammar.specs.Grammar.{no_external, externals, no_externals, services
 use Rattle.grammar.specs.Grammar.{Three, none, figures, Five, Rest, rest_of, pdu}
 use Rattle.grammar.specs.Rows.{form_of, part_in, figures_of}
 use Rattle.grammar.specs.declared.site.RangeType.{RangeType}
-use Rattle.grammar.specs.declared.site.RangeType.TheVariants.{Empty, Single, FirstAndLast, NoRangeType}
+use Rattle.grammar.specs.declared.site.RangeType.TheVariants.{Empty, Single, FirstAndLast}
 use Rattle.grammar.specs.declared.site.ListKind.{ListKind}
 use Rattle.grammar.specs.declared.site.ListKind.TheVariants as of
 use Rattle.grammar.specs.declared.site.Digit.{Digit}
-use Rattle.grammar.specs.declared.site.Digit.TheVariants.{Decimal, Star, Hash, Plus, NoDigit}
 use Rattle.grammar.specs.declared.site.Service.{Service}
-use Rattle.grammar.specs.declared.site.Service.TheVariants.{All, Speech, CircuitData, ShortData, NoService}
 use Rattle.grammar.specs.declared.site.PduType.{PduType}
 use Rattle.grammar.specs.declared.site.PduType.TheVariants.{Define, DefineAck, DefineExternal, DefineUser, DefineUserAck, DefineExternalUser}
-use Rattle.grammar.specs.declared.site.PduType.TheVariants.{Interrogate, InterrogateAck, CallBarred, NoPduType}
+use Rattle.grammar.specs.declared.site.PduType.TheVariants.{Interrogate, InterrogateAck, CallBarred}
 use Rattle.grammar.specs.declared.record.Figures.{Figures}
 use Rattle.grammar.specs.declared.record.Identity.{Identity}
 use Rattle.grammar.specs.declared.record.Identities.{Identities}
@@ -42,37 +41,31 @@ module _ (Code : ℕ → Type 0) (passed : Code 0) (three : Code 3) (four : Code
   code-between : (low high v : ℕ) → Code (between low high v)
   code-between low high v = by-test Code (leb low v && leb v high) passed three
 
-  in_list : (list : ListKind) (t : RangeType) → Code (refusal_in list t)
-  in_list of.Users Empty = three
-  in_list of.Identities Empty = passed
-  in_list of.Numbers Empty = passed
-  in_list l (Single n) = passed
-  in_list of.Users FirstAndLast = passed
-  in_list of.Identities FirstAndLast = passed
-  in_list of.Numbers FirstAndLast = three
-  in_list l NoRangeType = three
+  in_list : (list : ListKind) (t : Option RangeType) → Code (refusal_in list t)
+  in_list of.Users (Some Empty) = three
+  in_list of.Identities (Some Empty) = passed
+  in_list of.Numbers (Some Empty) = passed
+  in_list l (Some (Single n)) = passed
+  in_list of.Users (Some FirstAndLast) = passed
+  in_list of.Identities (Some FirstAndLast) = passed
+  in_list of.Numbers (Some FirstAndLast) = three
+  in_list l None = three
 
   code-range : (list : ListKind) (v : ℕ) → Code (range_refusal list v)
   unfolding range_refusal
   code-range list v = in_list list (range_type v)
 
-  of-digit : (d : Digit) → Code (refusal_of_digit d)
-  of-digit (Decimal d) = passed
-  of-digit Star = passed
-  of-digit Hash = passed
-  of-digit Plus = passed
-  of-digit NoDigit = three
+  of-digit : (d : Option Digit) → Code (refusal_of_digit d)
+  of-digit (Some d) = passed
+  of-digit None = three
 
   code-digit : (v : ℕ) → Code (digit_refusal v)
   unfolding digit_refusal
   code-digit v = of-digit (digit_of v)
 
-  of-service : (s : Service) → Code (refusal_of_service s)
-  of-service All = passed
-  of-service Speech = passed
-  of-service CircuitData = passed
-  of-service ShortData = passed
-  of-service NoService = three
+  of-service : (s : Option Service) → Code (refusal_of_service s)
+  of-service (Some s) = passed
+  of-service None = three
 
   code-service : (v : ℕ) → Code (service_refusal v)
   unfolding service_refusal
@@ -170,26 +163,26 @@ module _ (Code : ℕ → Type 0) (passed : Code 0) (three : Code 3) (four : Code
     unfolding figures
     of_three h j k = kept.shaped _ _ _ _ _ (then h (λ x. then j (λ y. k)))
 
-    of-definition : P Figures (figures_of Define)
+    of-definition : P Figures (figures_of (Some Define))
     of-definition =
         of_three of_none (then (kept.number 1) (λ delivery. then (of-element 1 (code-between 0 delivery)) (λ a. of-element 2 (code-between 0 2)))) of_none
 
-    of-user_definition : P Figures (figures_of DefineUser)
+    of-user_definition : P Figures (figures_of (Some DefineUser))
     of-user_definition = of_three of_none (then kept.absent (λ a. then (kept.number 1) (λ b. of-element 2 (code-between 0 2)))) of_none
 
-    of-figures : (t : PduType) → P Figures (figures_of t)
-    of-figures Define = of-definition
-    of-figures DefineExternal = of-definition
-    of-figures DefineUser = of-user_definition
-    of-figures DefineExternalUser = of-user_definition
-    of-figures InterrogateAck = of_three (then kept.absent (λ a. then (of-element 3 (code-reserved 5 5)) (λ b. kept.number 2))) of_none of_none
-    of-figures Interrogate = of_three (then (of-element 2 (code-between 1 3)) (λ a. then kept.absent (λ b. kept.absent))) of_none of_none
-    of-figures DefineAck = of_three of_none of_none (then (of-element 3 (code-reserved 5 5)) (λ a. then kept.absent (λ b. kept.absent)))
-    of-figures DefineUserAck = of_three of_none of_none (then kept.absent (λ a. then (of-element 3 (code-reserved 2 5)) (λ b. kept.absent)))
-    of-figures CallBarred = of_three of_none of_none (then kept.absent (λ a. then kept.absent (λ b. of-element 2 (code-between 0 2))))
-    of-figures NoPduType = of_three of_none of_none of_none
+    of-figures : (t : Option PduType) → P Figures (figures_of t)
+    of-figures (Some Define) = of-definition
+    of-figures (Some DefineExternal) = of-definition
+    of-figures (Some DefineUser) = of-user_definition
+    of-figures (Some DefineExternalUser) = of-user_definition
+    of-figures (Some InterrogateAck) = of_three (then kept.absent (λ a. then (of-element 3 (code-reserved 5 5)) (λ b. kept.number 2))) of_none of_none
+    of-figures (Some Interrogate) = of_three (then (of-element 2 (code-between 1 3)) (λ a. then kept.absent (λ b. kept.absent))) of_none of_none
+    of-figures (Some DefineAck) = of_three of_none of_none (then (of-element 3 (code-reserved 5 5)) (λ a. then kept.absent (λ b. kept.absent)))
+    of-figures (Some DefineUserAck) = of_three of_none of_none (then kept.absent (λ a. then (of-element 3 (code-reserved 2 5)) (λ b. kept.absent)))
+    of-figures (Some CallBarred) = of_three of_none of_none (then kept.absent (λ a. then kept.absent (λ b. of-element 2 (code-between 0 2))))
+    of-figures None = of_three of_none of_none of_none
 
-    pub of-rest : (t : PduType) → P Rest (rest_of t)
+    pub of-rest : (t : Option PduType) → P Rest (rest_of t)
     of-rest t =
         rw (in_rows t) (then (by-test (P Identities) (form_of t).users (of-identities of.Users) of-no_identities) (λ u.
         then (of-figures t) (λ f. then (by-test (P Services) (form_of t).services of-services of-no_services) (λ s. of_part (part_in t f)))))

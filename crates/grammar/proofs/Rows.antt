@@ -3,6 +3,7 @@ use mathlib.Core.Path.{◌≡◌, refl, sym, ap, ◌∙◌}
 use mathlib.Core.Bool.{Bool, true, false, ◌&&◌}
 use mathlib.Core.List.{List, ◌++◌, append-nil, append_assoc}
 use Prim.Native.Nat.{ℕ, zero, suc, ◌+◌, ◌-◌, ◌*◌, ◌/◌, ◌%◌, ◌^◌, ◌≤◌, ◌<◌}
+use Rattle.std.specs.Prelude.{Option, Some, None}
 use native.Mathlib.Nat.{add-zero}
 use native.Mathlib.Omega.{arith}
 use lib.ListN.{length}
@@ -27,51 +28,51 @@ use Rattle.grammar.specs.Rows.{form_of, part_in, figures_of, rowed, width_of, fi
 use Rattle.grammar.specs.Rows.{definition_run, run_of}
 use Rattle.grammar.specs.declared.site.PduType.{PduType}
 use Rattle.grammar.specs.declared.site.PduType.TheVariants.{Define, DefineAck, DefineExternal, DefineUser, DefineUserAck, DefineExternalUser}
-use Rattle.grammar.specs.declared.site.PduType.TheVariants.{Interrogate, InterrogateAck, CallBarred, NoPduType}
+use Rattle.grammar.specs.declared.site.PduType.TheVariants.{Interrogate, InterrogateAck, CallBarred}
 use Rattle.grammar.specs.declared.record.Figures.{Figures}
 
 -- each table is its row
-pub in_rows : (t : PduType) → rest_of t ≡ rowed t
+pub in_rows : (t : Option PduType) → rest_of t ≡ rowed t
 unfolding tables form_of part_in
-in_rows Define = refl
-in_rows DefineAck = refl
-in_rows DefineExternal = refl
-in_rows DefineUser = refl
-in_rows DefineUserAck = refl
-in_rows DefineExternalUser = refl
-in_rows Interrogate = refl
-in_rows InterrogateAck = refl
-in_rows CallBarred = refl
-in_rows NoPduType = refl
+in_rows (Some Define) = refl
+in_rows (Some DefineAck) = refl
+in_rows (Some DefineExternal) = refl
+in_rows (Some DefineUser) = refl
+in_rows (Some DefineUserAck) = refl
+in_rows (Some DefineExternalUser) = refl
+in_rows (Some Interrogate) = refl
+in_rows (Some InterrogateAck) = refl
+in_rows (Some CallBarred) = refl
+in_rows None = refl
 
 -- without services there are no lists
-pub no-lists : (t : PduType) (f : Figures) → (form_of t).services ≡ false → part_in t f ≡ 0
+pub no-lists : (t : Option PduType) (f : Figures) → (form_of t).services ≡ false → part_in t f ≡ 0
 unfolding form_of part_in
-no-lists Define f e = differ e
-no-lists DefineAck f e = refl
-no-lists DefineExternal f e = differ e
-no-lists DefineUser f e = differ e
-no-lists DefineUserAck f e = refl
-no-lists DefineExternalUser f e = differ e
-no-lists Interrogate f e = refl
-no-lists InterrogateAck f e = differ e
-no-lists CallBarred f e = refl
-no-lists NoPduType f e = refl
+no-lists (Some Define) f e = differ e
+no-lists (Some DefineAck) f e = refl
+no-lists (Some DefineExternal) f e = differ e
+no-lists (Some DefineUser) f e = differ e
+no-lists (Some DefineUserAck) f e = refl
+no-lists (Some DefineExternalUser) f e = differ e
+no-lists (Some Interrogate) f e = refl
+no-lists (Some InterrogateAck) f e = differ e
+no-lists (Some CallBarred) f e = refl
+no-lists None f e = refl
 
 -- ---- in the window at their place
 
-pub narrow : (t : PduType) → width_of t ≤ 5
+pub narrow : (t : Option PduType) → width_of t ≤ 5
 unfolding form_of
-narrow Define = omega arith
-narrow DefineAck = omega arith
-narrow DefineExternal = omega arith
-narrow DefineUser = omega arith
-narrow DefineUserAck = omega arith
-narrow DefineExternalUser = omega arith
-narrow Interrogate = omega arith
-narrow InterrogateAck = omega arith
-narrow CallBarred = omega arith
-narrow NoPduType = omega arith
+narrow (Some Define) = omega arith
+narrow (Some DefineAck) = omega arith
+narrow (Some DefineExternal) = omega arith
+narrow (Some DefineUser) = omega arith
+narrow (Some DefineUserAck) = omega arith
+narrow (Some DefineExternalUser) = omega arith
+narrow (Some Interrogate) = omega arith
+narrow (Some InterrogateAck) = omega arith
+narrow (Some CallBarred) = omega arith
+narrow None = omega arith
 
 seen_none : (l : List Bool) (at : ℕ) → Seen none l at (0, (0, 0)) at
 unfolding none
@@ -101,7 +102,7 @@ module _ (s : List ℕ) (n at : ℕ) where
       → read_at (number width) l (at + k) ≡ got (w / 2 ^ (57 - k - width) % 2 ^ width) end
   later k width end e some inside there = number_in_window s n at k width (at + k) end refl (omega arith) some inside there
 
-  seen-definition : at + 4 ≤ length l → Seen (figures_of Define) l at (definition_in w) (at + 4)
+  seen-definition : at + 4 ≤ length l → Seen (figures_of (Some Define)) l at (definition_in w) (at + 4)
   seen-definition there =
       seen-figures (seen_none l at)
       (seen-seq _ (seen-number 1 (front 1 56 refl (omega arith) (omega arith)))
@@ -109,7 +110,7 @@ module _ (s : List ℕ) (n at : ℕ) where
       (seen-element 2 definition_refusal (later 2 2 (at + 4) (omega arith) (omega arith) (omega arith) there))))
       (seen_none l (at + 4))
 
-  seen-user : at + 3 ≤ length l → Seen (figures_of DefineUser) l at (user_definition_in w) (at + 3)
+  seen-user : at + 3 ≤ length l → Seen (figures_of (Some DefineUser)) l at (user_definition_in w) (at + 3)
   seen-user there =
       seen-figures (seen_none l at)
       (seen-seq _ (seen-absent l at)
@@ -117,34 +118,34 @@ module _ (s : List ℕ) (n at : ℕ) where
       (seen-element 2 definition_refusal (later 1 2 (at + 3) (omega arith) (omega arith) (omega arith) there))))
       (seen_none l (at + 3))
 
-  pub figures_seen : (t : PduType) → at + width_of t ≤ length l → Seen (figures_of t) l at (figures_in t w) (at + width_of t)
+  pub figures_seen : (t : Option PduType) → at + width_of t ≤ length l → Seen (figures_of t) l at (figures_in t w) (at + width_of t)
   unfolding figures_in form_of
-  figures_seen Define there = seen-definition there
-  figures_seen DefineExternal there = seen-definition there
-  figures_seen DefineUser there = seen-user there
-  figures_seen DefineExternalUser there = seen-user there
-  figures_seen InterrogateAck there =
+  figures_seen (Some Define) there = seen-definition there
+  figures_seen (Some DefineExternal) there = seen-definition there
+  figures_seen (Some DefineUser) there = seen-user there
+  figures_seen (Some DefineExternalUser) there = seen-user there
+  figures_seen (Some InterrogateAck) there =
       seen-figures
       (seen-seq _ (seen-absent l at)
       (seen-seq _ (seen-element 3 result_refusal (front 3 54 refl (omega arith) (omega arith)))
       (seen-number 2 (later 3 2 (at + 5) (omega arith) (omega arith) (omega arith) there))))
       (seen_none l (at + 5)) (seen_none l (at + 5))
-  figures_seen Interrogate there =
+  figures_seen (Some Interrogate) there =
       let e = at + 2 in
       seen-figures (seen-seq _ (seen-element 2 asked_refusal (front 2 55 refl (omega arith) there)) (seen-seq _ (seen-absent l e) (seen-absent l e)))
       (seen_none l e) (seen_none l e)
-  figures_seen DefineAck there =
+  figures_seen (Some DefineAck) there =
       let e = at + 3 in
       seen-figures (seen_none l at) (seen_none l at)
       (seen-seq _ (seen-element 3 defined_refusal (front 3 54 refl (omega arith) there)) (seen-seq _ (seen-absent l e) (seen-absent l e)))
-  figures_seen DefineUserAck there =
+  figures_seen (Some DefineUserAck) there =
       let e = at + 3 in
       seen-figures (seen_none l at) (seen_none l at)
       (seen-seq _ (seen-absent l at) (seen-seq _ (seen-element 3 distributed_refusal (front 3 54 refl (omega arith) there)) (seen-absent l e)))
-  figures_seen CallBarred there =
+  figures_seen (Some CallBarred) there =
       seen-figures (seen_none l at) (seen_none l at)
       (seen-seq _ (seen-absent l at) (seen-seq _ (seen-absent l at) (seen-element 2 cause_refusal (front 2 55 refl (omega arith) there))))
-  figures_seen NoPduType there = rw (add-zero at) (seen-figures (seen_none l at) (seen_none l at) (seen_none l at))
+  figures_seen None there = rw (add-zero at) (seen-figures (seen_none l at) (seen_none l at) (seen_none l at))
 
 -- ---- as a run of bits
 
@@ -156,18 +157,18 @@ defined-run k before f =
     ∙ ap (λ (l : List Bool). l ++ bits_of 2 f.definition) (bits_of-join k 1 before f.acknowledgement)
     ∙ append_assoc (bits_of k before) (bits_of 1 f.acknowledgement) (bits_of 2 f.definition)
 
-pub figures-print : (t : PduType) (f : Figures) → (figures_of t).print f ≡ bits_of (width_of t) (run_of t f)
+pub figures-print : (t : Option PduType) (f : Figures) → (figures_of t).print f ≡ bits_of (width_of t) (run_of t f)
 unfolding figures none shaped seq absent element tested number form_of run_of bits_of
-figures-print Define f = append-nil _ ∙ sym (defined-run 1 f.delivery f)
-figures-print DefineExternal f = append-nil _ ∙ sym (defined-run 1 f.delivery f)
-figures-print DefineUser f = append-nil _ ∙ sym (defined-run 0 0 f)
-figures-print DefineExternalUser f = append-nil _ ∙ sym (defined-run 0 0 f)
-figures-print InterrogateAck f = append-nil _ ∙ sym (bits_of-join 3 2 f.result f.status)
-figures-print Interrogate f = append-nil _ ∙ append-nil _
-figures-print DefineAck f = append-nil _
-figures-print DefineUserAck f = append-nil _
-figures-print CallBarred f = refl
-figures-print NoPduType f = refl
+figures-print (Some Define) f = append-nil _ ∙ sym (defined-run 1 f.delivery f)
+figures-print (Some DefineExternal) f = append-nil _ ∙ sym (defined-run 1 f.delivery f)
+figures-print (Some DefineUser) f = append-nil _ ∙ sym (defined-run 0 0 f)
+figures-print (Some DefineExternalUser) f = append-nil _ ∙ sym (defined-run 0 0 f)
+figures-print (Some InterrogateAck) f = append-nil _ ∙ sym (bits_of-join 3 2 f.result f.status)
+figures-print (Some Interrogate) f = append-nil _ ∙ append-nil _
+figures-print (Some DefineAck) f = append-nil _
+figures-print (Some DefineUserAck) f = append-nil _
+figures-print (Some CallBarred) f = refl
+figures-print None f = refl
 
 -- ---- when they are refused
 
@@ -223,14 +224,17 @@ module _ (f : Figures) where
   with-delivery true h = acknowledged-fault f.delivery ack type (leb-true f.delivery 1 h)
   with-delivery false h = refl
 
-  pub definition-fault : (figures_of Define).fault f ≡ pick (leb f.delivery 1 && (leb ack f.delivery && leb type 2)) 0 3
+  pub definition-fault : (figures_of (Some Define)).fault f ≡ pick (leb f.delivery 1 && (leb ack f.delivery && leb type 2)) 0 3
   unfolding figures none shaped seq absent element tested number
   definition-fault =
       first-zero _ ∙ ap (λ (n : ℕ). first n rest) (number-most 1 1 f.delivery refl) ∙ with-delivery (leb f.delivery 1) refl
 
-  pub user-fault : (figures_of DefineUser).fault f ≡ pick (leb ack 1 && leb type 2) 0 3
+  pub user-fault : (figures_of (Some DefineUser)).fault f ≡ pick (leb ack 1 && leb type 2) 0 3
   unfolding figures none shaped seq absent element tested number
   user-fault =
       let free : number_fault 1 ack ≡ first (number_fault 1 ack) (between 0 1 ack) =
       number-most 1 1 ack refl ∙ sym (lone-fault 1 0 1 ack (omega arith) ∙ rw (le-leb 0 ack (omega arith))) in
       first-zero _ ∙ ap (λ (n : ℕ). first n (first (number_fault 2 type) (between 0 2 type))) free ∙ acknowledged-fault 1 ack type (omega arith)
+
+-- when each type's figures are refused
+pub ruleset faults = (definition-fault, user-fault, lone-fault, number-most, first-zero, first_some)

@@ -1,6 +1,7 @@
 -- How long a part of a PDU can be: the sum of what its elements can be. Assumes nothing.
 use mathlib.Core.List.{◌++◌}
 use Prim.Native.Nat.{ℕ, ◌+◌, ◌≤◌}
+use Rattle.std.specs.Prelude.{Option, Some, None}
 use native.Mathlib.Omega.{arith}
 use lib.ListN.{length, length-append}
 use lib.Dec.{leb, eqb}
@@ -19,7 +20,7 @@ use Rattle.grammar.specs.declared.site.ListKind.{ListKind}
 use Rattle.grammar.specs.declared.site.ListKind.TheVariants as of
 use Rattle.grammar.specs.declared.site.PduType.{PduType}
 use Rattle.grammar.specs.declared.site.PduType.TheVariants.{Define, DefineAck, DefineExternal, DefineUser, DefineUserAck, DefineExternalUser}
-use Rattle.grammar.specs.declared.site.PduType.TheVariants.{Interrogate, InterrogateAck, CallBarred, NoPduType}
+use Rattle.grammar.specs.declared.site.PduType.TheVariants.{Interrogate, InterrogateAck, CallBarred}
 use Rattle.grammar.specs.declared.record.Identities.{Identities}
 use Rattle.grammar.specs.declared.record.Numbers.{Numbers}
 use Rattle.grammar.specs.declared.record.Figures.{Figures}
@@ -119,48 +120,48 @@ size-figures : {a b c : ℕ} {i d o : Codec Three} → Within a i → Within b d
 unfolding figures
 size-figures h j k = size-shaped _ _ _ _ _ (size-seq h (λ x. size-seq j (λ y. k)))
 
-size-definition : Within 4 (figures_of Define)
+size-definition : Within 4 (figures_of (Some Define))
 size-definition =
     size-figures size_none (size-seq (size_number 1) (λ d. size-seq (size-element 1 (acknowledgement_refusal d)) (λ a. size-element 2 definition_refusal)))
     size_none
 
-size-user : Within 3 (figures_of DefineUser)
+size-user : Within 3 (figures_of (Some DefineUser))
 size-user = size-figures size_none (size-seq size-absent (λ a. size-seq (size_number 1) (λ b. size-element 2 definition_refusal))) size_none
 
-pub size-of-figures : (t : PduType) → Within (width_of t) (figures_of t)
+pub size-of-figures : (t : Option PduType) → Within (width_of t) (figures_of t)
 unfolding form_of
-size-of-figures Define = size-definition
-size-of-figures DefineExternal = size-definition
-size-of-figures DefineUser = size-user
-size-of-figures DefineExternalUser = size-user
-size-of-figures InterrogateAck =
+size-of-figures (Some Define) = size-definition
+size-of-figures (Some DefineExternal) = size-definition
+size-of-figures (Some DefineUser) = size-user
+size-of-figures (Some DefineExternalUser) = size-user
+size-of-figures (Some InterrogateAck) =
     size-figures (size-seq size-absent (λ a. size-seq (size-element 3 result_refusal) (λ b. size_number 2))) size_none size_none
-size-of-figures Interrogate = size-figures (size-seq (size-element 2 asked_refusal) (λ a. size-seq size-absent (λ b. size-absent))) size_none size_none
-size-of-figures DefineAck = size-figures size_none size_none (size-seq (size-element 3 defined_refusal) (λ a. size-seq size-absent (λ b. size-absent)))
-size-of-figures DefineUserAck = size-figures size_none size_none (size-seq size-absent (λ a. size-seq (size-element 3 distributed_refusal) (λ b. size-absent)))
-size-of-figures CallBarred = size-figures size_none size_none (size-seq size-absent (λ a. size-seq size-absent (λ b. size-element 2 cause_refusal)))
-size-of-figures NoPduType = size-figures size_none size_none size_none
+size-of-figures (Some Interrogate) = size-figures (size-seq (size-element 2 asked_refusal) (λ a. size-seq size-absent (λ b. size-absent))) size_none size_none
+size-of-figures (Some DefineAck) = size-figures size_none size_none (size-seq (size-element 3 defined_refusal) (λ a. size-seq size-absent (λ b. size-absent)))
+size-of-figures (Some DefineUserAck) = size-figures size_none size_none (size-seq size-absent (λ a. size-seq (size-element 3 distributed_refusal) (λ b. size-absent)))
+size-of-figures (Some CallBarred) = size-figures size_none size_none (size-seq size-absent (λ a. size-seq size-absent (λ b. size-element 2 cause_refusal)))
+size-of-figures None = size-figures size_none size_none size_none
 
 -- a row: users, figures, services, lists
-size-row : (t : PduType) {u s p : ℕ} → Within u (users_of t) → Within s (services_of t) → ((f : Figures) → Within p (part_of (part_in t f)))
+size-row : (t : Option PduType) {u s p : ℕ} → Within u (users_of t) → Within s (services_of t) → ((f : Figures) → Within p (part_of (part_in t f)))
     → Within (u + (width_of t + (s + p))) (rest_of t)
 size-row t users services part = rw (in_rows t) (size-seq users (λ u. size-seq (size-of-figures t) (λ f. size-seq services (λ s. part f))))
 
 size-users : Within 396 (identities of.Users)
 size-users = size-identities of.Users
 
-pub size-rest : (t : PduType) → Within (longest t) (rest_of t)
+pub size-rest : (t : Option PduType) → Within (longest t) (rest_of t)
 unfolding form_of part_in longest
-size-rest Define = size-row Define size-users size-services (λ f. size-defined f.definition)
-size-rest DefineAck = size-row DefineAck size-users size-no_services (λ f. size-no_part)
-size-rest DefineExternal = size-row DefineExternal size-users size-services (λ f. size-part (defined_part 2 f.definition))
-size-rest DefineUser = size-row DefineUser size-no_identities size-services (λ f. size-defined f.definition)
-size-rest DefineUserAck = size-row DefineUserAck size-no_identities size-no_services (λ f. size-no_part)
-size-rest DefineExternalUser = size-row DefineExternalUser size-no_identities size-services (λ f. size-defined f.definition)
-size-rest Interrogate = size-row Interrogate size-users size-no_services (λ f. size-no_part)
-size-rest InterrogateAck = size-row InterrogateAck size-users size-services (λ f. size-part f.result)
-size-rest CallBarred = size-row CallBarred size-no_identities size-no_services (λ f. size-no_part)
-size-rest NoPduType = size-row NoPduType size-no_identities size-no_services (λ f. size-no_part)
+size-rest (Some Define) = size-row (Some Define) size-users size-services (λ f. size-defined f.definition)
+size-rest (Some DefineAck) = size-row (Some DefineAck) size-users size-no_services (λ f. size-no_part)
+size-rest (Some DefineExternal) = size-row (Some DefineExternal) size-users size-services (λ f. size-part (defined_part 2 f.definition))
+size-rest (Some DefineUser) = size-row (Some DefineUser) size-no_identities size-services (λ f. size-defined f.definition)
+size-rest (Some DefineUserAck) = size-row (Some DefineUserAck) size-no_identities size-no_services (λ f. size-no_part)
+size-rest (Some DefineExternalUser) = size-row (Some DefineExternalUser) size-no_identities size-services (λ f. size-defined f.definition)
+size-rest (Some Interrogate) = size-row (Some Interrogate) size-users size-no_services (λ f. size-no_part)
+size-rest (Some InterrogateAck) = size-row (Some InterrogateAck) size-users size-services (λ f. size-part f.result)
+size-rest (Some CallBarred) = size-row (Some CallBarred) size-no_identities size-no_services (λ f. size-no_part)
+size-rest None = size-row None size-no_identities size-no_services (λ f. size-no_part)
 
 -- A PDU is at most as long as its type says, with SS type and PDU type before it.
 pub pdu-length : (r : Record) → length (pdu.print r) ≤ 11 + longest (pdu_type r.kind)
@@ -179,18 +180,18 @@ pdu-length r =
     )
 
 -- An INTERROGATE ACK is the longest, and has at most 2,456 bits.
-no_longer : (t : PduType) → longest t ≤ 2445
+no_longer : (t : Option PduType) → longest t ≤ 2445
 unfolding longest
-no_longer Define = omega arith
-no_longer DefineAck = omega arith
-no_longer DefineExternal = omega arith
-no_longer DefineUser = omega arith
-no_longer DefineUserAck = omega arith
-no_longer DefineExternalUser = omega arith
-no_longer Interrogate = omega arith
-no_longer InterrogateAck = omega arith
-no_longer CallBarred = omega arith
-no_longer NoPduType = omega arith
+no_longer (Some Define) = omega arith
+no_longer (Some DefineAck) = omega arith
+no_longer (Some DefineExternal) = omega arith
+no_longer (Some DefineUser) = omega arith
+no_longer (Some DefineUserAck) = omega arith
+no_longer (Some DefineExternalUser) = omega arith
+no_longer (Some Interrogate) = omega arith
+no_longer (Some InterrogateAck) = omega arith
+no_longer (Some CallBarred) = omega arith
+no_longer None = omega arith
 
 pub pdu-size : (r : Record) → length (pdu.print r) ≤ 2456
 pdu-size r = omega (arith, pdu-length r, no_longer (pdu_type r.kind))

@@ -1,6 +1,6 @@
 -- What legal BOC PDUs are, part by part: EN 300 392-12-18, tables 10 to 18, with the site sheet.
 -- Each part is a codec: it is written, read and judged by the same description.
-use Rattle.std.specs.Prelude.{refl, ◌&&◌, List, ℕ, length, get_or, leb, eqb}
+use Rattle.std.specs.Prelude.{refl, ◌&&◌, List, ℕ, length, get_or, leb, eqb, Option, Some, None}
 use Rattle.bits.specs.Bits.{pick, bits_of, value}
 use Rattle.codec.specs.Codec.{Codec}
 use Rattle.codec.specs.Parts.{number, absent, element, seq, ◌>>=◌, ◌>>◌, tested, shaped, mark}
@@ -323,17 +323,17 @@ no_pdu = do
   no_services
   no_part
 
-abbrev pub rest_of : PduType → Codec Rest
-rest_of type.Define = define
-rest_of type.DefineAck = define_ack
-rest_of type.DefineExternal = define_external
-rest_of type.DefineUser = define_user
-rest_of type.DefineUserAck = define_user_ack
-rest_of type.DefineExternalUser = define_external_user
-rest_of type.Interrogate = interrogate
-rest_of type.InterrogateAck = interrogate_ack
-rest_of type.CallBarred = call_barred
-rest_of type.NoPduType = no_pdu
+abbrev pub rest_of : Option PduType → Codec Rest
+rest_of (Some type.Define) = define
+rest_of (Some type.DefineAck) = define_ack
+rest_of (Some type.DefineExternal) = define_external
+rest_of (Some type.DefineUser) = define_user
+rest_of (Some type.DefineUserAck) = define_user_ack
+rest_of (Some type.DefineExternalUser) = define_external_user
+rest_of (Some type.Interrogate) = interrogate
+rest_of (Some type.InterrogateAck) = interrogate_ack
+rest_of (Some type.CallBarred) = call_barred
+rest_of None = no_pdu
 
 -- ---- the PDU
 

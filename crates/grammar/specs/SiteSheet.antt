@@ -1,15 +1,15 @@
 -- The codes: what each means, or that it is refused. The site sheet stands in for EN 300 392-9; tables are those of EN 300 392-12-18.
-use Rattle.std.specs.Prelude.{ℕ, zero, suc, ◌/◌, ◌%◌, Bool, true, false, ◌&&◌, eqb, leb}
+use Rattle.std.specs.Prelude.{ℕ, zero, suc, ◌/◌, ◌%◌, Bool, true, false, ◌&&◌, eqb, leb, Option, Some, None}
 use Rattle.bits.specs.Bits.{pick}
 use Rattle.grammar.specs.declared.site.RangeType.{RangeType}
-use Rattle.grammar.specs.declared.site.RangeType.TheVariants.{Empty, Single, FirstAndLast, NoRangeType}
+use Rattle.grammar.specs.declared.site.RangeType.TheVariants.{Empty, Single, FirstAndLast}
 use Rattle.grammar.specs.declared.site.ListKind.{ListKind}
 use Rattle.grammar.specs.declared.site.ListKind.TheVariants.{Users, Identities, Numbers}
 use Rattle.grammar.specs.declared.site.Row.{Row}
 use Rattle.grammar.specs.declared.site.Digit.{Digit}
-use Rattle.grammar.specs.declared.site.Digit.TheVariants.{Decimal, Star, Hash, Plus, NoDigit}
+use Rattle.grammar.specs.declared.site.Digit.TheVariants.{Decimal, Star, Hash, Plus}
 use Rattle.grammar.specs.declared.site.Service.{Service}
-use Rattle.grammar.specs.declared.site.Service.TheVariants.{All, Speech, CircuitData, ShortData, NoService}
+use Rattle.grammar.specs.declared.site.Service.TheVariants.{All, Speech, CircuitData, ShortData}
 use Rattle.grammar.specs.declared.site.PduType.{PduType}
 use Rattle.grammar.specs.declared.site.PduType.TheVariants as pdu
 
@@ -20,15 +20,15 @@ ss_type = 18
 -- ---- range types
 
 -- 0: empty list; 1 to 8: so many single entries; 9: first and last of a range; 10 to 15: refused
-unfoldable pub range_type : ℕ → RangeType
-range_type code = pick (eqb code 0) Empty (pick (leb code 8) (Single code) (pick (eqb code 9) FirstAndLast NoRangeType))
+unfoldable pub range_type : ℕ → Option RangeType
+range_type code = pick (eqb code 0) (Some Empty) (pick (leb code 8) (Some (Single code)) (pick (eqb code 9) (Some FirstAndLast) None))
 
 -- how many entries follow, and whether the code is refused
-abbrev pub row_of_type : RangeType → Row
-row_of_type Empty = record { entries = 0; refused = false }
-row_of_type (Single n) = record { entries = n; refused = false }
-row_of_type FirstAndLast = record { entries = 2; refused = false }
-row_of_type NoRangeType = record { entries = 0; refused = true }
+abbrev pub row_of_type : Option RangeType → Row
+row_of_type (Some Empty) = record { entries = 0; refused = false }
+row_of_type (Some (Single n)) = record { entries = n; refused = false }
+row_of_type (Some FirstAndLast) = record { entries = 2; refused = false }
+row_of_type None = record { entries = 0; refused = true }
 
 unfoldable pub row_of : ℕ → Row
 row_of code = row_of_type (range_type code)
@@ -37,30 +37,27 @@ abbrev pub entries_of : ℕ → ℕ
 entries_of code = (row_of code).entries
 
 -- 0 is refused for affected users, 9 for external numbers
-abbrev pub refusal_in : ListKind → RangeType → ℕ
-refusal_in Users Empty = 3
-refusal_in Identities Empty = 0
-refusal_in Numbers Empty = 0
-refusal_in l (Single n) = 0
-refusal_in Users FirstAndLast = 0
-refusal_in Identities FirstAndLast = 0
-refusal_in Numbers FirstAndLast = 3
-refusal_in l NoRangeType = 3
+abbrev pub refusal_in : ListKind → Option RangeType → ℕ
+refusal_in Users (Some Empty) = 3
+refusal_in Identities (Some Empty) = 0
+refusal_in Numbers (Some Empty) = 0
+refusal_in l (Some (Single n)) = 0
+refusal_in Users (Some FirstAndLast) = 0
+refusal_in Identities (Some FirstAndLast) = 0
+refusal_in Numbers (Some FirstAndLast) = 3
+refusal_in l None = 3
 
 unfoldable pub range_refusal : ListKind → ℕ → ℕ
 range_refusal l code = refusal_in l (range_type code)
 
 -- ---- digits: 0 to 9, then *, # and +
 
-unfoldable pub digit_of : ℕ → Digit
-digit_of d = pick (leb d 9) (Decimal d) (pick (eqb d 10) Star (pick (eqb d 11) Hash (pick (eqb d 12) Plus NoDigit)))
+unfoldable pub digit_of : ℕ → Option Digit
+digit_of d = pick (leb d 9) (Some (Decimal d)) (pick (eqb d 10) (Some Star) (pick (eqb d 11) (Some Hash) (pick (eqb d 12) (Some Plus) None)))
 
-abbrev pub refusal_of_digit : Digit → ℕ
-refusal_of_digit (Decimal d) = 0
-refusal_of_digit Star = 0
-refusal_of_digit Hash = 0
-refusal_of_digit Plus = 0
-refusal_of_digit NoDigit = 3
+abbrev pub refusal_of_digit : Option Digit → ℕ
+refusal_of_digit (Some d) = 0
+refusal_of_digit None = 3
 
 unfoldable pub digit_refusal : ℕ → ℕ
 digit_refusal d = refusal_of_digit (digit_of d)
@@ -72,15 +69,13 @@ all_digits (suc k) w = eqb (digit_refusal (w % 16)) 0 && all_digits k (w / 16)
 
 -- ---- services: table 42
 
-unfoldable pub service_of : ℕ → Service
-service_of v = pick (eqb v 0) All (pick (eqb v 1) Speech (pick (eqb v 2) CircuitData (pick (eqb v 3) ShortData NoService)))
+unfoldable pub service_of : ℕ → Option Service
+service_of v =
+    pick (eqb v 0) (Some All) (pick (eqb v 1) (Some Speech) (pick (eqb v 2) (Some CircuitData) (pick (eqb v 3) (Some ShortData) None)))
 
-abbrev pub refusal_of_service : Service → ℕ
-refusal_of_service All = 0
-refusal_of_service Speech = 0
-refusal_of_service CircuitData = 0
-refusal_of_service ShortData = 0
-refusal_of_service NoService = 3
+abbrev pub refusal_of_service : Option Service → ℕ
+refusal_of_service (Some s) = 0
+refusal_of_service None = 3
 
 unfoldable pub service_refusal : ℕ → ℕ
 service_refusal v = refusal_of_service (service_of v)
@@ -95,11 +90,11 @@ abbrev pub reserved : ℕ → ℕ → ℕ → ℕ
 reserved low high v = pick (leb low v && leb v high) 3 0
 
 -- PDU type, table 23: 5 to 13; 0 to 4, which are named there, have no PDU, and all others are reserved
-unfoldable pub pdu_type : ℕ → PduType
+unfoldable pub pdu_type : ℕ → Option PduType
 pdu_type v =
-    pick (eqb v 5) pdu.Define (pick (eqb v 6) pdu.DefineAck (pick (eqb v 7) pdu.DefineExternal (pick (eqb v 8) pdu.DefineUser
-    (pick (eqb v 9) pdu.DefineUserAck (pick (eqb v 10) pdu.DefineExternalUser (pick (eqb v 11) pdu.Interrogate
-    (pick (eqb v 12) pdu.InterrogateAck (pick (eqb v 13) pdu.CallBarred pdu.NoPduType))))))))
+    pick (eqb v 5) (Some pdu.Define) (pick (eqb v 6) (Some pdu.DefineAck) (pick (eqb v 7) (Some pdu.DefineExternal) (pick (eqb v 8) (Some pdu.DefineUser)
+    (pick (eqb v 9) (Some pdu.DefineUserAck) (pick (eqb v 10) (Some pdu.DefineExternalUser) (pick (eqb v 11) (Some pdu.Interrogate)
+    (pick (eqb v 12) (Some pdu.InterrogateAck) (pick (eqb v 13) (Some pdu.CallBarred) None))))))))
 
 abbrev pub kind_refusal : ℕ → ℕ
 kind_refusal = between 5 13

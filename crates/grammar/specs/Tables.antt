@@ -1,6 +1,6 @@
 -- Every code table over all values of its width, in plain values: what each code means, and the refusal number of each, 0 for none, by its
 -- definition and as that element of every PDU that has it. Tables are those of EN 300 392-12-18, clause 5.3.2; the others are the site sheet's.
-use Rattle.std.specs.Prelude.{◌≡◌, refl, Bool, true, false, List, [], ◌∷◌, ◌++◌, map, ℕ, ◌*◌, ◌^◌, length, drop, replicate}
+use Rattle.std.specs.Prelude.{◌≡◌, refl, Bool, true, false, List, [], ◌∷◌, ◌++◌, map, ℕ, ◌*◌, ◌^◌, length, drop, replicate, Some, None}
 use Rattle.bits.specs.Bits.{bits_of}
 use Rattle.bits.proofs.Table.{values}
 use Rattle.codec.specs.Codec.{Outcome, ok, no}
@@ -15,13 +15,13 @@ use Rattle.grammar.specs.Zero.{zero_identities, zero_numbers, zero_lists}
 use Rattle.grammar.specs.ProfileRecords.{asking}
 use Rattle.grammar.specs.Samples.{near, far, list, identity_lists, number_lists}
 use Rattle.grammar.specs.Samples as a
-use Rattle.grammar.specs.declared.site.RangeType.TheVariants.{Empty, Single, FirstAndLast, NoRangeType}
+use Rattle.grammar.specs.declared.site.RangeType.TheVariants.{Empty, Single, FirstAndLast}
 use Rattle.grammar.specs.declared.site.ListKind.TheVariants as of
 use Rattle.grammar.specs.declared.site.PduType.TheVariants.{Define, DefineAck, DefineExternal, DefineUser, DefineUserAck, DefineExternalUser}
-use Rattle.grammar.specs.declared.site.PduType.TheVariants.{Interrogate, InterrogateAck, CallBarred, NoPduType}
+use Rattle.grammar.specs.declared.site.PduType.TheVariants.{Interrogate, InterrogateAck, CallBarred}
 use Rattle.grammar.specs.declared.site.Row.{Row}
-use Rattle.grammar.specs.declared.site.Digit.TheVariants.{Decimal, Star, Hash, Plus, NoDigit}
-use Rattle.grammar.specs.declared.site.Service.TheVariants.{All, Speech, CircuitData, ShortData, NoService}
+use Rattle.grammar.specs.declared.site.Digit.TheVariants.{Decimal, Star, Hash, Plus}
+use Rattle.grammar.specs.declared.site.Service.TheVariants.{All, Speech, CircuitData, ShortData}
 use Rattle.grammar.specs.declared.record.Identities.{Identities}
 use Rattle.grammar.specs.declared.record.Numbers.{Numbers}
 use Rattle.grammar.specs.declared.record.Services.{Services}
@@ -124,9 +124,10 @@ pdu-types = (refl, refl)
 
 -- which PDU each is
 types_mean : values pdu_type 0 32 ≡
-    NoPduType ∷ NoPduType ∷ NoPduType ∷ NoPduType ∷ NoPduType
-    ∷ Define ∷ DefineAck ∷ DefineExternal ∷ DefineUser ∷ DefineUserAck ∷ DefineExternalUser ∷ Interrogate ∷ InterrogateAck ∷ CallBarred
-    ∷ replicate 18 NoPduType
+    None ∷ None ∷ None ∷ None ∷ None
+    ∷ Some Define ∷ Some DefineAck ∷ Some DefineExternal ∷ Some DefineUser ∷ Some DefineUserAck ∷ Some DefineExternalUser
+    ∷ Some Interrogate ∷ Some InterrogateAck ∷ Some CallBarred
+    ∷ replicate 18 None
 unfolding codes
 types_mean = refl
 
@@ -230,7 +231,8 @@ numbers-of-services = (refl, refl)
 
 -- ---- service, 3 bits, table 42
 
-services_mean : values service_of 0 8 ≡ All ∷ Speech ∷ CircuitData ∷ ShortData ∷ NoService ∷ NoService ∷ NoService ∷ NoService ∷ []
+services_mean : values service_of 0 8 ≡
+    Some All ∷ Some Speech ∷ Some CircuitData ∷ Some ShortData ∷ None ∷ None ∷ None ∷ None ∷ []
 unfolding codes
 services_mean = refl
 
@@ -241,10 +243,11 @@ services-refused = (refl, refl)
 -- ---- range type, 4 bits
 
 range-types : values range_type 0 16 ≡
-    Empty  -- 0: empty list
-    ∷ Single 1 ∷ Single 2 ∷ Single 3 ∷ Single 4 ∷ Single 5 ∷ Single 6 ∷ Single 7 ∷ Single 8  -- 1 to 8: the code
-    ∷ FirstAndLast  -- 9: first and last of a range
-    ∷ NoRangeType ∷ NoRangeType ∷ NoRangeType ∷ NoRangeType ∷ NoRangeType ∷ NoRangeType ∷ []  -- 10 to 15: refused
+    Some Empty  -- 0: empty list
+    ∷ Some (Single 1) ∷ Some (Single 2) ∷ Some (Single 3) ∷ Some (Single 4)  -- 1 to 8: the code
+    ∷ Some (Single 5) ∷ Some (Single 6) ∷ Some (Single 7) ∷ Some (Single 8)
+    ∷ Some FirstAndLast  -- 9: first and last of a range
+    ∷ None ∷ None ∷ None ∷ None ∷ None ∷ None ∷ []  -- 10 to 15: refused
 unfolding codes
 range-types = refl
 
@@ -298,8 +301,9 @@ number-lengths = (refl, refl)
 -- ---- digit, 4 bits: 0 to 9, then *, # and +
 
 digits_mean : values digit_of 0 16 ≡
-    Decimal 0 ∷ Decimal 1 ∷ Decimal 2 ∷ Decimal 3 ∷ Decimal 4 ∷ Decimal 5 ∷ Decimal 6 ∷ Decimal 7 ∷ Decimal 8 ∷ Decimal 9
-    ∷ Star ∷ Hash ∷ Plus ∷ NoDigit ∷ NoDigit ∷ NoDigit ∷ []
+    Some (Decimal 0) ∷ Some (Decimal 1) ∷ Some (Decimal 2) ∷ Some (Decimal 3) ∷ Some (Decimal 4)
+    ∷ Some (Decimal 5) ∷ Some (Decimal 6) ∷ Some (Decimal 7) ∷ Some (Decimal 8) ∷ Some (Decimal 9)
+    ∷ Some Star ∷ Some Hash ∷ Some Plus ∷ None ∷ None ∷ None ∷ []
 unfolding codes
 digits_mean = refl
 

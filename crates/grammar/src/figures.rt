@@ -5,7 +5,7 @@ ghost use Rattle.bits.specs.Bits.{pick};
 ghost use Rattle.codec.specs.Codec.{first};
 ghost use Rattle.codec.specs.Parts.{number_fault};
 ghost use Rattle.grammar.specs.SiteSheet.{reserved};
-ghost use Rattle.grammar.specs.Grammar.{none};
+ghost use Rattle.grammar.specs.Grammar.{no_figures};
 ghost use Rattle.grammar.specs.Figures.{of_interrogation, of_definition, of_outcome};
 ghost use Rattle.grammar.specs.Rows.{form_with, form_of, part_in, figures_of, definition_in, user_definition_in, figures_in};
 ghost use Rattle.grammar.specs.Rows.{definition_run, run_of};
@@ -24,20 +24,21 @@ pub struct Form {
 
 // Affected users stand in every PDU but those to and from the affected user itself, and to a caller; services in definitions and in the answer
 // to an interrogation.
-pub fn form_of(kind: PduType) -> Form
+#[tactic(auto, unfolding(crate::specs::Rows::form_of))]
+pub fn form_of(kind: Option<PduType>) -> Form
     ensures { result ≡ form_of kind }
 {
     match kind {
-        PduType::Define => form_with(true, true, 4),
-        PduType::DefineAck => form_with(true, false, 3),
-        PduType::DefineExternal => form_with(true, true, 4),
-        PduType::DefineUser => form_with(false, true, 3),
-        PduType::DefineUserAck => form_with(false, false, 3),
-        PduType::DefineExternalUser => form_with(false, true, 3),
-        PduType::Interrogate => form_with(true, false, 2),
-        PduType::InterrogateAck => form_with(true, true, 5),
-        PduType::CallBarred => form_with(false, false, 2),
-        PduType::NoPduType => form_with(false, false, 0),
+        Some(PduType::Define) => form_with(true, true, 4),
+        Some(PduType::DefineAck) => form_with(true, false, 3),
+        Some(PduType::DefineExternal) => form_with(true, true, 4),
+        Some(PduType::DefineUser) => form_with(false, true, 3),
+        Some(PduType::DefineUserAck) => form_with(false, false, 3),
+        Some(PduType::DefineExternalUser) => form_with(false, true, 3),
+        Some(PduType::Interrogate) => form_with(true, false, 2),
+        Some(PduType::InterrogateAck) => form_with(true, true, 5),
+        Some(PduType::CallBarred) => form_with(false, false, 2),
+        None => form_with(false, false, 0),
     }
 }
 
@@ -52,196 +53,115 @@ fn form_with(users: bool, services: bool, width: usize) -> Form
 }
 
 // The part whose lists a PDU carries, 0 for none.
-pub fn part_in(kind: PduType, f: Figures) -> u32
+#[tactic(auto, unfolding(crate::specs::Rows::part_in))]
+pub fn part_in(kind: Option<PduType>, f: Figures) -> u32
     ensures { result ≡ part_in kind f }
 {
     match kind {
-        PduType::Define => defined_part(1, f.definition),
-        PduType::DefineAck => 0,
-        PduType::DefineExternal => defined_part(2, f.definition),
-        PduType::DefineUser => defined_part(1, f.definition),
-        PduType::DefineUserAck => 0,
-        PduType::DefineExternalUser => defined_part(1, f.definition),
-        PduType::Interrogate => 0,
-        PduType::InterrogateAck => f.result,
-        PduType::CallBarred => 0,
-        PduType::NoPduType => 0,
+        Some(PduType::Define) => defined_part(1, f.definition),
+        Some(PduType::DefineAck) => 0,
+        Some(PduType::DefineExternal) => defined_part(2, f.definition),
+        Some(PduType::DefineUser) => defined_part(1, f.definition),
+        Some(PduType::DefineUserAck) => 0,
+        Some(PduType::DefineExternalUser) => defined_part(1, f.definition),
+        Some(PduType::Interrogate) => 0,
+        Some(PduType::InterrogateAck) => f.result,
+        Some(PduType::CallBarred) => 0,
+        None => 0,
     }
 }
 
 // The figures in the window of 57 bits that begins with them.
-pub fn figures_in(kind: PduType, window: u64) -> Figures
+#[tactic(auto, unfolding(crate::specs::Rows::figures_in))]
+pub fn figures_in(kind: Option<PduType>, window: u64) -> Figures
     ensures { result ≡ figures_in kind window }
 {
     match kind {
-        PduType::Define => definition_in(window),
-        PduType::DefineAck => of_outcome((window >> 54u32) as u32, 0, 0),
-        PduType::DefineExternal => definition_in(window),
-        PduType::DefineUser => user_definition_in(window),
-        PduType::DefineUserAck => of_outcome(0, (window >> 54u32) as u32, 0),
-        PduType::DefineExternalUser => user_definition_in(window),
-        PduType::Interrogate => of_interrogation((window >> 55u32) as u32, 0, 0),
-        PduType::InterrogateAck => of_interrogation(
+        Some(PduType::Define) => definition_in(window),
+        Some(PduType::DefineAck) => of_outcome((window >> 54u32) as u32, 0, 0),
+        Some(PduType::DefineExternal) => definition_in(window),
+        Some(PduType::DefineUser) => user_definition_in(window),
+        Some(PduType::DefineUserAck) => of_outcome(0, (window >> 54u32) as u32, 0),
+        Some(PduType::DefineExternalUser) => user_definition_in(window),
+        Some(PduType::Interrogate) => of_interrogation((window >> 55u32) as u32, 0, 0),
+        Some(PduType::InterrogateAck) => of_interrogation(
             0,
             (window >> 54u32) as u32,
             ((window >> 52u32) % 4) as u32,
         ),
-        PduType::CallBarred => of_outcome(0, 0, (window >> 55u32) as u32),
-        PduType::NoPduType => zero_figures(),
+        Some(PduType::CallBarred) => of_outcome(0, 0, (window >> 55u32) as u32),
+        None => zero_figures(),
     }
 }
 
 // The refusal number of the figures that a PDU carries, 0 for none.
-pub fn figures_refusal(kind: PduType, f: Figures) -> u32
+#[tactic(auto, using(crate::proofs::Rows::faults), unfolding(crate::specs::Grammar::figures, crate::specs::Grammar::none, crate::specs::Grammar::codecs))]
+pub fn figures_refusal(kind: Option<PduType>, f: Figures) -> u32
     ensures { result ≡ (figures_of kind).fault f }
 {
     match kind {
-        PduType::Define => definition_refusal(f),
-        PduType::DefineAck => three_bits_refusal(5, f.defined),
-        PduType::DefineExternal => definition_refusal(f),
-        PduType::DefineUser => acknowledged_refusal(1, f),
-        PduType::DefineUserAck => three_bits_refusal(2, f.distributed),
-        PduType::DefineExternalUser => acknowledged_refusal(1, f),
-        PduType::Interrogate => between_refusal(1, 3, f.asked),
-        PduType::InterrogateAck => answer_refusal(f),
-        PduType::CallBarred => between_refusal(0, 2, f.cause),
-        PduType::NoPduType => 0,
+        Some(PduType::Define) => definition_refusal(f),
+        Some(PduType::DefineAck) => three_bits_refusal(5, f.defined),
+        Some(PduType::DefineExternal) => definition_refusal(f),
+        Some(PduType::DefineUser) => acknowledged_refusal(1, f),
+        Some(PduType::DefineUserAck) => three_bits_refusal(2, f.distributed),
+        Some(PduType::DefineExternalUser) => acknowledged_refusal(1, f),
+        Some(PduType::Interrogate) => between_refusal(1, 3, f.asked),
+        Some(PduType::InterrogateAck) => answer_refusal(f),
+        Some(PduType::CallBarred) => between_refusal(0, 2, f.cause),
+        None => 0,
     }
 }
 
-// Whether the figures that a PDU does not carry are zero: those that it carries are left out.
-pub fn figures_clean(kind: PduType, f: Figures) -> bool
+// Whether the figures that a PDU does not carry are zero: with those that it carries left out, all are.
+#[tactic(auto, unfolding(crate::specs::Grammar::figures, crate::specs::Grammar::none, crate::specs::Grammar::codecs))]
+pub fn figures_clean(kind: Option<PduType>, f: Figures) -> bool
     ensures { result ≡ (figures_of kind).clean f }
 {
     match kind {
-        PduType::Define => are_zero(
-            f.asked,
-            f.result,
-            f.status,
-            0,
-            0,
-            0,
-            f.defined,
-            f.distributed,
-            f.cause,
-        ),
-        PduType::DefineAck => are_zero(
-            f.asked,
-            f.result,
-            f.status,
-            f.delivery,
-            f.acknowledgement,
-            f.definition,
-            0,
-            f.distributed,
-            f.cause,
-        ),
-        PduType::DefineExternal => are_zero(
-            f.asked,
-            f.result,
-            f.status,
-            0,
-            0,
-            0,
-            f.defined,
-            f.distributed,
-            f.cause,
-        ),
-        PduType::DefineUser => are_zero(
-            f.asked,
-            f.result,
-            f.status,
-            f.delivery,
-            0,
-            0,
-            f.defined,
-            f.distributed,
-            f.cause,
-        ),
-        PduType::DefineUserAck => are_zero(
-            f.asked,
-            f.result,
-            f.status,
-            f.delivery,
-            f.acknowledgement,
-            f.definition,
-            f.defined,
-            0,
-            f.cause,
-        ),
-        PduType::DefineExternalUser => are_zero(
-            f.asked,
-            f.result,
-            f.status,
-            f.delivery,
-            0,
-            0,
-            f.defined,
-            f.distributed,
-            f.cause,
-        ),
-        PduType::Interrogate => are_zero(
-            0,
-            f.result,
-            f.status,
-            f.delivery,
-            f.acknowledgement,
-            f.definition,
-            f.defined,
-            f.distributed,
-            f.cause,
-        ),
-        PduType::InterrogateAck => are_zero(
-            f.asked,
-            0,
-            0,
-            f.delivery,
-            f.acknowledgement,
-            f.definition,
-            f.defined,
-            f.distributed,
-            f.cause,
-        ),
-        PduType::CallBarred => are_zero(
-            f.asked,
-            f.result,
-            f.status,
-            f.delivery,
-            f.acknowledgement,
-            f.definition,
-            f.defined,
-            f.distributed,
-            0,
-        ),
-        PduType::NoPduType => are_zero(
-            f.asked,
-            f.result,
-            f.status,
-            f.delivery,
-            f.acknowledgement,
-            f.definition,
-            f.defined,
-            f.distributed,
-            f.cause,
-        ),
+        Some(PduType::DefineAck) => are_zero(Figures { defined: 0, ..f }),
+        Some(PduType::Define | PduType::DefineExternal) => are_zero(Figures {
+            delivery: 0,
+            acknowledgement: 0,
+            definition: 0,
+            ..f
+        }),
+        Some(PduType::DefineUserAck) => are_zero(Figures {
+            distributed: 0,
+            ..f
+        }),
+        Some(PduType::DefineUser | PduType::DefineExternalUser) => are_zero(Figures {
+            acknowledgement: 0,
+            definition: 0,
+            ..f
+        }),
+        Some(PduType::Interrogate) => are_zero(Figures { asked: 0, ..f }),
+        Some(PduType::InterrogateAck) => are_zero(Figures {
+            result: 0,
+            status: 0,
+            ..f
+        }),
+        Some(PduType::CallBarred) => are_zero(Figures { cause: 0, ..f }),
+        None => are_zero(f),
     }
 }
 
 // The bits of the figures as one number; a figure that is wider than its element is cut, the first is not.
-pub fn figures_run(kind: PduType, f: Figures) -> u64
+#[tactic(auto, unfolding(crate::specs::Rows::run_of))]
+pub fn figures_run(kind: Option<PduType>, f: Figures) -> u64
     ensures { result ≡ run_of kind f }
 {
     match kind {
-        PduType::Define => definition_run(f.delivery, f),
-        PduType::DefineAck => f.defined as u64,
-        PduType::DefineExternal => definition_run(f.delivery, f),
-        PduType::DefineUser => definition_run(0, f),
-        PduType::DefineUserAck => f.distributed as u64,
-        PduType::DefineExternalUser => definition_run(0, f),
-        PduType::Interrogate => f.asked as u64,
-        PduType::InterrogateAck => (f.result as u64) * 4 + (f.status as u64) % 4,
-        PduType::CallBarred => f.cause as u64,
-        PduType::NoPduType => 0,
+        Some(PduType::Define) => definition_run(f.delivery, f),
+        Some(PduType::DefineAck) => f.defined as u64,
+        Some(PduType::DefineExternal) => definition_run(f.delivery, f),
+        Some(PduType::DefineUser) => definition_run(0, f),
+        Some(PduType::DefineUserAck) => f.distributed as u64,
+        Some(PduType::DefineExternalUser) => definition_run(0, f),
+        Some(PduType::Interrogate) => f.asked as u64,
+        Some(PduType::InterrogateAck) => (f.result as u64) * 4 + (f.status as u64) % 4,
+        Some(PduType::CallBarred) => f.cause as u64,
+        None => 0,
     }
 }
 
@@ -254,12 +174,7 @@ fn of_interrogation(asked: u32, res: u32, status: u32) -> Figures
         asked,
         result: res,
         status,
-        delivery: 0,
-        acknowledgement: 0,
-        definition: 0,
-        defined: 0,
-        distributed: 0,
-        cause: 0,
+        ..zero_figures()
     }
 }
 
@@ -267,15 +182,10 @@ fn of_definition(delivery: u32, acknowledgement: u32, definition: u32) -> Figure
     ensures { result ≡ of_definition delivery acknowledgement definition }
 {
     Figures {
-        asked: 0,
-        result: 0,
-        status: 0,
         delivery,
         acknowledgement,
         definition,
-        defined: 0,
-        distributed: 0,
-        cause: 0,
+        ..zero_figures()
     }
 }
 
@@ -283,15 +193,10 @@ fn of_outcome(defined: u32, distributed: u32, cause: u32) -> Figures
     ensures { result ≡ of_outcome defined distributed cause }
 {
     Figures {
-        asked: 0,
-        result: 0,
-        status: 0,
-        delivery: 0,
-        acknowledgement: 0,
-        definition: 0,
         defined,
         distributed,
         cause,
+        ..zero_figures()
     }
 }
 
@@ -353,6 +258,7 @@ fn definition_refusal(f: Figures) -> u32
     acknowledged_refusal(f.delivery, f)
 }
 
+#[tactic(auto, using(crate::proofs::Rows::faults))]
 fn answer_refusal(f: Figures) -> u32
     ensures { result ≡ first (first (number_fault 3 f.result) (reserved 5 5 f.result)) (number_fault 2 f.status) }
 {
@@ -365,26 +271,9 @@ fn answer_refusal(f: Figures) -> u32
 
 // ---- zeros
 
-fn three_zero(a: u32, b: u32, c: u32) -> bool
-    ensures { result ≡ none.clean (a, (b, c)) }
+#[tactic(auto, using(crate::proofs::Codes::zero_test), unfolding(crate::specs::Grammar::figures, crate::specs::Grammar::none, crate::specs::Grammar::codecs))]
+fn are_zero(f: Figures) -> bool
+    ensures { result ≡ no_figures.clean f }
 {
-    if a != 0 {
-        return false;
-    }
-    if b != 0 {
-        return false;
-    }
-    c == 0
-}
-
-fn are_zero(a: u32, b: u32, c: u32, d: u32, e: u32, f: u32, g: u32, h: u32, i: u32) -> bool
-    ensures { result ≡ none.clean (a, (b, c)) && (none.clean (d, (e, f)) && none.clean (g, (h, i))) }
-{
-    if !three_zero(a, b, c) {
-        return false;
-    }
-    if !three_zero(d, e, f) {
-        return false;
-    }
-    three_zero(g, h, i)
+    f == zero_figures()
 }

@@ -2,7 +2,7 @@
 use bits::DigitCount;
 
 // A user, group or destination: its SSI, whether an extension is present, and the extension.
-#[derive(Clone, Copy)]
+#[derive(Clone, Copy, Default)]
 pub struct Identity {
     pub ssi: u32,
     pub present: u32,
@@ -10,7 +10,7 @@ pub struct Identity {
 }
 
 // A range type and its entries.
-#[derive(Clone, Copy)]
+#[derive(Clone, Copy, Default)]
 pub struct Identities {
     pub code: u32,
     pub entries: [Identity; 8],
@@ -30,7 +30,7 @@ pub struct Numbers {
 }
 
 // The number of services and the services.
-#[derive(Clone, Copy)]
+#[derive(Clone, Copy, Default)]
 pub struct Services {
     pub count: u32,
     pub list: [u32; 7],
@@ -48,7 +48,7 @@ pub struct Lists {
 
 // The figures of a PDU, of which each type carries at most three: interrogation type, interrogation result, delivery status;
 // delivery to affected users, acknowledgement from them, definition type; definition result, distribution result, rejection cause.
-#[derive(Clone, Copy)]
+#[derive(Clone, Copy, PartialEq, Eq, Default)]
 pub struct Figures {
     pub asked: u32,
     pub result: u32,

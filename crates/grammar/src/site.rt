@@ -1,7 +1,7 @@
 // The codes of a PDU's elements, by the site sheet and the standard's tables: each has its meaning or is refused.
 ghost use Rattle.std.specs.Prelude.{◌≡◌};
 ghost use Rattle.codec.specs.Parts.{only};
-ghost use Rattle.grammar.specs.SiteSheet.{range_type, row_of, range_refusal, ss_type, digit_of, digit_refusal, all_digits, service_of};
+ghost use Rattle.grammar.specs.SiteSheet.{range_type, row_of, entries_of, range_refusal, ss_type, digit_of, digit_refusal, all_digits, service_of};
 ghost use Rattle.grammar.specs.SiteSheet.{service_refusal, pdu_type, kind_refusal, reserved, defined_part, between};
 ghost use Rattle.grammar.specs.Grammar.{ends_refusal, network_of};
 
@@ -22,7 +22,6 @@ pub enum RangeType {
     Empty,
     Single(u32),
     FirstAndLast,
-    NoRangeType,
 }
 
 // The three kinds of list, by which a range type may be refused.
@@ -121,34 +120,50 @@ pub fn row_of(code: u32) -> Row
     RANGE_TYPES[i]
 }
 
-pub fn range_type(code: u32) -> RangeType
+// What a range type means; a code of any other has no meaning.
+#[tactic(auto, unfolding(crate::specs::SiteSheet::range_type))]
+pub fn range_type(code: u32) -> Option<RangeType>
     ensures { result ≡ range_type code }
 {
     match code {
-        0 => RangeType::Empty,
-        1..=8 => RangeType::Single(code),
-        9 => RangeType::FirstAndLast,
-        _ => RangeType::NoRangeType,
+        0 => Some(RangeType::Empty),
+        1..=8 => Some(RangeType::Single(code)),
+        9 => Some(RangeType::FirstAndLast),
+        _ => None,
+    }
+}
+
+// The entries that follow a range type. By its meaning and not from the site sheet's table, which each use would lay out anew on the stack.
+#[tactic(auto, unfolding(crate::specs::SiteSheet::row_of))]
+pub fn entries_of(code: u32) -> usize
+    ensures { result ≡ entries_of code }
+{
+    match range_type(code) {
+        Some(RangeType::Empty) => 0,
+        Some(RangeType::Single(count)) => count as usize,
+        Some(RangeType::FirstAndLast) => 2,
+        None => 0,
     }
 }
 
 // The refusal number of a range type in a kind of list, 0 for none.
+#[tactic(auto, unfolding(crate::specs::SiteSheet::range_refusal))]
 pub fn range_refusal(list: ListKind, code: u32) -> u32
     ensures { result ≡ range_refusal list code }
 {
     match range_type(code) {
-        RangeType::Empty => match list {
+        Some(RangeType::Empty) => match list {
             ListKind::Users => 3,
             ListKind::Identities => 0,
             ListKind::Numbers => 0,
         },
-        RangeType::Single(_) => 0,
-        RangeType::FirstAndLast => match list {
+        Some(RangeType::Single(_)) => 0,
+        Some(RangeType::FirstAndLast) => match list {
             ListKind::Users => 0,
             ListKind::Identities => 0,
             ListKind::Numbers => 3,
         },
-        RangeType::NoRangeType => 3,
+        None => 3,
     }
 }
 
@@ -159,31 +174,26 @@ pub enum Digit {
     Star,
     Hash,
     Plus,
-    NoDigit,
 }
 
-pub fn digit_of(code: u32) -> Digit
+#[tactic(auto, unfolding(crate::specs::SiteSheet::digit_of))]
+pub fn digit_of(code: u32) -> Option<Digit>
     ensures { result ≡ digit_of code }
 {
     match code {
-        0..=9 => Digit::Decimal(code),
-        10 => Digit::Star,
-        11 => Digit::Hash,
-        12 => Digit::Plus,
-        _ => Digit::NoDigit,
+        0..=9 => Some(Digit::Decimal(code)),
+        10 => Some(Digit::Star),
+        11 => Some(Digit::Hash),
+        12 => Some(Digit::Plus),
+        _ => None,
     }
 }
 
+#[tactic(auto, unfolding(crate::specs::SiteSheet::digit_refusal))]
 pub fn digit_refusal(code: u32) -> u32
     ensures { result ≡ digit_refusal code }
 {
-    match digit_of(code) {
-        Digit::Decimal(_) => 0,
-        Digit::Star => 0,
-        Digit::Hash => 0,
-        Digit::Plus => 0,
-        Digit::NoDigit => 3,
-    }
+    if digit_of(code).is_some() { 0 } else { 3 }
 }
 
 // Whether each of the sixteen digits of 4 bits in w is legal: 13 to 15 have the bits 8 and 4, and 2 or 1.
@@ -201,31 +211,26 @@ pub enum Service {
     Speech,
     CircuitData,
     ShortData,
-    NoService,
 }
 
-pub fn service_of(code: u32) -> Service
+#[tactic(auto, unfolding(crate::specs::SiteSheet::service_of))]
+pub fn service_of(code: u32) -> Option<Service>
     ensures { result ≡ service_of code }
 {
     match code {
-        0 => Service::All,
-        1 => Service::Speech,
-        2 => Service::CircuitData,
-        3 => Service::ShortData,
-        _ => Service::NoService,
+        0 => Some(Service::All),
+        1 => Some(Service::Speech),
+        2 => Some(Service::CircuitData),
+        3 => Some(Service::ShortData),
+        _ => None,
     }
 }
 
+#[tactic(auto, unfolding(crate::specs::SiteSheet::service_refusal))]
 pub fn service_refusal(code: u32) -> u32
     ensures { result ≡ service_refusal code }
 {
-    match service_of(code) {
-        Service::All => 0,
-        Service::Speech => 0,
-        Service::CircuitData => 0,
-        Service::ShortData => 0,
-        Service::NoService => 3,
-    }
+    if service_of(code).is_some() { 0 } else { 3 }
 }
 
 // A BOC PDU type (table 23) that has a PDU.
@@ -240,23 +245,23 @@ pub enum PduType {
     Interrogate,
     InterrogateAck,
     CallBarred,
-    NoPduType,
 }
 
-pub fn pdu_type(code: u32) -> PduType
+#[tactic(auto, unfolding(crate::specs::SiteSheet::pdu_type))]
+pub fn pdu_type(code: u32) -> Option<PduType>
     ensures { result ≡ pdu_type code }
 {
     match code {
-        5 => PduType::Define,
-        6 => PduType::DefineAck,
-        7 => PduType::DefineExternal,
-        8 => PduType::DefineUser,
-        9 => PduType::DefineUserAck,
-        10 => PduType::DefineExternalUser,
-        11 => PduType::Interrogate,
-        12 => PduType::InterrogateAck,
-        13 => PduType::CallBarred,
-        _ => PduType::NoPduType,
+        5 => Some(PduType::Define),
+        6 => Some(PduType::DefineAck),
+        7 => Some(PduType::DefineExternal),
+        8 => Some(PduType::DefineUser),
+        9 => Some(PduType::DefineUserAck),
+        10 => Some(PduType::DefineExternalUser),
+        11 => Some(PduType::Interrogate),
+        12 => Some(PduType::InterrogateAck),
+        13 => Some(PduType::CallBarred),
+        _ => None,
     }
 }
 
@@ -278,6 +283,7 @@ pub fn reserved_refusal(low: u32, high: u32, v: u32) -> u32
 }
 
 // The part whose lists a definition of it carries: its own for addition and replacement, none for any other.
+#[tactic(auto, unfolding(crate::specs::SiteSheet::defined_part))]
 pub fn defined_part(part: u32, definition: u32) -> u32
     ensures { result ≡ defined_part part definition }
 {
@@ -298,6 +304,7 @@ pub fn between_refusal(low: u32, high: u32, v: u32) -> u32
 }
 
 // The refusal number of the two ends of a range, 0 for none.
+#[tactic(auto, unfolding(crate::specs::Grammar::ends_refusal))]
 pub fn ends_refusal(first: Identity, last: Identity) -> u32
     ensures { result ≡ ends_refusal first last }
 {
@@ -314,6 +321,7 @@ pub fn ends_refusal(first: Identity, last: Identity) -> u32
 }
 
 // The network of an identity: its extension if that is present, otherwise `missing`, the one that a missing extension means.
+#[tactic(auto, unfolding(crate::specs::Grammar::network_of))]
 pub fn network_of(missing: u32, e: Identity) -> u32
     ensures { result ≡ network_of missing e }
 {

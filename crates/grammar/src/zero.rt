@@ -2,23 +2,16 @@
 ghost use Rattle.std.specs.Prelude.{◌≡◌};
 ghost use Rattle.grammar.specs.Zero.{zero_identities, zero_numbers, zero_figures, zero_services, zero_lists, zero_record};
 
-use crate::record::{Figures, Identities, Identity, Lists, Number, Numbers, Record, Services};
+use crate::record::{Figures, Identities, Lists, Number, Numbers, Record, Services};
 use bits::DigitCount;
 
 pub fn zero_identities() -> Identities
     ensures { result ≡ zero_identities }
 {
-    let none = Identity {
-        ssi: 0,
-        present: 0,
-        extension: 0,
-    };
-    Identities {
-        code: 0,
-        entries: [none; 8],
-    }
+    Identities::default()
 }
 
+// By hand, and so the lists and the record: the length of a number is a DigitCount, which has no default.
 pub fn zero_numbers() -> Numbers
     ensures { result ≡ zero_numbers }
 {
@@ -35,26 +28,13 @@ pub fn zero_numbers() -> Numbers
 pub fn zero_figures() -> Figures
     ensures { result ≡ zero_figures }
 {
-    Figures {
-        asked: 0,
-        result: 0,
-        status: 0,
-        delivery: 0,
-        acknowledgement: 0,
-        definition: 0,
-        defined: 0,
-        distributed: 0,
-        cause: 0,
-    }
+    Figures::default()
 }
 
 pub fn zero_services() -> Services
     ensures { result ≡ zero_services }
 {
-    Services {
-        count: 0,
-        list: [0u32; 7],
-    }
+    Services::default()
 }
 
 pub fn zero_lists() -> Lists

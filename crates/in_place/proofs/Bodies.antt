@@ -3,6 +3,7 @@ use mathlib.Core.Path.{◌≡◌, ap, ◌∙◌, subst}
 use mathlib.Core.Bool.{Bool}
 use mathlib.Core.List.{List}
 use Prim.Native.Nat.{ℕ, ◌+◌, ◌*◌}
+use Rattle.std.specs.Prelude.{Some}
 use native.Mathlib.Omega.{arith}
 use lib.ListN.{length, take, drop}
 use Rattle.bits.specs.Bits.{bits, value}
@@ -62,7 +63,7 @@ figures-end : (s : List ℕ) {at end : ℕ} {f : Figures} → Read interrogation
 unfolding form_of
 figures-end s {at} {end} {f} r =
     (read_at-legal interrogation_result (bits s) at f end r.same).1
-    ∙ ap (λ (n : ℕ). at + n) (ap length (figures-print type.InterrogateAck f) ∙ length-bits_of 5 (run_of type.InterrogateAck f))
+    ∙ ap (λ (n : ℕ). at + n) (ap length (figures-print (Some type.InterrogateAck) f) ∙ length-bits_of 5 (run_of (Some type.InterrogateAck) f))
 
 module _ (s : List ℕ) (r : Record) {end : ℕ} (x : Read pdu (bits s) 0 r end) (kind : r.kind ≡ 12) (one : r.affected.code ≡ 1) where
   rest : Read interrogate_ack (bits s) 11 (from_record r).1 end

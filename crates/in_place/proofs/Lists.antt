@@ -7,6 +7,7 @@ use native.Mathlib.Omega.{arith}
 use lib.ListN.{length, take, get_or}
 use lib.Dec.{eqb}
 use borrow.Author.Tests.{ne_eqb, le-leb}
+use Rattle.std.proofs.Common.{Option, Some, None}
 use Rattle.bits.specs.Bits.{bits}
 use Rattle.bits.specs.Element.{window_at}
 use Rattle.bits.specs.Lists.{some}
@@ -23,8 +24,6 @@ use Rattle.reader.specs.Inner.{Read, Reads}
 use Rattle.reader.proofs.Elements.{number_fits}
 use Rattle.rules.specs.Matching.{is_entry, in_range, identity_among, is_number, number_among}
 use Rattle.rules.specs.declared.request.User.{User}
-use Rattle.rules.specs.declared.request.Group.{Group}
-use Rattle.rules.specs.declared.request.Group.TheVariants.{Of, NoGroup}
 use Rattle.rules.specs.Rule.{is_empty, in_groups}
 use Rattle.in_place.specs.Inner.{Ends, Says, Sees}
 use Rattle.in_place.specs.declared.Seen.{Seen}
@@ -111,12 +110,12 @@ module _ (s : List ℕ) (start : ℕ) (r : Reads (identities of.Identities) (bit
 
 -- ---- the call's group
 
-module _ (missing : ℕ) {s : List Bool} {start : ℕ} {group : Group} {seen : Seen} where
-  pub group_seen : {u : User} → group ≡ Of u → Sees (identities of.Identities) (λ l. identity_among missing l u) (λ l. l.code) s start seen
+module _ (missing : ℕ) {s : List Bool} {start : ℕ} {group : Option User} {seen : Seen} where
+  pub group_seen : {u : User} → group ≡ Some u → Sees (identities of.Identities) (λ l. identity_among missing l u) (λ l. l.code) s start seen
       → Sees (identities of.Identities) (λ l. in_groups missing l group) (λ l. l.code) s start seen
   group_seen e p = record { value = p.value; read = p.read; has = rw e p.has; empty = p.empty }
 
-  pub no-group_seen : group ≡ NoGroup → Sees (identities of.Identities) (λ l. false) (λ l. l.code) s start seen
+  pub no-group_seen : group ≡ None → Sees (identities of.Identities) (λ l. false) (λ l. l.code) s start seen
       → Sees (identities of.Identities) (λ l. in_groups missing l group) (λ l. l.code) s start seen
   no-group_seen e p = record { value = p.value; read = p.read; has = rw e p.has; empty = p.empty }
 

@@ -7,18 +7,16 @@ use Rattle.bits.specs.declared.DigitCount.{DigitCount}
 use Rattle.grammar.specs.declared.record.Lists.{Lists}
 use Rattle.grammar.specs.declared.record.Record.{Record}
 use Rattle.rules.specs.Matching.{identity_among, number_among, covered}
-use Rattle.rules.specs.Rule.{is_excepted, is_restricted, is_empty, in_groups, is_outside, restricted_code, both_empty, six_rules}
+use Rattle.rules.specs.Rule.{allowed, is_excepted, is_restricted, is_empty, in_groups, is_outside, restricted_code, both_empty, six_rules}
 use Rattle.rules.specs.declared.request.User.{User}
 use Rattle.rules.specs.declared.request.Destination.{Destination}
 use Rattle.rules.specs.declared.request.Destination.TheVariants.{Identity, Number}
 use Rattle.rules.specs.declared.request.Request.{Request}
-use Rattle.barring.specs.Decision.{decision_of}
-use Rattle.barring.specs.declared.Decision.TheVariants.{Allowed}
 use Rattle.in_place.specs.Inner.{settled_by}
 
 module _ (missing : ℕ) (r : Record) (q : Request) where
   -- rule 1
-  pub unlisted : covered r.services q.service ≡ false → Allowed ≡ decision_of (six_rules missing r q)
+  pub unlisted : covered r.services q.service ≡ false → allowed ≡ six_rules missing r q
   unfolding six_rules
   unlisted e = rw e
 
@@ -28,7 +26,7 @@ module _ (missing : ℕ) (r : Record) (q : Request) where
       → restricted ≡ is_restricted missing r.lists q.destination q.digits
       → unrestricted ≡ is_empty (restricted_code r.lists q.destination)
       → excepted ≡ is_excepted missing r.lists q.destination q.digits
-      → settled_by grouped groupless restricted unrestricted excepted ≡ decision_of (six_rules missing r q)
+      → settled_by grouped groupless restricted unrestricted excepted ≡ six_rules missing r q
   unfolding six_rules settled_by is_outside both_empty
   settled_is s a b c d e = rw (s, a, b, c, d, e)
 

@@ -1,19 +1,18 @@
 -- What the walk's own functions need, and what they say of the part of a PDU that they pass.
-use Rattle.std.specs.Prelude.{◌≡◌, Bool, not, ◌&&◌, List, ℕ, ◌+◌, ◌≤◌, length, take, drop}
+use Rattle.std.specs.Prelude.{◌≡◌, Bool, not, ◌&&◌, List, ℕ, ◌+◌, ◌≤◌, length, take, drop, Option}
 use Rattle.bits.specs.Bits.{bits, pick}
 use Rattle.bits.specs.Frame.{bytes_for}
 use Rattle.codec.specs.Codec.{Codec}
 use Rattle.grammar.specs.Grammar.{pdu}
 use Rattle.grammar.specs.declared.record.Record.{Record}
 use Rattle.reader.specs.Inner.{Read, Reads}
-use Rattle.reader.specs.Read.{read_is}
-use Rattle.rules.specs.Rule.{outside_group, restricted_service, restricted_address, is_empty, missing_in, six_rules}
+use Rattle.reader.specs.Read.{found_in, read_is}
+use Rattle.rules.specs.Rule.{is_empty, missing_in, six_rules, allowed, barred}
+use Rattle.rules.specs.declared.Cause.{Cause}
+use Rattle.rules.specs.declared.Cause.TheVariants.{OutsideGroup, RestrictedService, RestrictedAddress}
 use Rattle.rules.specs.declared.request.Request.{Request}
-use Rattle.rules.specs.declared.Ruling.TheVariants.{Allowed, Barred}
 use Rattle.archive.specs.Reading.{home_of}
-use Rattle.barring.specs.Decision.{decision_of}
 use Rattle.barring.specs.Decide.{part_for}
-use Rattle.barring.specs.declared.Decision.{Decision}
 use Rattle.in_place.specs.declared.Seen.{Seen}
 
 -- c can be passed: the PDU has at most 512 bytes, and c is read at a place
@@ -41,13 +40,13 @@ pub record Sees {A : Type 0} (c : Codec A) (test : A → Bool) (code : A → ℕ
 
 -- rules 2 to 6, by what the lists say: the group list has the call's group, or is empty; the restricted list has the destination, or is empty;
 -- the exceptions have it
-unfoldable pub settled_by : Bool → Bool → Bool → Bool → Bool → Decision
+unfoldable pub settled_by : Bool → Bool → Bool → Bool → Bool → Option Cause
 settled_by grouped groupless restricted unrestricted excepted =
-    decision_of (pick excepted Allowed
-    (pick restricted (Barred restricted_address)
-    (pick (not groupless && not grouped) (Barred outside_group)
-    (pick (groupless && unrestricted) (Barred restricted_service)
-    Allowed))))
+    pick excepted allowed
+    (pick restricted (barred RestrictedAddress)
+    (pick (not groupless && not grouped) (barred OutsideGroup)
+    (pick (groupless && unrestricted) (barred RestrictedService)
+    allowed)))
 
 -- the PDU of a part that judges a request: an INTERROGATE ACK with one affected user, whose result is the part
 pub record Judging (s : List ℕ) (q : Request) : Type 0 where
@@ -60,15 +59,15 @@ pub record Judging (s : List ℕ) (q : Request) : Type 0 where
   pub part : found.figures.result ≡ part_for q.destination
 
 -- what the six rules say of the record that is read, where a missing extension means the network of the request's user
-pub record Ruled (s : List ℕ) (q : Request) (d : Decision) : Type 0 where
+pub record Ruled (s : List ℕ) (q : Request) (ruling : Option Cause) : Type 0 where
   pub found : Record
   pub end : ℕ
   pub read : Read pdu (bits s) 0 found end
-  pub says : d ≡ decision_of (six_rules q.user.network found q)
+  pub says : ruling ≡ six_rules q.user.network found q
 
 -- the same of the body of n bits at a place of an archive, filed under the request's user
 pub record JudgingAt (b : List ℕ) (at n : ℕ) (q : Request) : Type 0 where
   pub inside : at + bytes_for n ≤ length b
   pub body : Judging (take (bytes_for n) (drop at b)) q
-  pub same : (read_is (take (bytes_for n) (drop at b)) n).found ≡ body.found
+  pub same : found_in (read_is (take (bytes_for n) (drop at b)) n) ≡ body.found
   pub network : missing_in (home_of b) body.found ≡ q.user.network

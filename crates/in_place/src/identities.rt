@@ -12,7 +12,7 @@ ghost use Rattle.in_place.specs.Inner.{Walkable, Ends, Says, Sees};
 
 use crate::{Passed, Seen};
 use grammar::record::Identity;
-use rules::request::{Group, User};
+use rules::request::User;
 
 // An entry, and where it ends.
 #[derive(Clone, Copy)]
@@ -68,14 +68,12 @@ fn mixed_at(s: &[u8], start: usize, count: u32, missing: u32, user: User) -> Pas
 {
     let mut has = false;
     let mut at = start;
-    let mut done = 0u32;
-    while done < count {
+    for _ in 0..count {
         let entry = identity_at(s, at, missing, user);
         if entry.has {
             has = true;
         }
         at = entry.end;
-        done += 1;
     }
     Passed { has, end: at }
 }
@@ -87,8 +85,7 @@ fn singles_at(s: &[u8], start: usize, count: u32, width: usize, missing: u32, us
 {
     let mut has = false;
     let mut at = start;
-    let mut done = 0u32;
-    while done < count {
+    for _ in 0..count {
         let entry = identity_at(s, at, missing, user);
         let end = at + width;
         if entry.end != end {
@@ -98,7 +95,6 @@ fn singles_at(s: &[u8], start: usize, count: u32, width: usize, missing: u32, us
             has = true;
         }
         at = end;
-        done += 1;
     }
     Passed { has, end: at }
 }
@@ -156,10 +152,8 @@ fn mixed_end(s: &[u8], start: usize, count: u32) -> usize
     ensures { Ends (places identity no_identity 8 count) (bits s.now) start result }
 {
     let mut at = start;
-    let mut done = 0u32;
-    while done < count {
+    for _ in 0..count {
         at = at + 25 + 24 * bits::bit_at(s, at + 24);
-        done += 1;
     }
     at
 }
@@ -170,13 +164,11 @@ fn singles_end(s: &[u8], start: usize, count: u32, width: usize) -> usize
     ensures { Ends (places identity no_identity 8 count) (bits s.now) start result }
 {
     let mut at = start;
-    let mut done = 0u32;
-    while done < count {
+    for _ in 0..count {
         if 25 + 24 * bits::bit_at(s, at + 24) != width {
             return mixed_end(s, start, count);
         }
         at += width;
-        done += 1;
     }
     at
 }
@@ -205,12 +197,12 @@ fn passed_over(s: &[u8], start: usize) -> Seen
 }
 
 // Whether the group list has the call's group; it does not have none.
-pub(crate) fn groups_at(s: &[u8], start: usize, missing: u32, group: Group) -> Seen
+pub(crate) fn groups_at(s: &[u8], start: usize, missing: u32, group: Option<User>) -> Seen
     requires { Walkable (identities of.Identities) s.now start }
     ensures { Sees (identities of.Identities) (λ l. in_groups missing l group) (λ l. l.code) (bits s.now) start result }
 {
     match group {
-        Group::Of(user) => identities_at(s, start, missing, user),
-        Group::NoGroup => passed_over(s, start),
+        Some(user) => identities_at(s, start, missing, user),
+        None => passed_over(s, start),
     }
 }

@@ -11,10 +11,11 @@ ghost use Rattle.barring.specs.Decide.{decide_is};
 ghost use Rattle.barring.specs.Inner.{ruling_of_body};
 ghost use Rattle.in_place.specs.Inner.{settled_by, Judging, Ruled, JudgingAt};
 
+use archive::Refusal;
 use barring::{Decision, JudgingPart};
-use bits::BitCount;
 use identities::{groups_at, identities_at};
 use numbers::numbers_at;
+use rules::Cause;
 use rules::request::{Destination, Request};
 use services::services_at;
 
@@ -42,30 +43,30 @@ pub struct Passed {
 }
 
 // The first of rules 2 to 6 that applies, by what the lists say: groups, restricted, exceptions.
-fn settled(groups: Seen, restricted: Seen, exceptions: Seen) -> Decision
+fn settled(groups: Seen, restricted: Seen, exceptions: Seen) -> Option<Cause>
     ensures { result ≡ settled_by groups.has groups.empty restricted.has restricted.empty exceptions.has }
 {
     if exceptions.has {
-        return Decision::Allowed;
+        return None;
     }
     if restricted.has {
-        return Decision::Barred(rules::RESTRICTED_ADDRESS);
+        return Some(Cause::RestrictedAddress);
     }
     if groups.empty {
         if restricted.empty {
-            return Decision::Barred(rules::RESTRICTED_SERVICE);
+            return Some(Cause::RestrictedService);
         }
-        return Decision::Allowed;
+        return None;
     }
     if groups.has {
-        return Decision::Allowed;
+        return None;
     }
-    Decision::Barred(rules::OUTSIDE_GROUP)
+    Some(Cause::OutsideGroup)
 }
 
 // What a part says of a call of its user, whose network is the one that a missing extension means: services, groups, restricted and
 // exceptions in the PDU's order, each where the one before it ends.
-fn ruling_in(s: &[u8], request: Request) -> Decision
+fn ruling_in(s: &[u8], request: Request) -> Option<Cause>
     requires { Judging s.now request }
     ensures { Ruled s.now request result }
 {
@@ -77,7 +78,7 @@ fn ruling_in(s: &[u8], request: Request) -> Decision
         request.service,
     );
     if !services.has {
-        return Decision::Allowed;
+        return None;
     }
     let group = request.group;
     let destination = request.destination;
@@ -97,21 +98,23 @@ fn ruling_in(s: &[u8], request: Request) -> Decision
     }
 }
 
-// The same of the body of n bits at a place of the archive.
-fn ruling_of_body(archive: &[u8], at: usize, n: BitCount, request: Request) -> Decision
-    requires { JudgingAt archive.now at n.0 request }
-    ensures { result ≡ ruling_of_body archive.now at n.0 request }
+// The same of the body of a part in the archive.
+fn ruling_of_body(archive: &[u8], part: JudgingPart, request: Request) -> Option<Cause>
+    requires { JudgingAt archive.now part.at part.length.0 request }
+    ensures { result ≡ ruling_of_body archive.now part.at part.length.0 request }
 {
-    let end = at + n.bytes();
+    let at = part.at;
+    let length = part.length;
+    let end = at + length.bytes();
     ruling_in(&archive[at..end], request)
 }
 
 // Whether the archive bars the call: 9 before 7, then the part of the request's user.
-pub fn decide(archive: &[u8], request: Request) -> Decision
+pub fn decide(archive: &[u8], request: Request) -> Result<Decision, Refusal>
     ensures { result ≡ decide_is archive.now request }
 {
-    match barring::judging_part(archive, request) {
-        JudgingPart::At(at, n) => ruling_of_body(archive, at, n, request),
-        JudgingPart::Answered(decision) => decision,
+    match barring::judging_part(archive, request)? {
+        Some(part) => Ok(Decision::from(ruling_of_body(archive, part, request))),
+        None => Ok(Decision::NotHeld),
     }
 }

@@ -17,12 +17,10 @@ fn are_digits(s: &[u8], at: usize, count: usize, digits: [u8; 24]) -> bool
     requires { (count ≤ 24) × Walkable (places (element 4 digit_refusal) absent 24 count) s.now at }
     ensures { Says (places (element 4 digit_refusal) absent 24 count) (λ l. same (take count l) (take count digits)) (bits s.now) at result (at + 4 * count) }
 {
-    let mut i: usize = 0;
-    while i < count {
+    for i in 0..count {
         if bits::window(s, at + 4 * i) >> 53u32 != digits[i] as u64 {
             return false;
         }
-        i += 1;
     }
     true
 }
@@ -51,14 +49,12 @@ fn entries_at(s: &[u8], start: usize, count: u32, length: DigitCount, digits: [u
 {
     let mut has = false;
     let mut at = start;
-    let mut done = 0u32;
-    while done < count {
+    for _ in 0..count {
         let entry = number_at(s, at, length, digits);
         if entry.has {
             has = true;
         }
         at = entry.end;
-        done += 1;
     }
     Passed { has, end: at }
 }

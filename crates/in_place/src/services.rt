@@ -14,12 +14,10 @@ pub(crate) fn services_at(s: &[u8], at: usize, service: u32) -> Passed
     let window = bits::window(s, at);
     let count = (window >> 54u32) as usize;
     let end = at + 3 + 3 * count;
-    let mut i: usize = 0;
-    while i < count {
+    for i in 0..count {
         if rules::is_covering(((window >> (51 - 3 * i)) % 8) as u32, service) {
             return Passed { has: true, end };
         }
-        i += 1;
     }
     Passed { has: false, end }
 }

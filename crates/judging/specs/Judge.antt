@@ -1,11 +1,10 @@
 -- Which accepted PDUs an archive may hold, and what judging one says of it.
-use Rattle.std.specs.Prelude.{Bool, ◌&&◌, leb, eqb}
+use Rattle.std.specs.Prelude.{Bool, ◌&&◌, ℕ, leb, eqb, Option, Some, None}
 use Rattle.bits.specs.Bits.{pick}
 use Rattle.grammar.specs.declared.record.Record.{Record}
 use Rattle.walk.specs.Walk.{head_of}
 use Rattle.walk.specs.declared.Head.{Head}
-use Rattle.judging.specs.declared.Judged.{Judged}
-use Rattle.judging.specs.declared.Judged.TheVariants.{Part, Other}
+use Rattle.grammar.specs.declared.record.Identity.{Identity}
 
 -- an INTERROGATE ACK (PDU type 12), accepting (interrogation result 1 or 2), with affected range type 1
 abbrev pub holdable : Head → Bool
@@ -15,5 +14,5 @@ abbrev pub may_hold : Record → Bool
 may_hold r = holdable (head_of r)
 
 -- its user and its part, if an archive may hold it
-unfoldable pub judged_is : Head → Judged
-judged_is h = pick (holdable h) (Part h.user h.result) Other
+unfoldable pub judged_is : Head → Option (Identity × ℕ)
+judged_is h = pick (holdable h) (Some (h.user, h.result)) None

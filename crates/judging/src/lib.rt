@@ -7,28 +7,21 @@ ghost use Rattle.judging.specs.Judge.{judged_is};
 use grammar::record::Identity;
 use walk::Head;
 
-// A PDU that an archive may hold: its affected user and its interrogation result. Any other PDU is none.
-#[derive(Clone, Copy)]
-pub enum Judged {
-    Part(Identity, u32),
-    Other,
-}
-
-pub fn judge(head: Head) -> Judged
+// The affected user and the interrogation result of a PDU that an archive may hold; none for any other PDU.
+pub fn judge(head: Head) -> Option<(Identity, u32)>
     ensures { result ≡ judged_is head }
 {
     if head.kind != 12 {
-        return Judged::Other;
+        return None;
     }
     if head.result < 1 {
-        return Judged::Other;
+        return None;
     }
     if 2 < head.result {
-        return Judged::Other;
+        return None;
     }
     if head.code != 1 {
-        return Judged::Other;
+        return None;
     }
-    let user = head.user;
-    Judged::Part(user, head.result)
+    Some((head.user, head.result))
 }

@@ -6,6 +6,7 @@ use Prim.Native.Nat.{ℕ, ◌^◌, ◌<◌}
 use native.Mathlib.Omega.{arith}
 use lib.ListN.{get_or}
 use lib.Dec.{eqb}
+use Rattle.std.specs.Prelude.{Ok}
 use Rattle.bits.specs.Frame.{Framed}
 use Rattle.bits.specs.Lists.{Each}
 use Rattle.bits.proofs.Tests.{by-test}
@@ -18,20 +19,20 @@ use Rattle.grammar.specs.declared.record.Identity.{Identity}
 use Rattle.grammar.specs.declared.record.Identities.{Identities}
 use Rattle.grammar.specs.declared.record.Record.{Record}
 use Rattle.grammar.proofs.Rows.{in_rows}
-use Rattle.reader.specs.Read.{read_is}
-use Rattle.reader.specs.declared.Answer.TheVariants.{Accepted}
+use Rattle.reader.specs.Read.{answer_of, found_in, read_is}
+use Rattle.reader.proofs.Walked.{with-found}
 use Rattle.pdu.specs.Accepted.{accepted_as}
 use Rattle.pdu.proofs.RoundTrip as trip
 
-module _ (s : List ℕ) (n : ℕ) (e : (read_is s n).answer ≡ Accepted) where
-  with-record : read_is s n ≡ accepted_as (read_is s n).found
-  with-record = λ i. record { answer = e i; found = (read_is s n).found }
+module _ (s : List ℕ) (n : ℕ) (e : answer_of (read_is s n) ≡ Ok tt) where
+  with-record : read_is s n ≡ accepted_as (found_in (read_is s n))
+  with-record = with-found (read_is s n) e
 
   pub accepted-framed : Framed s n
-  accepted-framed = trip.accepted-framed s n (read_is s n).found with-record
+  accepted-framed = trip.accepted-framed s n (found_in (read_is s n)) with-record
 
-  pub accepted-legal : Legal pdu (read_is s n).found
-  accepted-legal = trip.accepted-legal s n (read_is s n).found with-record
+  pub accepted-legal : Legal pdu (found_in (read_is s n))
+  accepted-legal = trip.accepted-legal s n (found_in (read_is s n)) with-record
 
 -- ---- an identity's numbers have 24 bits
 
@@ -77,9 +78,9 @@ listed_small false l h =
 users-small : (r : Record) → Legal pdu r → Small (get_or r.affected.entries 0 zero_identity)
 users-small r h = listed_small (form_of (pdu_type r.kind)).users r.affected (legal-seq _ _ _ (row-legal r h)).0
 
-pub accepted-small : (s : List ℕ) (n : ℕ) → (read_is s n).answer ≡ Accepted
-    → ((get_or (read_is s n).found.affected.entries 0 zero_identity).ssi < 16777216)
-    × ((get_or (read_is s n).found.affected.entries 0 zero_identity).extension < 16777216)
+pub accepted-small : (s : List ℕ) (n : ℕ) → answer_of (read_is s n) ≡ Ok tt
+    → ((get_or (found_in (read_is s n)).affected.entries 0 zero_identity).ssi < 16777216)
+    × ((get_or (found_in (read_is s n)).affected.entries 0 zero_identity).extension < 16777216)
 accepted-small s n e =
-    let k = users-small (read_is s n).found (accepted-legal s n e) in
+    let k = users-small (found_in (read_is s n)) (accepted-legal s n e) in
     (k.ssi, k.extension)

@@ -1,5 +1,6 @@
 -- Demand 2: exactly the writings of legal records are accepted, each as its one record and with its one bit length; what was read is written
 -- as the same bits, and what was written is read as the same record. Assumes nothing.
+use Rattle.std.specs.Prelude.{Option, Some, None, ℕ, Ok}
 use mathlib.Core.Path.{◌≡◌, refl, sym, ap, ap₂, ◌∙◌}
 use mathlib.Core.Logic.{◌↔◌}
 use mathlib.Core.Bool.{Bool, true, ◌&&◌}
@@ -24,29 +25,24 @@ use Rattle.grammar.specs.SiteSheet.{ss_type, pdu_type, kind_refusal}
 use Rattle.grammar.specs.Grammar.{pdu, rest_of, from_record}
 use Rattle.grammar.specs.declared.record.Record.{Record}
 use Rattle.grammar.proofs.Sizes.{pdu-size}
-use Rattle.walk.specs.declared.BitPlace.{BitPlace}
-use Rattle.walk.specs.declared.BitPlace.TheVariants.{At, Nowhere}
-use Rattle.reader.specs.Read.{refusing, answered, read_is}
+use Rattle.reader.specs.Read.{found_in, refusing, answered, read_is}
 use Rattle.writer.specs.Write.{record_refusal, length_of, write_refusal, written, write_is, out_is}
-use Rattle.reader.specs.declared.Answer.TheVariants.{Accepted, Refused}
-use Rattle.reader.specs.declared.Reading.{Reading}
-use Rattle.writer.specs.declared.Written.TheVariants.{Bits}
 use Rattle.pdu.specs.Accepted.{accepted_as, WritingOf}
 
 -- ---- what is accepted
 
-refusing-not : {A : Type 0} (k : ℕ) (p : BitPlace) (r : Record) → refusing k p ≡ accepted_as r → A
-refusing-not k p r e = let f : Refused (record { number = k; place = p }) ≡ Accepted = ap (λ (x : Reading). x.answer) e in never cc
+refusing-not : {A : Type 0} (k : ℕ) (p : Option ℕ) (r : Record) → refusing k p ≡ accepted_as r → A
+refusing-not k p r e = never cc
 
 read_as : (l : List Bool) (r : Record) (o : Outcome Record) → whole_parse pdu l ≡ o → answered o ≡ accepted_as r → Legal pdu r × (l ≡ pdu.print r)
 read_as l r (ok a at left) e f =
-    let q : a ≡ r = ap (λ (x : Reading). x.found) f in
+    let q : a ≡ r = ap found_in f in
     rw q at (whole-sound pdu l a at left e)
-read_as l r (no k p) e f = refusing-not k (At p) r f
+read_as l r (no k p) e f = refusing-not k (Some p) r f
 
 framed-first : (s : List ℕ) (n : ℕ) (r : Record) → read_is s n ≡ accepted_as r → framed s n ≡ true
 unfolding read_is
-framed-first s n r e = (picked (framed s n) e (refusing-not 1 Nowhere r)).0
+framed-first s n r e = (picked (framed s n) e (refusing-not 1 None r)).0
 
 pub accepted-framed : (s : List ℕ) (n : ℕ) (r : Record) → read_is s n ≡ accepted_as r → Framed s n
 accepted-framed s n r e = framed-says s n (framed-first s n r e)
@@ -82,7 +78,7 @@ accepted_iff s n r b = (accepted-writing s n r b, writing-accepted s n r)
 -- and a PDU is the writing of one record only
 pub record_unique : (s : List ℕ) (n : ℕ) (r q : Record) → WritingOf s n r → WritingOf s n q → r ≡ q
 record_unique s n r q a b =
-    ap (λ (x : Reading). x.found) (sym (writing-accepted s n r a) ∙ writing-accepted s n q b)
+    ap found_in (sym (writing-accepted s n r a) ∙ writing-accepted s n q b)
 
 -- bytes that are accepted with n bits begin with that record, and it ends there, whatever stands behind it
 begins : (s : List ℕ) (n : ℕ) (r : Record) → read_is s n ≡ accepted_as r → pdu.parse 0 (bits s) ≡ ok r n (drop n (bits s))
@@ -125,18 +121,18 @@ legal_iff r = (
 module _ (r : Record) (out : List ℕ) where
   -- a legal record that has room is written, and the bytes after it stay
   pub written-legal : Legal pdu r → bytes_for (length_of r) ≤ length out
-      → (write_is r out ≡ Bits (record { 0 = length_of r })) × (out_is r out ≡ pack (pdu.print r) ++ drop (bytes_for (length_of r)) out)
+      → (write_is r out ≡ Ok (record { 0 = length_of r })) × (out_is r out ≡ pack (pdu.print r) ++ drop (bytes_for (length_of r)) out)
   unfolding write_is out_is write_refusal
   written-legal h room =
       let e : write_refusal r (length out) ≡ 0 = rw ((legal_iff r).1 h, le-leb (bytes_for (length_of r)) (length out) room) in
       (rw e, rw e)
 
-  written-fits : (k n : ℕ) → written (length_of r) k ≡ Bits (record { 0 = n }) → (k ≡ 0) × (n ≡ length_of r)
+  written-fits : (k n : ℕ) → written (length_of r) k ≡ Ok (record { 0 = n }) → (k ≡ 0) × (n ≡ length_of r)
   written-fits zero n e = let q : ◌≡◌ {A = BitCount} (record { 0 = length_of r }) (record { 0 = n }) = cc in (refl, sym (ap (λ (b : BitCount). b.0) q))
   written-fits (suc k) n e = never cc
 
   -- reading what was written gives the same record
-  pub read-written : (n : ℕ) → write_is r out ≡ Bits (record { 0 = n }) → read_is (take (bytes_for n) (out_is r out)) n ≡ accepted_as r
+  pub read-written : (n : ℕ) → write_is r out ≡ Ok (record { 0 = n }) → read_is (take (bytes_for n) (out_is r out)) n ≡ accepted_as r
   unfolding write_is out_is write_refusal
   read-written n e =
       let k = written-fits (write_refusal r (length out)) n e in
@@ -151,9 +147,9 @@ module _ (r : Record) (out : List ℕ) where
 
 -- writing what was read gives the same bits, in the same bytes
 pub written_read : (s : List ℕ) (n : ℕ) (r : Record) (out : List ℕ) → Bytes s → read_is s n ≡ accepted_as r → length s ≤ length out
-    → (write_is r out ≡ Bits (record { 0 = n })) × (out_is r out ≡ s ++ drop (length s) out)
+    → (write_is r out ≡ Ok (record { 0 = n })) × (out_is r out ≡ s ++ drop (length s) out)
 written_read s n r out b e room =
     let w = accepted-writing s n r b e in
     let l : length s ≡ bytes_for (length_of r) = ap length w.bytes ∙ length-pack (pdu.print r) in
     let k = written-legal r out w.legal (omega arith) in
-    (k.0 ∙ ap (λ (m : ℕ). Bits (record { 0 = m })) (sym w.size), k.1 ∙ ap₂ (λ (x : List ℕ) (m : ℕ). x ++ drop m out) (sym w.bytes) (sym l))
+    (k.0 ∙ ap (λ (m : ℕ). Ok (record { 0 = m })) (sym w.size), k.1 ∙ ap₂ (λ (x : List ℕ) (m : ℕ). x ++ drop m out) (sym w.bytes) (sym l))

@@ -3,6 +3,6 @@
 #![tactic(auto)]
 
 pub use grammar::record;
-pub use reader::{Answer, Reading, read, read_words};
-pub use walk::{BitPlace, Refusal};
-pub use writer::{Written, write, write_words};
+pub use reader::{read, read_words};
+pub use walk::Refusal;
+pub use writer::{write, write_words};

@@ -1,10 +1,9 @@
 -- The tests by which the calls know an archive, a body, a user and part say what document 01 says. Assumes nothing.
 use mathlib.Core.Path.{◌≡◌, refl, sym, ◌∙◌, subst}
 use mathlib.Core.Bool.{true}
-use mathlib.Core.Option.{none}
 use Prim.Native.Nat.{ℕ}
 use Rattle.bits.proofs.Tests.{differ, false-unless}
-use Rattle.reader.specs.Read.{read_is}
+use Rattle.reader.specs.Read.{found_in, read_is}
 use Rattle.judging.specs.Judge.{may_hold}
 use Rattle.archive.specs.Keeping.{entry_for}
 use Rattle.archive.proofs.Model.Bodies as bodies
@@ -37,7 +36,7 @@ promise = record {
   not_found = λ b ok k r. not_found k b ok r;
   no-entry = λ s n a. (
     λ m home e l. false-unless _ (λ x.
-        differ (sym (subst (λ (k : ℕ). may_hold (read_is s k).found ≡ true) l (bodies.agrees-says home (record { entry = e; body = s }) x).may) ∙ m)),
+        differ (sym (subst (λ (k : ℕ). may_hold (found_in (read_is s k)) ≡ true) l (bodies.agrees-says home (record { entry = e; body = s }) x).may) ∙ m)),
     λ none. false-unless _ (λ m. let e = entry_for 0 s n 0 in
         differ (sym (bodies.agrees-is 0 (record { entry = e; body = s }) (offered-agrees 0 s n 0 a m)) ∙ none 0 e refl)),
   );

@@ -1,42 +1,30 @@
 -- Each of the eleven calls for C keeps its promise, by those of the functions that it passes on. Assumes nothing.
+use Rattle.std.specs.Prelude.{Result, Ok, Err, None, ℕ}
 use mathlib.Core.Path.{◌≡◌, refl, sym, ap, ◌∙◌, subst}
 use mathlib.Core.Bool.{Bool, true, false}
 use mathlib.Core.List.{List, [], ◌∷◌, ◌++◌}
-use mathlib.Core.Option.{none}
 use Prim.Native.Nat.{ℕ}
 use native.Mathlib.Omega.{arith}
 use borrow.Author.Tests.{eqb-true, eq-eqb}
 use lib.ListN.{length}
 use lib.Dec.{eqb}
+use Rattle.std.proofs.Common.{Result, Ok, Err}
+use Rattle.bits.specs.declared.BitCount.{BitCount}
 use Rattle.bits.specs.Bits.{pick}
 use Rattle.bits.proofs.Tests.{differ, pick-ap, picked}
-use Rattle.walk.specs.declared.BitPlace.TheVariants.{Nowhere}
 use Rattle.walk.specs.declared.Refusal as pdu
-use Rattle.reader.specs.Read.{read_is, refusal_of}
+use Rattle.reader.specs.Read.{refusal_of, answer_of, found_in, read_is}
 use Rattle.reader.specs.Words.{read_words_is, read_words, if_accepted}
-use Rattle.reader.specs.declared.Answer.{Answer}
-use Rattle.reader.specs.declared.Answer.TheVariants as answer
 use Rattle.writer.specs.Write.{write_is, out_is, written_number}
-use Rattle.writer.specs.declared.Written.{Written}
-use Rattle.writer.specs.declared.Written.TheVariants as written
 use Rattle.rules.specs.Request.{request_refusal}
 use Rattle.archive.specs.Refusals.{plain}
 use Rattle.archive.specs.Checking.{check_is, if_archive}
 use Rattle.archive.specs.Keeping.{stored_refusal, empty_is}
 use Rattle.archive.specs.Restoring.{entry_is, listed_refusal, restored_refusal}
 use Rattle.archive.specs.declared.refusal.Refusal.{Refusal}
-use Rattle.archive.specs.declared.checking.Checked as checking
-use Rattle.archive.specs.declared.checking.Checked.TheVariants as checked
-use Rattle.archive.specs.declared.Stored.{Stored}
-use Rattle.archive.specs.declared.Stored.TheVariants as stored
-use Rattle.archive.specs.declared.Listed.{Listed}
-use Rattle.archive.specs.declared.Listed.TheVariants as listed
 use Rattle.archive.specs.declared.Restored.{Restored}
-use Rattle.archive.specs.declared.Restored.TheVariants as restored
 use Rattle.archive.specs.declared.contents.Key.{Key}
 use Rattle.reload.specs.Reload.{reloaded_refusal, reload_is}
-use Rattle.reload.specs.declared.Reloaded.{Reloaded}
-use Rattle.reload.specs.declared.Reloaded.TheVariants as reloaded
 use Rattle.reload.specs.declared.Definition.{Definition}
 use Rattle.reload.specs.declared.Target.{Target}
 use Rattle.words.specs.RecordWords.{record_words, record_from}
@@ -44,8 +32,8 @@ use Rattle.words.specs.RequestWords.{is_request, request_from}
 use Rattle.barring.specs.Decide.{part_in, decide_is}
 use Rattle.barring.specs.Decision.{decided_refusal}
 use Rattle.barring.specs.declared.Decision.{Decision}
-use Rattle.barring.specs.declared.Decision.TheVariants as decided
-use Rattle.boc.specs.Calls.{place_word, entry_word, read_place_of, written_length, write_number, write_out, write_bits}
+use Rattle.boc.specs.Calls.{place_word, read_place_of, written_length, write_number, write_out, write_bits}
+use Rattle.barring.specs.declared.Decision.TheVariants.{NotHeld}
 use Rattle.boc.specs.Calls.{stored_number, stored_length, stored_entry, stored_place, capture_answer, contents_answer}
 use Rattle.boc.specs.Calls.{listed_number, listed_key, listed_length, listed_day, listed_entry, listed_place, entry_answer}
 use Rattle.boc.specs.Calls.{restored_number, restored_length, restored_day, restored_entry, restored_place, key_of, restore_answer}
@@ -71,50 +59,49 @@ use Rattle.promises.proofs.Demand1.Reload as reload
 use Rattle.promises.proofs.Demand1.Listing as listing
 use Rattle.promises.proofs.Demand1.Decision as deciding
 use Rattle.promises.proofs.Calls.OfWords.{looked-at, request-of, of_request, given-record, asked}
+use Rattle.archive.specs.declared.contents.Entry.{Entry}
 pub mod OfWords
 
 -- ---- answers that are refusals
 
-written-refusal : (a : Written) → (written_number a ≡ 0 → ⊥) → (k : ℕ) × (a ≡ written.Refused k)
-written-refusal (written.Bits n) h = absurd (h refl)
-written-refusal (written.Refused k) h = (k, refl)
+written-refusal : (a : Result BitCount ℕ) → (written_number a ≡ 0 → ⊥) → (k : ℕ) × (a ≡ Err k)
+written-refusal (Ok n) h = absurd (h refl)
+written-refusal (Err k) h = (k, refl)
 
 module _ (old entry place : ℕ) where
-  stored-refusal : (a : Stored) → (stored_number a ≡ 0 → ⊥) → (f : Refusal) × (a ≡ stored.Refused f)
-      × (stored_length a old ≡ old) × (stored_entry a entry ≡ entry_word (stored_refusal a).entry) × (stored_place a place ≡ place_word (stored_refusal a).place)
-  stored-refusal (stored.Bytes n) h = absurd (h refl)
-  stored-refusal (stored.Refused f) h = (f, refl, refl, refl, refl)
+  stored-refusal : (a : Result ℕ Refusal) → (stored_number a ≡ 0 → ⊥) → (f : Refusal) × (a ≡ Err f)
+      × (stored_length a old ≡ old) × (stored_entry a entry ≡ place_word (stored_refusal a).entry) × (stored_place a place ≡ place_word (stored_refusal a).place)
+  stored-refusal (Ok n) h = absurd (h refl)
+  stored-refusal (Err f) h = (f, refl, refl, refl, refl)
 
-  stored-success : (a : Stored) {n : ℕ} → a ≡ stored.Bytes n → (stored_length a old ≡ n) × (stored_entry a entry ≡ entry) × (stored_place a place ≡ place)
+  stored-success : (a : Result ℕ Refusal) {n : ℕ} → a ≡ Ok n → (stored_length a old ≡ n) × (stored_entry a entry ≡ entry) × (stored_place a place ≡ place)
   stored-success a e =
-      (ap (λ (x : Stored). stored_length x old) e, ap (λ (x : Stored). stored_entry x entry) e, ap (λ (x : Stored). stored_place x place) e)
+      (ap (λ (x : Result ℕ Refusal). stored_length x old) e, ap (λ (x : Result ℕ Refusal). stored_entry x entry) e, ap (λ (x : Result ℕ Refusal). stored_place x place) e)
 
-  listed-refusal : (key : List ℕ) (old_day : ℕ) (a : Listed) → (listed_number a ≡ 0 → ⊥)
+  listed-refusal : (key : List ℕ) (old_day : ℕ) (a : Result Entry Refusal) → (listed_number a ≡ 0 → ⊥)
       → (listed_key a key ≡ key) × (listed_length a old ≡ old) × (listed_day a old_day ≡ old_day)
-      × (listed_entry a entry ≡ entry_word (listed_refusal a).entry) × (listed_place a place ≡ place_word (listed_refusal a).place)
-  listed-refusal key old_day (listed.Entry e) h = absurd (h refl)
-  listed-refusal key old_day (listed.Refused f) h = (refl, refl, refl, refl, refl)
+      × (listed_entry a entry ≡ place_word (listed_refusal a).entry) × (listed_place a place ≡ place_word (listed_refusal a).place)
+  listed-refusal key old_day (Ok e) h = absurd (h refl)
+  listed-refusal key old_day (Err f) h = (refl, refl, refl, refl, refl)
 
-  restored-refusal : (old_day : ℕ) (a : Restored) → (restored_number a ≡ 0 → ⊥) → (f : Refusal) × (a ≡ restored.Refused f)
+  restored-refusal : (old_day : ℕ) (a : Result Restored Refusal) → (restored_number a ≡ 0 → ⊥) → (f : Refusal) × (a ≡ Err f)
       × (restored_length a old ≡ old) × (restored_day a old_day ≡ old_day)
-      × (restored_entry a entry ≡ entry_word (restored_refusal a).entry) × (restored_place a place ≡ place_word (restored_refusal a).place)
-  restored-refusal old_day (restored.Bits n day) h = absurd (h refl)
-  restored-refusal old_day (restored.Refused f) h = (f, refl, refl, refl, refl, refl)
+      × (restored_entry a entry ≡ place_word (restored_refusal a).entry) × (restored_place a place ≡ place_word (restored_refusal a).place)
+  restored-refusal old_day (Ok r) h = absurd (h refl)
+  restored-refusal old_day (Err f) h = (f, refl, refl, refl, refl, refl)
 
-  reloaded-refusal : (a : Reloaded) → (reloaded_number a ≡ 0 → ⊥) → (f : Refusal) × (a ≡ reloaded.Refused f) × (reloaded_length a old ≡ old)
-      × (reloaded_entry a entry ≡ entry_word (reloaded_refusal a).entry) × (reloaded_place a place ≡ place_word (reloaded_refusal a).place)
-  reloaded-refusal (reloaded.Bits n) h = absurd (h refl)
-  reloaded-refusal (reloaded.Refused f) h = (f, refl, refl, refl, refl)
+  reloaded-refusal : (a : Result BitCount Refusal) → (reloaded_number a ≡ 0 → ⊥) → (f : Refusal) × (a ≡ Err f) × (reloaded_length a old ≡ old)
+      × (reloaded_entry a entry ≡ place_word (reloaded_refusal a).entry) × (reloaded_place a place ≡ place_word (reloaded_refusal a).place)
+  reloaded-refusal (Ok n) h = absurd (h refl)
+  reloaded-refusal (Err f) h = (f, refl, refl, refl, refl)
 
-  decided-refusal : (d : Decision) → (decided_number d ≡ 0 → ⊥) → (decided_verdict d old ≡ old)
-      × (decided_entry d entry ≡ entry_word (decided_refusal d).entry) × (decided_place d place ≡ place_word (decided_refusal d).place)
-  decided-refusal (decided.Barred cause) h = absurd (h refl)
-  decided-refusal decided.Allowed h = absurd (h refl)
-  decided-refusal decided.NotHeld h = absurd (h refl)
-  decided-refusal (decided.Refused f) h = (refl, refl, refl)
+  decided-refusal : (d : Result Decision Refusal) → (decided_number d ≡ 0 → ⊥) → (decided_verdict d old ≡ old)
+      × (decided_entry d entry ≡ place_word (decided_refusal d).entry) × (decided_place d place ≡ place_word (decided_refusal d).place)
+  decided-refusal (Ok d) h = absurd (h refl)
+  decided-refusal (Err f) h = (refl, refl, refl)
 
   -- a decision's number is told, and entry and place are left
-  decided-success : {n : ℕ} {d : Decision} → decision.Verdict n d → (decided_verdict d old ≡ n) × (decided_entry d entry ≡ entry) × (decided_place d place ≡ place)
+  decided-success : {n : ℕ} {d : Result Decision Refusal} → decision.Verdict n d → (decided_verdict d old ≡ n) × (decided_entry d entry ≡ entry) × (decided_place d place ≡ place)
   decided-success decision.outside-group = (refl, refl, refl)
   decided-success decision.restricted-service = (refl, refl, refl)
   decided-success decision.restricted-address = (refl, refl, refl)
@@ -125,16 +112,16 @@ module _ (old entry place : ℕ) where
 
 module _ (s : List ℕ) (n : ℕ) (w : List ℕ) (place : ℕ) where
   abbrev nine : pdu.Refusal
-  nine = read.told 9 Nowhere
+  nine = read.told 9 None
 
   table : Exactly read.number_of (refusal_of (read_words_is s n (length w))) (read.numbers ++ (9 ∷ []))
       (call.Checked nine (call.OfRecord w) (read.Given s n))
   unfolding read_words_is
   table =
       subst (λ (f : pdu.Refusal). Exactly read.number_of f (read.numbers ++ (9 ∷ [])) (call.Checked nine (call.OfRecord w) (read.Given s n)))
-      (sym (pick-ap refusal_of (eqb (length w) 520) (read_is s n).answer (answer.Refused nine)))
+      (sym (pick-ap refusal_of (eqb (length w) 520) (answer_of (read_is s n)) (Err nine)))
       (looked-at (eqb (length w) 520) (eqb-true (length w) 520) (eq-eqb (length w) 520) refl
-      (wider read.numbers (9 ∷ []) (refusal_of (read_is s n).answer).number) ((reading.promise).table s n))
+      (wider read.numbers (9 ∷ []) (refusal_of (answer_of (read_is s n))).number) ((reading.promise).table s n))
 
   pub read_kept : Read s n w place
   unfolding read_words_is read_words
@@ -144,15 +131,15 @@ module _ (s : List ℕ) (n : ℕ) (w : List ℕ) (place : ℕ) where
         let k = given-record s n (length w) e in
         let p = (reading.promise).success s n k.1 in
         (p.1, p.2, rw (k.0, p.0), rw (k.0, p.0));
-    refusal = bad (eqb (length w) 520) (read_is s n).answer;
+    refusal = bad (eqb (length w) 520) (answer_of (read_is s n));
   }
     where
-      bad : (t : Bool) (a : Answer) → ((refusal_of (pick t a (answer.Refused nine))).number ≡ 0 → ⊥)
-          → (pick t (if_accepted a (record_words (read_is s n).found) w) w ≡ w)
-          × (read_place_of (pick t a (answer.Refused nine)) place ≡ place_word (refusal_of (pick t a (answer.Refused nine))).place)
+      bad : (t : Bool) (a : Result Unit pdu.Refusal) → ((refusal_of (pick t a (Err nine))).number ≡ 0 → ⊥)
+          → (pick t (if_accepted a (record_words (found_in (read_is s n))) w) w ≡ w)
+          × (read_place_of (pick t a (Err nine)) place ≡ place_word (refusal_of (pick t a (Err nine))).place)
       bad false a h = (refl, refl)
-      bad true answer.Accepted h = absurd (h refl)
-      bad true (answer.Refused f) h = (refl, refl)
+      bad true (Ok tt) h = absurd (h refl)
+      bad true (Err f) h = (refl, refl)
 
 -- ---- boc_write
 
@@ -176,7 +163,7 @@ module _ (w out : List ℕ) (old : ℕ) where
       go false h = (refl, refl)
       go true h =
           let r = written-refusal (write_is (record_from w) out) h in
-          ((writing.promise).refusal (record_from w) out r.0 r.1, ap (λ (x : Written). written_length x old) r.1)
+          ((writing.promise).refusal (record_from w) out r.0 r.1, ap (λ (x : Result BitCount ℕ). written_length x old) r.1)
 
 -- ---- the archive's
 
@@ -207,7 +194,7 @@ module _ (b : List ℕ) (index : ℕ) (key : List ℕ) (old old_day entry place 
   unfolding entry_answer
   given-entry = go (eqb (length key) 3) refl
     where
-      go : (t : Bool) → eqb (length key) 3 ≡ t → listed_number (pick t (entry_is b index) (listed.Refused (plain 9))) ≡ 0
+      go : (t : Bool) → eqb (length key) 3 ≡ t → listed_number (pick t (entry_is b index) (Err (plain 9))) ≡ 0
           → (eqb (length key) 3 ≡ true) × (listed_number (entry_is b index) ≡ 0)
       go true f e = (f, e)
       go false f e = absurd (omega (arith, e))
@@ -217,7 +204,7 @@ module _ (b : List ℕ) (index : ℕ) (key : List ℕ) (old old_day entry place 
   entry_kept = record {
     table =
         subst (λ (f : Refusal). Exactly number_of f (0 ∷ 7 ∷ 11 ∷ 9 ∷ []) (call.Checked (plain 9) (length key ≡ 3) (entries.Given b index)))
-        (sym (pick-ap listed_refusal (eqb (length key) 3) (entry_is b index) (listed.Refused (plain 9))))
+        (sym (pick-ap listed_refusal (eqb (length key) 3) (entry_is b index) (Err (plain 9))))
         (looked-at (eqb (length key) 3) (eqb-true (length key) 3) (eq-eqb (length key) 3) refl
         (wider (0 ∷ 7 ∷ 11 ∷ []) (9 ∷ []) (listed_refusal (entry_is b index)).number) ((entries-kept.promise).table b index));
     success = λ e.
@@ -227,11 +214,11 @@ module _ (b : List ℕ) (index : ℕ) (key : List ℕ) (old old_day entry place 
           p.0,
           p.1,
           p.2,
-          ap (λ (x : Listed). listed_key x key) p.3,
-          ap (λ (x : Listed). listed_length x old) p.3,
-          ap (λ (x : Listed). listed_day x old_day) p.3,
-          ap (λ (x : Listed). listed_entry x entry) p.3,
-          ap (λ (x : Listed). listed_place x place) p.3,
+          ap (λ (x : Result Entry Refusal). listed_key x key) p.3,
+          ap (λ (x : Result Entry Refusal). listed_length x old) p.3,
+          ap (λ (x : Result Entry Refusal). listed_day x old_day) p.3,
+          ap (λ (x : Result Entry Refusal). listed_entry x entry) p.3,
+          ap (λ (x : Result Entry Refusal). listed_place x place) p.3,
         );
     refusal = listed-refusal old entry place key old_day (entry_answer b index (length key));
   }
@@ -246,10 +233,10 @@ module _ (b : List ℕ) (network ssi part : ℕ) (out : List ℕ) (old old_day e
           p.1,
           p.2,
           p.4,
-          ap (λ (x : Restored). restored_length x old) p.3,
-          ap (λ (x : Restored). restored_day x old_day) p.3,
-          ap (λ (x : Restored). restored_entry x entry) p.3,
-          ap (λ (x : Restored). restored_place x place) p.3,
+          ap (λ (x : Result Restored Refusal). restored_length x old) p.3,
+          ap (λ (x : Result Restored Refusal). restored_day x old_day) p.3,
+          ap (λ (x : Result Restored Refusal). restored_entry x entry) p.3,
+          ap (λ (x : Result Restored Refusal). restored_place x place) p.3,
         );
     refusal = λ h.
         let r = restored-refusal old entry place old_day (restore_answer b network ssi part out) h in
@@ -266,9 +253,9 @@ module _ (t : Target) (b : List ℕ) (key : Key) (d : Definition) (out : List �
           p.1,
           p.2,
           p.5,
-          ap (λ (x : Reloaded). reloaded_length x old) p.4,
-          ap (λ (x : Reloaded). reloaded_entry x entry) p.4,
-          ap (λ (x : Reloaded). reloaded_place x place) p.4,
+          ap (λ (x : Result BitCount Refusal). reloaded_length x old) p.4,
+          ap (λ (x : Result BitCount Refusal). reloaded_entry x entry) p.4,
+          ap (λ (x : Result BitCount Refusal). reloaded_place x place) p.4,
         );
     refusal = λ h.
         let r = reloaded-refusal old entry place (reload_is t b key d out) h in
@@ -291,18 +278,18 @@ module _ (b out : List ℕ) (old entry place : ℕ) where
 -- ---- boc_decide
 
 module _ (b w : List ℕ) (old entry place : ℕ) where
-  by-nothing : decided_number (decide_is b (request_from w)) ≡ 0 → part_in b (request_from w) ≡ none → decided_verdict (decide_is b (request_from w)) old ≡ 4
+  by-nothing : decided_number (decide_is b (request_from w)) ≡ 0 → part_in b (request_from w) ≡ None → decided_verdict (decide_is b (request_from w)) old ≡ 4
   unfolding decide_is
   by-nothing e h = rw h (go (eqb r 0) refl (check_is b) refl (rw h at e))
     where
       r : ℕ
       r = request_refusal (request_from w)
 
-      go : (p : Bool) → eqb r 0 ≡ p → (c : checking.Checked) → check_is b ≡ c
-          → decided_number (pick p (if_archive c decided.Refused decided.NotHeld) (decided.Refused (plain r))) ≡ 0
-          → decided_verdict (pick p (if_archive c decided.Refused decided.NotHeld) (decided.Refused (plain r))) old ≡ 4
-      go true f checked.Archive g e = refl
-      go true f (checked.Refused x) g e = absurd (omega (arith, seven (((broken.promise).refuses b x).0 g), e))
+      go : (p : Bool) → eqb r 0 ≡ p → (c : Result (Unit {0}) Refusal) → check_is b ≡ c
+          → decided_number (pick p (if_archive c Err (Ok NotHeld)) (Err (plain r))) ≡ 0
+          → decided_verdict (pick p (if_archive c Err (Ok NotHeld)) (Err (plain r))) old ≡ 4
+      go true f (Ok _) g e = refl
+      go true f (Err x) g e = absurd (omega (arith, seven (((broken.promise).refuses b x).0 g), e))
       go false f c g e = differ (sym (eq-eqb r 0 e) ∙ f)
 
   pub decide-kept : Decide b w old entry place
@@ -310,7 +297,7 @@ module _ (b w : List ℕ) (old entry place : ℕ) where
   decide-kept = record {
     table =
         subst (λ (f : Refusal). Exactly number_of f (0 ∷ 9 ∷ 7 ∷ []) (call.Checked (plain 9) (call.OfRequest w) (decision.Given b (request_from w))))
-        (sym (pick-ap decided_refusal (is_request w) (decide_is b (request_from w)) (decided.Refused (plain 9))))
+        (sym (pick-ap decided_refusal (is_request w) (decide_is b (request_from w)) (Err (plain 9))))
         (looked-at (is_request w) (request-of w) (of_request w) refl (λ x. x) ((deciding.promise).table b (request_from w)));
     success = λ e.
         let k = asked b w e in

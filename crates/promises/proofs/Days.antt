@@ -1,4 +1,5 @@
 -- A PDU that is held, captured on another day: the same archive but for that entry's day. Assumes nothing.
+use Rattle.std.specs.Prelude.{Ok}
 use mathlib.Core.Path.{◌≡◌, refl, sym, ap, ◌∙◌, subst}
 use mathlib.Core.Bool.{true}
 use mathlib.Core.List.{List, [], ◌∷◌, ◌++◌, append_assoc}
@@ -9,14 +10,12 @@ use borrow.Author.Tests.{le-leb, le-ltb, lt-ltb, eq-eqb}
 use Rattle.bits.specs.Bits.{Bytes, splice}
 use Rattle.bits.proofs.Tests.{both⁻¹}
 use Rattle.bits.proofs.Splices.{splice_at}
-use Rattle.reader.specs.Read.{read_is}
-use Rattle.reader.specs.declared.Answer.TheVariants as reader
+use Rattle.reader.specs.Read.{answer_of, found_in, read_is}
 use Rattle.judging.specs.Judge.{may_hold}
 use Rattle.archive.specs.Model.{Held, Archive, rank, bytes2, bytes3, header_bytes, entry_bytes, contents_of, bodies_of, bytes_of, length_of}
 use Rattle.archive.specs.Filing.{filed_key, keeps_rules}
 use Rattle.archive.specs.Reading.{reading, is_archive}
 use Rattle.archive.specs.Keeping.{over, put, held_for, captured, capture_is}
-use Rattle.archive.specs.declared.Stored.TheVariants as stored
 use Rattle.archive.proofs.Model.Bodies as bodies
 use Rattle.archive.proofs.Model.Rules.{kept, archive-formed}
 use Rattle.archive.proofs.Bytes.AsRead.{written_as-read}
@@ -97,7 +96,7 @@ module _ (b s : List ℕ) (n index day : ℕ) (y : Bytes b) (k : HoldsAt b s n i
   -- what the PDU is held as is what is held, on that day
   same : held_for home s n day ≡ on k.here day
   same =
-      let key = (λ i. filed_key home (read_is (sym k.body i) (sym k.bits i)).found) ∙ sym agrees.key in
+      let key = (λ i. filed_key home (found_in (read_is (sym k.body i) (sym k.bits i)))) ∙ sym agrees.key in
       λ i. record { entry = record { key = key i; bits = record { 0 = sym k.bits i }; day = day }; body = sym k.body i }
 
   captured-is : captured b s n day ≡ record { home = home; held = k.stands.before ++ (on k.here day ∷ k.stands.after) }
@@ -116,19 +115,19 @@ module _ (b s : List ℕ) (n index day : ℕ) (y : Bytes b) (k : HoldsAt b s n i
   many : length (captured b s n day).held ≡ length (reading b).held
   many = ap (λ (a : Archive). length a.held) captured-is ∙ as_many home k.stands.before k.here k.stands.after day ∙ sym (ap length held-is)
 
-  answer : (room : ℕ) → length b ≤ room → capture_is b s n day room ≡ stored.Bytes (length b)
+  answer : (room : ℕ) → length b ≤ room → capture_is b s n day room ≡ Ok (length b)
   answer room h =
       let f = archive-formed b ok in
-      let accepted = subst (λ (x : ℕ). (read_is s x).answer ≡ reader.Accepted) k.bits
-      (subst (λ (x : List ℕ). (read_is x k.here.entry.bits.0).answer ≡ reader.Accepted) k.body agrees.accepted) in
-      let may = subst (λ (x : ℕ). may_hold (read_is s x).found ≡ true) k.bits
-      (subst (λ (x : List ℕ). may_hold (read_is x k.here.entry.bits.0).found ≡ true) k.body agrees.may) in
+      let accepted = subst (λ (x : ℕ). answer_of (read_is s x) ≡ Ok tt) k.bits
+      (subst (λ (x : List ℕ). answer_of (read_is x k.here.entry.bits.0) ≡ Ok tt) k.body agrees.accepted) in
+      let may = subst (λ (x : ℕ). may_hold (found_in (read_is s x)) ≡ true) k.bits
+      (subst (λ (x : List ℕ). may_hold (found_in (read_is x k.here.entry.bits.0)) ≡ true) k.body agrees.may) in
       let small = (sound b ok).small in
       as-placed b s n day room dated ok accepted may
       ∙ sym (placed-whole (captured b s n day) room
       (both⁻¹ (le-leb (length (captured b s n day).held) 512 (omega (arith, many, f.few)))
       (le-leb (length_of (captured b s n day)) 65536 (omega (arith, size, small)))) (omega (arith, size, h)))
-      ∙ ap stored.Bytes size
+      ∙ ap Ok size
 
   bytes : bytes_of (captured b s n day) ≡ splice b (day_place index) (day / 256 ∷ day % 256 ∷ [])
   bytes =

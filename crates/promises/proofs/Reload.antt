@@ -1,18 +1,19 @@
 -- What a reload puts back is the part that is held. Assumes nothing.
+use Rattle.std.specs.Prelude.{Some}
 use mathlib.Core.Path.{◌≡◌, refl, sym, ap, ap₂, ◌∙◌, subst}
 use mathlib.Core.Logic.{◌↔◌}
 use mathlib.Core.Bool.{Bool, true, false}
 use mathlib.Core.List.{List, [], ◌∷◌, ◌++◌}
-use mathlib.Core.Option.{some}
 use Prim.Native.Nat.{ℕ}
 use lib.ListN.{take, drop}
+use Rattle.std.proofs.Common.{Result, Ok, Err}
 use Rattle.bits.specs.Frame.{bytes_for, pack}
+use Rattle.bits.specs.declared.BitCount.{BitCount}
 use Rattle.bits.proofs.Frames.{length-pack}
 use Rattle.bits.proofs.Tests.{differ}
 use Rattle.grammar.specs.Grammar.{pdu}
 use Rattle.grammar.specs.declared.record.Record.{Record}
-use Rattle.reader.specs.Read.{read_is}
-use Rattle.reader.specs.declared.Reading.{Reading}
+use Rattle.reader.specs.Read.{found_in, read_is}
 use Rattle.writer.specs.Write.{written_number, length_of, out_is}
 use Rattle.rules.specs.Rule.{six_rules, ruling}
 use Rattle.rules.specs.declared.request.Request.{Request}
@@ -24,8 +25,6 @@ use Rattle.archive.specs.Refusals.{plain}
 use Rattle.archive.specs.Restoring.{lookup}
 use Rattle.archive.specs.declared.contents.Key.{Key}
 use Rattle.archive.specs.declared.refusal.Refusal.{Refusal}
-use Rattle.reload.specs.declared.Reloaded.{Reloaded}
-use Rattle.reload.specs.declared.Reloaded.TheVariants.{Bits, Refused}
 use Rattle.reload.specs.Define.{define_of, stands}
 use Rattle.reload.specs.Reload.{reloaded_refusal, record_of, reload_is, reload_out}
 use Rattle.reload.specs.declared.Definition.{Definition}
@@ -74,11 +73,11 @@ puts_back t d part x e = record {
 module _ (t : Target) (b : List ℕ) (key : Key) (d : Definition) (out : List ℕ) where
   -- ---- what was written reads back
 
-  module _ (n : ℕ) (e : reload_is t b key d out ≡ Bits (record { 0 = n })) (k : IsArchive b) (h : Held) (x : Holds b key k h) where
+  module _ (n : ℕ) (e : reload_is t b key d out ≡ Ok (record { 0 = n })) (k : IsArchive b) (h : Held) (x : Holds b key k h) where
     done : Success t b key d out
-    done = succeeded t b key d out (ap (λ (x : Reloaded). (reloaded_refusal x).number) e)
+    done = succeeded t b key d out (ap (λ (x : Result BitCount Refusal). (reloaded_refusal x).number) e)
 
-    found_as : lookup key (reading b).held ≡ some h
+    found_as : lookup key (reading b).held ≡ Some h
     found_as = holds b key done.ranged k h x
 
     abbrev define : Record
@@ -87,14 +86,14 @@ module _ (t : Target) (b : List ℕ) (key : Key) (d : Definition) (out : List �
     -- what was written is the DEFINE of the PDU that is held
     same : defined t b key d done.held ≡ define
     same =
-        let one : some done.held ≡ some h = sym (holds b key done.ranged done.archive done.held done.holds) ∙ found_as in
+        let one : Some done.held ≡ Some h = sym (holds b key done.ranged done.archive done.held done.holds) ∙ found_as in
         let held : done.held ≡ h = cc one in
         ap (defined t b key d) held
 
     back : read_is (take (bytes_for n) (reload_out t b key d out)) n ≡ accepted_as define
     back =
         let y = defined t b key d done.held in
-        let size : length_of y ≡ n = ap (λ (a : Reloaded). reloaded_length a 0) (sym done.is ∙ e) in
+        let size : length_of y ≡ n = ap (λ (a : Result BitCount Refusal). reloaded_length a 0) (sym done.is ∙ e) in
         let left : out_is y out ≡ reload_out t b key d out =
         ((writing.promise).success y out (ap written_number done.wrote)).1
         ∙ ap (λ (m : ℕ). pack (pdu.print y) ++ drop m out) (sym (length-pack (pdu.print y))) ∙ sym done.left in
@@ -104,7 +103,7 @@ module _ (t : Target) (b : List ℕ) (key : Key) (d : Definition) (out : List �
         ∙ ap accepted_as same
 
     record-back : read_back t b key d out n ≡ define
-    record-back = ap (λ (x : Reading). x.found) back
+    record-back = ap found_in back
 
     accepting : Holdable (record_of h)
     accepting = (may_be-held _).0 (held-agrees b ((archives.is-archive b).1 k) key found_as).may
@@ -113,14 +112,14 @@ module _ (t : Target) (b : List ℕ) (key : Key) (d : Definition) (out : List �
 
   module _ (r : Ranged key) (a : Asked d) (k : IsArchive b) (h : Held) (x : Holds b key k h) where
     -- with lists that stand the number is one of writing's
-    not-lost : stands t d.definition (record_of h).lists ≡ true → reload_is t b key d out ≡ Refused (plain 12) → ⊥
+    not-lost : stands t d.definition (record_of h).lists ≡ true → reload_is t b key d out ≡ Err (plain 12) → ⊥
     not-lost s e =
         let w = defined t b key d h in
         let twelve : writes.number w out ≡ 12 =
         ap (λ (f : Refusal). f.number) (sym (wrote-number t b key d out r a k h x (is-standing t _ _ s)) ∙ ap reloaded_refusal e) in
         differ (sym (subst (OneOf (0 ∷ 3 ∷ 4 ∷ 8 ∷ [])) twelve ((writing.promise).table w out).listed))
 
-    lost-exactly : (reload_is t b key d out ≡ Refused (plain 12)) ↔ ((y : Record) → Puttable t d (record_of h) y → ⊥)
+    lost-exactly : (reload_is t b key d out ≡ Err (plain 12)) ↔ ((y : Record) → Puttable t d (record_of h) y → ⊥)
     unfolding define_of
     lost-exactly = (
       λ e y p. not-lost (ap₂ (stands t) (sym p.2) (sym p.3) ∙ define-stands t y p.0 p.1) e,
@@ -128,9 +127,9 @@ module _ (t : Target) (b : List ℕ) (key : Key) (d : Definition) (out : List �
     )
       where
         go : (f : Bool) → stands t d.definition (record_of h).lists ≡ f → ((y : Record) → Puttable t d (record_of h) y → ⊥)
-            → reload_is t b key d out ≡ Refused (plain 12)
+            → reload_is t b key d out ≡ Err (plain 12)
         go true s none = absurd (none (defined t b key d h) (legal t b key d out r a k h x (is-standing t _ _ s), refl, refl, refl))
-        go false s none = found t b key d out r a k (some h) (is_held t b key d out r a k h x) ∙ rw s
+        go false s none = found t b key d out r a k (Some h) (is_held t b key d out r a k h x) ∙ rw s
 
 pub promise : (t : Target) (b : List ℕ) (key : Key) (d : Definition) (out : List ℕ) → Promise t b key d out
 promise t b key d out = record {

@@ -8,6 +8,7 @@ use native.Mathlib.Omega.{arith}
 use lib.ListN.{take, drop}
 use lib.Dec.{leb, ltb}
 use borrow.Author.Tests.{leb-true, le-leb, ltb-true, lt-ltb, eqb-true, eq-eqb}
+use Rattle.std.proofs.Common.{Option, Some, None}
 use Rattle.bits.specs.Bits.{pick}
 use Rattle.bits.specs.Lists.{every, Each}
 use Rattle.bits.proofs.Tests.{both, both⁻¹, picked}
@@ -17,8 +18,6 @@ use Rattle.rules.specs.Request.{is_user, is_service, is_destination, is_group, i
 use Rattle.rules.specs.declared.request.User.{User}
 use Rattle.rules.specs.declared.request.Destination.{Destination}
 use Rattle.rules.specs.declared.request.Destination.TheVariants.{Identity, Number}
-use Rattle.rules.specs.declared.request.Group.{Group}
-use Rattle.rules.specs.declared.request.Group.TheVariants.{Of, NoGroup}
 use Rattle.rules.specs.declared.request.Request.{Request}
 use Rattle.promises.specs.Demand1.Decision.{Below, Reached, Grouped, used, Ranged}
 
@@ -47,10 +46,10 @@ unfolding is_destination
 destination-test (Identity u) = user-test u
 destination-test (Number length) = between-test 1 24 length.0
 
-group-test : (g : Group) → (is_group g ≡ true) ↔ Grouped g
+group-test : (g : Option User) → (is_group g ≡ true) ↔ Grouped g
 unfolding is_group
-group-test (Of u) = user-test u
-group-test NoGroup = (λ e. tt, λ h. refl)
+group-test (Some u) = user-test u
+group-test None = (λ e. tt, λ h. refl)
 
 -- ---- the digit places
 

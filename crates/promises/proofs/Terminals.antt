@@ -1,5 +1,6 @@
 -- Terminals keep their promise. Assumes nothing.
 use mathlib.Core.Path.{sym, ◌∙◌}
+use Rattle.std.proofs.lemmas.Option.{same_Some}
 use Rattle.terminals.proofs.Grammar.{says-reads}
 use Rattle.promises.specs.Terminals.{Promise}
 use Rattle.promises.proofs.Terminals.Places.{every}
@@ -14,7 +15,7 @@ pub mod Text
 
 pub promise : Promise
 promise = record {
-  one-reading = λ s l m x y. sym (says-reads x) ∙ says-reads y;
+  one-reading = λ s l m x y. same_Some l m (sym (says-reads x) ∙ says-reads y);
   places = every;
   resets = reset-kept;
   lines = line_kept;

@@ -1,16 +1,17 @@
 -- What is promised of visitors: a part that judges is filed under the network of the user who calls. Assumes nothing.
+use Rattle.std.specs.Prelude.{Result, Ok, Err, Option, None, Some}
 use mathlib.Core.Path.{◌≡◌, refl, sym, ap, ◌∙◌}
 use mathlib.Core.Logic.{◌⊎◌, inl, inr}
 use mathlib.Core.Bool.{Bool, true, false}
 use mathlib.Core.List.{List}
-use mathlib.Core.Option.{Option, none, some}
 use Prim.Native.Nat.{ℕ}
 use lib.Dec.{eqb}
+use Rattle.std.proofs.Common.{Result, Ok, Err}
 use borrow.Author.Tests.{eq-eqb, eqb-true}
 use Rattle.bits.specs.Bits.{pick, guard}
 use Rattle.grammar.specs.Grammar.{network_of}
 use Rattle.grammar.specs.declared.record.Record.{Record}
-use Rattle.reader.specs.Read.{read_is}
+use Rattle.reader.specs.Read.{found_in, read_is}
 use Rattle.rules.specs.Request.{request_refusal}
 use Rattle.rules.specs.Rule.{missing_in, ruling, six_rules}
 use Rattle.rules.specs.declared.request.Destination.{Destination}
@@ -20,15 +21,13 @@ use Rattle.archive.specs.Model.{Held}
 use Rattle.archive.specs.Reading.{reading, is_archive}
 use Rattle.archive.specs.Refusals.{plain}
 use Rattle.archive.specs.Checking.{check_is, if_archive}
-use Rattle.archive.specs.declared.checking.Checked.{Checked}
-use Rattle.archive.specs.declared.checking.Checked.TheVariants as checked
+use Rattle.archive.specs.declared.refusal.Refusal.{Refusal}
 use Rattle.archive.proofs.Model.Checked.{checked-archive}
 use Rattle.archive.proofs.Model.Found.{held-agrees, held-named}
 use Rattle.archive.specs.declared.contents.Key.{Key}
 use Rattle.barring.specs.Decide.{part_for, key_for, judged_by, part_in, decide_is}
 use Rattle.barring.specs.Decision.{decision_of}
 use Rattle.barring.specs.declared.Decision.{Decision}
-use Rattle.barring.specs.declared.Decision.TheVariants.{Refused}
 use Rattle.promises.specs.Archive.{affected_user}
 use Rattle.promises.specs.Archive as said
 use Rattle.promises.specs.Visitors.{judged_with, decide_with, Promise}
@@ -77,27 +76,27 @@ module _ (b : List ℕ) (q : Request) where
 
     -- the part held for the user who calls is of that user's network
     judged : (l : Option Held) → part_in b q ≡ l → judged_by (reading b).home q l ≡ judged_with q.user.network q l
-    judged none e = refl
-    judged (some h) e =
+    judged None e = refl
+    judged (Some h) e =
         let home = (reading b).home in
-        let r = (read_is h.body h.entry.bits.0).found in
+        let r = found_in (read_is h.body h.entry.bits.0) in
         let n : missing_in home r ≡ q.user.network =
         ap (λ (k : Key). k.network) (sym (held-agrees b ok (key_for q) e).key ∙ held-named b ok (key_for q) e (ranged-is (key_for q) ranged)) in
         ap decision_of (read-with home r q q.user.network n)
 
   -- the answer, after the two tests
-  abbrev after : Bool → Checked → Decision → Decision
-  after t c d = guard t (Refused (plain (request_refusal q))) (if_archive c Refused d)
+  abbrev after : Bool → Result (Unit {0}) Refusal → Decision → Result Decision Refusal
+  after t c d = guard t (Err (plain (request_refusal q))) (if_archive c Err (Ok d))
 
   callers-network : decide_is b q ≡ decide_with q.user.network b q
   unfolding decide_is
   callers-network = go (eqb (request_refusal q) 0) refl (check_is b) refl
     where
-      go : (t : Bool) → eqb (request_refusal q) 0 ≡ t → (c : Checked) → check_is b ≡ c
+      go : (t : Bool) → eqb (request_refusal q) 0 ≡ t → (c : Result (Unit {0}) Refusal) → check_is b ≡ c
           → after t c (judged_by (reading b).home q (part_in b q)) ≡ after t c (judged_with q.user.network q (part_in b q))
       go false e c f = refl
-      go true e (checked.Refused x) f = refl
-      go true e checked.Archive f = judged (eqb-true _ _ e) (checked-archive b f) (part_in b q) refl
+      go true e (Err x) f = refl
+      go true e (Ok _) f = ap (λ (d : Decision). after true (Ok _) d) (judged (eqb-true _ _ e) (checked-archive b f) (part_in b q) refl)
 
   home-user : q.user.network ≡ (reading b).home → decide_is b q ≡ decide_with (reading b).home b q
   home-user e = callers-network ∙ ap (λ (n : ℕ). decide_with n b q) e

@@ -1,8 +1,7 @@
 -- An archive in document 01's words, with plain numbers: which archives keep the rules, which bytes are one (otherwise 7), that they have one
 -- reading and a true count, and what is held for a user and part.
-use Rattle.std.specs.Prelude.{◌≡◌, ◌↔◌, ◌⊎◌, true, false, ℕ, ◌+◌, ◌*◌, ◌/◌, ◌≤◌, ◌<◌, length, get_or, take, drop}
+use Rattle.std.specs.Prelude.{◌≡◌, ◌↔◌, ◌⊎◌, true, false, ℕ, ◌+◌, ◌*◌, ◌/◌, ◌≤◌, ◌<◌, length, get_or, take, drop, None, Some, Ok}
 use mathlib.Core.List.{List, [], ◌∷◌, ◌++◌, Memᴰ}
-use Rattle.std.proofs.Math.Option.{none, some}
 use Rattle.bits.specs.Bits.{Bytes}
 use Rattle.bits.specs.Frame.{Framed, bits_in}
 use Rattle.bits.specs.Lists.{Each}
@@ -10,9 +9,8 @@ use Rattle.codec.specs.Codec.{Legal}
 use Rattle.grammar.specs.Grammar.{pdu, zero_identity}
 use Rattle.grammar.specs.declared.record.Identity.{Identity}
 use Rattle.grammar.specs.declared.record.Record.{Record}
-use Rattle.reader.specs.Read.{read_is}
+use Rattle.reader.specs.Read.{answer_of, found_in, read_is}
 use Rattle.pdu.specs.Accepted.{accepted_as}
-use Rattle.reader.specs.declared.Answer.TheVariants.{Accepted}
 use Rattle.judging.specs.Judge.{may_hold}
 use Rattle.archive.specs.Model.{Held, Archive, bytes_of, in_range}
 use Rattle.archive.specs.Filing.{body_agrees, well_formed}
@@ -138,9 +136,9 @@ pub record Promise : Type 0 where
   pub in-range : (k : Key) → (in_range k ≡ true) ↔ Ranged k
   -- A lookup finds the entry of that network, SSI and part, or there is none.
   pub found : (b : List ℕ) → is_archive b ≡ true → (k : Key) → Ranged k → (h : Held)
-      → (lookup k (reading b).held ≡ some h) ↔ HeldFor (reading b).held k h
+      → (lookup k (reading b).held ≡ Some h) ↔ HeldFor (reading b).held k h
   pub not_found : (b : List ℕ) → is_archive b ≡ true → (k : Key) → Ranged k
-      → (lookup k (reading b).held ≡ none) ↔ ((h : Held) → HeldFor (reading b).held k h → ⊥)
+      → (lookup k (reading b).held ≡ None) ↔ ((h : Held) → HeldFor (reading b).held k h → ⊥)
   -- A legal PDU may not be held exactly if it agrees with no entry of its bit length, whatever the home network.
-  pub no-entry : (s : List ℕ) (n : ℕ) → (read_is s n).answer ≡ Accepted → (may_hold (read_is s n).found ≡ false)
+  pub no-entry : (s : List ℕ) (n : ℕ) → answer_of (read_is s n) ≡ Ok tt → (may_hold (found_in (read_is s n)) ≡ false)
       ↔ ((home : ℕ) (e : Entry) → e.bits.0 ≡ n → body_agrees home (record { entry = e; body = s }) ≡ false)

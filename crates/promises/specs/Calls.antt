@@ -1,13 +1,11 @@
 -- Demand 1 as C meets it, about the eleven calls of include/boc.h: each returns 0 or a number of its list, exactly then. If it is not 0, the
 -- lent memory and the length, day or decision behind its pointer are what they were, and the pointers to entry and place hold those of the refusal,
 -- or BOC_NOWHERE; if it is 0, its pointer holds exactly the length, the day or the decision, and entry and place are what they were.
-use Rattle.std.specs.Prelude.{◌≡◌, List, [], ◌∷◌, ◌++◌, ℕ, length, drop}
-use Rattle.std.proofs.Math.Option.{none}
+use Rattle.std.specs.Prelude.{◌≡◌, List, [], ◌∷◌, ◌++◌, ℕ, length, drop, None}
 use Rattle.bits.specs.Frame.{bytes_for, bits_in, pack}
 use Rattle.codec.specs.Codec.{Legal}
 use Rattle.grammar.specs.Grammar.{pdu}
-use Rattle.walk.specs.declared.BitPlace.TheVariants as bit
-use Rattle.reader.specs.Read.{refusal_of, read_is}
+use Rattle.reader.specs.Read.{refusal_of, found_in, read_is}
 use Rattle.reader.specs.Words.{read_words_is, read_words}
 use Rattle.writer.specs.Write.{length_of}
 use Rattle.archive.specs.Model.{Held, bytes_of}
@@ -26,7 +24,7 @@ use Rattle.words.specs.RecordWords.{word, record_words, record_from}
 use Rattle.words.specs.RequestWords.{request_from}
 use Rattle.barring.specs.Decide.{part_in, decide_is}
 use Rattle.barring.specs.Decision.{decided_refusal}
-use Rattle.boc.specs.Calls.{place_word, entry_word, read_number, read_place, write_number, write_out, write_bits, empty_number, empty_length}
+use Rattle.boc.specs.Calls.{place_word, read_number, read_place, write_number, write_out, write_bits, empty_number, empty_length}
 use Rattle.boc.specs.Calls.{stored_number, stored_length, stored_entry, stored_place, capture_answer, contents_answer}
 use Rattle.boc.specs.Calls.{listed_number, listed_key, listed_length, listed_day, listed_entry, listed_place, entry_answer}
 use Rattle.boc.specs.Calls.{restored_number, restored_length, restored_day, restored_entry, restored_place, key_of, restore_answer}
@@ -76,9 +74,9 @@ pub record OfRequest (w : List ℕ) : Type 0 where
 -- boc_read: 0, 9 for another count of words than 520, and the numbers of reading
 pub record Read (pdu' : List ℕ) (bits : ℕ) (words : List ℕ) (place : ℕ) : Type 1 where
   pub table : Exactly reading.number_of (refusal_of (read_words_is pdu' bits (length words))) (reading.numbers ++ (9 ∷ []))
-      (Checked (reading.told 9 bit.Nowhere) (OfRecord words) (reading.Given pdu' bits))
+      (Checked (reading.told 9 None) (OfRecord words) (reading.Given pdu' bits))
   -- the words are those of the legal record whose writing the PDU is
-  pub success : read_number pdu' bits (length words) ≡ 0 → let r = (read_is pdu' bits).found in
+  pub success : read_number pdu' bits (length words) ≡ 0 → let r = found_in (read_is pdu' bits) in
       Legal pdu r × (bits_in bits pdu' ≡ pdu.print r) × (read_words pdu' bits words ≡ record_words r)
       × (read_place pdu' bits (length words) place ≡ place)
   pub refusal : (read_number pdu' bits (length words) ≡ 0 → ⊥)
@@ -109,7 +107,7 @@ pub record Capture (archive pdu' : List ℕ) (bits day : ℕ) (out : List ℕ) (
   pub refusal : let answer = capture_answer archive pdu' bits day out in
       (stored_number answer ≡ 0 → ⊥) → let f = stored_refusal answer in
       (capture_out archive pdu' bits day out ≡ out) × (stored_length answer old ≡ old)
-      × (stored_entry answer entry ≡ entry_word f.entry) × (stored_place answer place ≡ place_word f.place)
+      × (stored_entry answer entry ≡ place_word f.entry) × (stored_place answer place ≡ place_word f.place)
 
 -- boc_entry: 0, 9 for another count of words than 3, 7, 11
 pub record Entry (archive : List ℕ) (index : ℕ) (key : List ℕ) (old old_day entry place : ℕ) : Type 0 where
@@ -125,7 +123,7 @@ pub record Entry (archive : List ℕ) (index : ℕ) (key : List ℕ) (old old_da
   pub refusal : let answer = entry_answer archive index (length key) in
       (listed_number answer ≡ 0 → ⊥) → let f = listed_refusal answer in
       (listed_key answer key ≡ key) × (listed_length answer old ≡ old) × (listed_day answer old_day ≡ old_day)
-      × (listed_entry answer entry ≡ entry_word f.entry) × (listed_place answer place ≡ place_word f.place)
+      × (listed_entry answer entry ≡ place_word f.entry) × (listed_place answer place ≡ place_word f.place)
 
 -- boc_restore
 pub record Restore (archive : List ℕ) (network ssi part : ℕ) (out : List ℕ) (old old_day entry place : ℕ) : Type 0 where
@@ -141,7 +139,7 @@ pub record Restore (archive : List ℕ) (network ssi part : ℕ) (out : List ℕ
   pub refusal : let answer = restore_answer archive network ssi part out in
       (restored_number answer ≡ 0 → ⊥) → let f = restored_refusal answer in
       (restore_out archive (key_of network ssi part) out ≡ out) × (restored_length answer old ≡ old) × (restored_day answer old_day ≡ old_day)
-      × (restored_entry answer entry ≡ entry_word f.entry) × (restored_place answer place ≡ place_word f.place)
+      × (restored_entry answer entry ≡ place_word f.entry) × (restored_place answer place ≡ place_word f.place)
 
 -- a part put back by a call: what it answers is reload_is, what it leaves reload_out
 pub record Reloads (t : Target) (archive : List ℕ) (key : Key) (d : Definition) (out : List ℕ) (old entry place : ℕ) : Type 0 where
@@ -155,7 +153,7 @@ pub record Reloads (t : Target) (archive : List ℕ) (key : Key) (d : Definition
   pub refusal : let answer = reload_is t archive key d out in
       (reloaded_number answer ≡ 0 → ⊥) → let f = reloaded_refusal answer in
       (reload_out t archive key d out ≡ out) × (reloaded_length answer old ≡ old)
-      × (reloaded_entry answer entry ≡ entry_word f.entry) × (reloaded_place answer place ≡ place_word f.place)
+      × (reloaded_entry answer entry ≡ place_word f.entry) × (reloaded_place answer place ≡ place_word f.place)
 
 -- boc_reload: a DEFINE of either part
 abbrev pub Reload : List ℕ → ℕ → ℕ → ℕ → ℕ → ℕ → ℕ → List ℕ → ℕ → ℕ → ℕ → Type 0
@@ -177,10 +175,10 @@ pub record Decide (archive words : List ℕ) (old entry place : ℕ) : Type 0 wh
       × (decided_entry answer entry ≡ entry) × (decided_place answer place ≡ place)
   -- a part that is not held gives 4 and nothing else
   pub not-held : let answer = decide_answer archive words in
-      decided_number answer ≡ 0 → part_in archive (request_from words) ≡ none → decided_verdict answer old ≡ 4
+      decided_number answer ≡ 0 → part_in archive (request_from words) ≡ None → decided_verdict answer old ≡ 4
   pub refusal : let answer = decide_answer archive words in
       (decided_number answer ≡ 0 → ⊥) → let f = decided_refusal answer in
-      (decided_verdict answer old ≡ old) × (decided_entry answer entry ≡ entry_word f.entry) × (decided_place answer place ≡ place_word f.place)
+      (decided_verdict answer old ≡ old) × (decided_entry answer entry ≡ place_word f.entry) × (decided_place answer place ≡ place_word f.place)
 
 -- boc_contents
 pub record Contents (archive out : List ℕ) (old entry place : ℕ) : Type 0 where
@@ -193,4 +191,4 @@ pub record Contents (archive out : List ℕ) (old entry place : ℕ) : Type 0 wh
   pub refusal : let answer = contents_answer archive out in
       (stored_number answer ≡ 0 → ⊥) → let f = stored_refusal answer in
       (list_out archive out ≡ out) × (stored_length answer old ≡ old)
-      × (stored_entry answer entry ≡ entry_word f.entry) × (stored_place answer place ≡ place_word f.place)
+      × (stored_entry answer entry ≡ place_word f.entry) × (stored_place answer place ≡ place_word f.place)

@@ -1,6 +1,7 @@
 -- Each number that a call for C can return is met, and the decisions of profile A, as antt computes them.
-use Rattle.std.specs.Prelude.{◌≡◌, refl, List, [], ◌∷◌, ◌++◌, ℕ, take, drop, replicate}
+use Rattle.std.specs.Prelude.{◌≡◌, refl, List, [], ◌∷◌, ◌++◌, ℕ, take, drop, replicate, Result}
 use Rattle.bits.specs.Bits.{bits}
+use Rattle.bits.specs.declared.BitCount.{BitCount}
 use Rattle.bits.specs.Frame.{framed}
 use Rattle.grammar.specs.Grammar.{grammar}
 use Rattle.grammar.specs.ProfileRecords.{asking}
@@ -12,11 +13,10 @@ use Rattle.rules.specs.Rule.{rules}
 use Rattle.archive.specs.Model.{in_range}
 use Rattle.archive.specs.Filing.{filing_of, body_agrees}
 use Rattle.archive.specs.Restoring.{held_nth, entry_is, restore_is}
-use Rattle.archive.specs.Listing.{digits, decimal, item, two_items, first_line, lines, listing, list_is}
-use Rattle.archive.specs.declared.Stored.{Stored}
-use Rattle.archive.specs.declared.Listed.{Listed}
+use Rattle.archive.specs.Listing.{two_items, first_line, lines, listing, list_is}
+use Rattle.archive.specs.declared.refusal.Refusal.{Refusal}
+use Rattle.text.specs.Decimal.{digits, decimal, item}
 use Rattle.archive.specs.declared.Restored.{Restored}
-use Rattle.reload.specs.declared.Reloaded.{Reloaded}
 use Rattle.archive.specs.Examples.{calls, profile_a, bytes_a}
 use Rattle.words.specs.RecordWords.{record_words, records}
 use Rattle.words.specs.RequestWords as request
@@ -30,6 +30,7 @@ use Rattle.boc.specs.Calls.{listed_number, listed_key, listed_length, listed_day
 use Rattle.boc.specs.Calls.{restored_number, restored_length, restored_day, restored_entry, restored_place, restore_answer}
 use Rattle.boc.specs.Calls.{reloaded_number, reloaded_length, reloaded_entry, reloaded_place, reload_answer, external_answer}
 use Rattle.boc.specs.Calls.{decided_number, decided_verdict, decided_entry, decided_place, decide_answer}
+use Rattle.archive.specs.declared.contents.Entry.{Entry}
 
 -- the PDU of an INTERROGATE, one for the users 200 to 199, and so many zeros: 5 of them are an archive that holds nothing
 abbrev asked : List ℕ
@@ -77,19 +78,19 @@ unfolding calls
 empty-length = refl
 
 -- number, entry and place of what boc_capture, boc_entry, boc_restore, boc_reload, boc_reload_external, boc_contents and boc_decide answer; a success leaves 77
-abbrev stored : Stored → List ℕ
+abbrev stored : Result ℕ Refusal → List ℕ
 stored a = stored_number a ∷ stored_entry a 77 ∷ stored_place a 77 ∷ []
 
-abbrev listed : Listed → List ℕ
+abbrev listed : Result Entry Refusal → List ℕ
 listed a = listed_number a ∷ listed_entry a 77 ∷ listed_place a 77 ∷ []
 
-abbrev restored : Restored → List ℕ
+abbrev restored : Result Restored Refusal → List ℕ
 restored a = restored_number a ∷ restored_entry a 77 ∷ restored_place a 77 ∷ []
 
-abbrev reloaded : Reloaded → List ℕ
+abbrev reloaded : Result BitCount Refusal → List ℕ
 reloaded a = reloaded_number a ∷ reloaded_entry a 77 ∷ reloaded_place a 77 ∷ []
 
-abbrev decided : Decision → List ℕ
+abbrev decided : Result Decision Refusal → List ℕ
 decided d = decided_number d ∷ decided_entry d 77 ∷ decided_place d 77 ∷ []
 
 -- profile A's archive with a bit of A's PDU type flipped, which is then 4, and with the entry of another user

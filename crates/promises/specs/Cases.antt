@@ -1,6 +1,6 @@
 -- Worked cases of the six rules, as lists that antt computes beside the profiles: services, single entries and ranges with and without
 -- extension, groups, external numbers, visitors; and decisions from the bytes of an archive. Home network 1, user 1/5, visitor 2/5.
-use Rattle.std.specs.Prelude.{◌≡◌, refl, List, [], ◌∷◌, ◌++◌, map, ℕ, ◌-◌, length, replicate}
+use Rattle.std.specs.Prelude.{◌≡◌, refl, List, [], ◌∷◌, ◌++◌, map, ℕ, ◌-◌, length, replicate, Option, Some, None, Ok}
 use Rattle.grammar.specs.Grammar.{zero_identity}
 use Rattle.grammar.specs.Figures.{of_interrogation}
 use Rattle.grammar.specs.Zero.{zero_identities, zero_number, zero_numbers}
@@ -12,13 +12,12 @@ use Rattle.grammar.specs.declared.record.Numbers.{Numbers}
 use Rattle.grammar.specs.declared.record.Lists.{Lists}
 use Rattle.grammar.specs.declared.record.Record.{Record}
 use Rattle.rules.specs.Request.{requests}
-use Rattle.rules.specs.Rule.{rules}
+use Rattle.rules.specs.Rule.{allowed, barred, rules}
 use Rattle.rules.specs.ProfileCalls.{speech, circuit_data, short_data, visitor_speech}
 use Rattle.rules.specs.declared.request.Destination.TheVariants as to
-use Rattle.rules.specs.declared.request.Group.{Group}
-use Rattle.rules.specs.declared.request.Group.TheVariants.{Of, NoGroup}
+use Rattle.rules.specs.declared.request.User.{User}
 use Rattle.rules.specs.declared.request.Request.{Request}
-use Rattle.rules.specs.declared.Ruling.TheVariants.{Allowed, Barred}
+use Rattle.rules.specs.declared.Cause.TheVariants.{OutsideGroup, RestrictedService, RestrictedAddress}
 use Rattle.archive.specs.Filing.{filing_of, body_agrees}
 use Rattle.archive.specs.Examples.{calls, bytes_a}
 use Rattle.barring.specs.Decide.{part_for, decide_is}
@@ -131,11 +130,11 @@ eight_numbers = map (λ d. d ∷ []) (1 ∷ 2 ∷ 3 ∷ 4 ∷ 5 ∷ 6 ∷ 7 ∷ 
 
 -- ---- calls of user 1/5
 
-abbrev group : ℕ → ℕ → Group
-group network ssi = Of (record { network = network; ssi = ssi })
+abbrev group : ℕ → ℕ → Option User
+group network ssi = Some (record { network = network; ssi = ssi })
 
 -- to an external number, by a service and by speech
-abbrev dial_by : ℕ → List ℕ → Group → Request
+abbrev dial_by : ℕ → List ℕ → Option User → Request
 dial_by service digits g = record {
   user = record { network = 1; ssi = 5 };
   service = service;
@@ -144,7 +143,7 @@ dial_by service digits g = record {
   group = g;
 }
 
-abbrev dial : List ℕ → Group → Request
+abbrev dial : List ℕ → Option User → Request
 dial = dial_by 1
 
 -- ---- the cases
@@ -152,162 +151,162 @@ dial = dial_by 1
 -- rule 1: which services a part lists; a part without entries bars what it lists with cause 1
 abbrev listed_services : List Case
 listed_services =
-    decides (bare (0 ∷ [])) (speech 1 9 NoGroup) (Barred 1)  -- 0 is every service
-    ∷ decides (bare (0 ∷ [])) (circuit_data 1 9 NoGroup) (Barred 1)
-    ∷ decides (bare (0 ∷ [])) (short_data 1 9 NoGroup) (Barred 1)
-    ∷ decides (bare (1 ∷ [])) (speech 1 9 NoGroup) (Barred 1)  -- this service
-    ∷ decides (bare (1 ∷ [])) (circuit_data 1 9 NoGroup) Allowed  -- another
-    ∷ decides (bare (1 ∷ [])) (short_data 1 9 NoGroup) Allowed  -- a place that is not used lists no service 0
-    ∷ decides (bare (2 ∷ 3 ∷ [])) (speech 1 9 NoGroup) Allowed
-    ∷ decides (bare (2 ∷ 3 ∷ [])) (circuit_data 1 9 NoGroup) (Barred 1)  -- the first of two
-    ∷ decides (bare (2 ∷ 3 ∷ [])) (short_data 1 9 NoGroup) (Barred 1)  -- the second
-    ∷ decides (bare (1 ∷ 1 ∷ 1 ∷ 1 ∷ 1 ∷ 1 ∷ 2 ∷ [])) (circuit_data 1 9 NoGroup) (Barred 1)  -- the seventh
-    ∷ decides (bare (1 ∷ 1 ∷ 1 ∷ 1 ∷ 1 ∷ 1 ∷ 0 ∷ [])) (short_data 1 9 NoGroup) (Barred 1)  -- 0 in the seventh place
-    ∷ decides (bare (1 ∷ [])) (speech 1 9 (group 1 500)) (Barred 1)  -- rule 5, whatever the group
+    decides (bare (0 ∷ [])) (speech 1 9 None) (barred RestrictedService)  -- 0 is every service
+    ∷ decides (bare (0 ∷ [])) (circuit_data 1 9 None) (barred RestrictedService)
+    ∷ decides (bare (0 ∷ [])) (short_data 1 9 None) (barred RestrictedService)
+    ∷ decides (bare (1 ∷ [])) (speech 1 9 None) (barred RestrictedService)  -- this service
+    ∷ decides (bare (1 ∷ [])) (circuit_data 1 9 None) allowed  -- another
+    ∷ decides (bare (1 ∷ [])) (short_data 1 9 None) allowed  -- a place that is not used lists no service 0
+    ∷ decides (bare (2 ∷ 3 ∷ [])) (speech 1 9 None) allowed
+    ∷ decides (bare (2 ∷ 3 ∷ [])) (circuit_data 1 9 None) (barred RestrictedService)  -- the first of two
+    ∷ decides (bare (2 ∷ 3 ∷ [])) (short_data 1 9 None) (barred RestrictedService)  -- the second
+    ∷ decides (bare (1 ∷ 1 ∷ 1 ∷ 1 ∷ 1 ∷ 1 ∷ 2 ∷ [])) (circuit_data 1 9 None) (barred RestrictedService)  -- the seventh
+    ∷ decides (bare (1 ∷ 1 ∷ 1 ∷ 1 ∷ 1 ∷ 1 ∷ 0 ∷ [])) (short_data 1 9 None) (barred RestrictedService)  -- 0 in the seventh place
+    ∷ decides (bare (1 ∷ [])) (speech 1 9 (group 1 500)) (barred RestrictedService)  -- rule 5, whatever the group
     ∷ []
 
 -- single entries: without extension, with the home network spelt out, of other networks
 abbrev single_entries : List Case
 single_entries =
-    decides singles (speech 1 7 NoGroup) (Barred 2)  -- no extension: the home network
-    ∷ decides singles (speech 2 7 NoGroup) Allowed
-    ∷ decides singles (speech 1 8 NoGroup) (Barred 2)  -- the home network spelt out
-    ∷ decides singles (speech 2 8 NoGroup) Allowed
-    ∷ decides singles (speech 2 9 NoGroup) (Barred 2)  -- another network
-    ∷ decides singles (speech 1 9 NoGroup) Allowed
-    ∷ decides singles (speech 0 10 NoGroup) (Barred 2)  -- network 0, which is not "no extension"
-    ∷ decides singles (speech 1 10 NoGroup) Allowed
-    ∷ decides singles (speech 1 0 NoGroup) Allowed  -- a place that is not used is no entry
-    ∷ decides eight (speech 1 11 NoGroup) (Barred 2)  -- the first of eight
-    ∷ decides eight (speech 1 18 NoGroup) (Barred 2)  -- the eighth
-    ∷ decides eight (speech 1 19 NoGroup) Allowed
-    ∷ decides eight (speech 1 12 NoGroup) Allowed  -- excepted, the first of a range
-    ∷ decides eight (speech 1 13 NoGroup) Allowed  -- excepted, the last of a range
-    ∷ decides eight (speech 1 14 NoGroup) (Barred 2)  -- beyond the excepted range
+    decides singles (speech 1 7 None) (barred RestrictedAddress)  -- no extension: the home network
+    ∷ decides singles (speech 2 7 None) allowed
+    ∷ decides singles (speech 1 8 None) (barred RestrictedAddress)  -- the home network spelt out
+    ∷ decides singles (speech 2 8 None) allowed
+    ∷ decides singles (speech 2 9 None) (barred RestrictedAddress)  -- another network
+    ∷ decides singles (speech 1 9 None) allowed
+    ∷ decides singles (speech 0 10 None) (barred RestrictedAddress)  -- network 0, which is not "no extension"
+    ∷ decides singles (speech 1 10 None) allowed
+    ∷ decides singles (speech 1 0 None) allowed  -- a place that is not used is no entry
+    ∷ decides eight (speech 1 11 None) (barred RestrictedAddress)  -- the first of eight
+    ∷ decides eight (speech 1 18 None) (barred RestrictedAddress)  -- the eighth
+    ∷ decides eight (speech 1 19 None) allowed
+    ∷ decides eight (speech 1 12 None) allowed  -- excepted, the first of a range
+    ∷ decides eight (speech 1 13 None) allowed  -- excepted, the last of a range
+    ∷ decides eight (speech 1 14 None) (barred RestrictedAddress)  -- beyond the excepted range
     ∷ []
 
 -- ranges of another network; exceptions with extension
 abbrev ranges_abroad : List Case
 ranges_abroad =
-    decides abroad (speech 2 99 NoGroup) Allowed
-    ∷ decides abroad (speech 2 100 NoGroup) (Barred 2)  -- the first
-    ∷ decides abroad (speech 2 199 NoGroup) (Barred 2)  -- the last
-    ∷ decides abroad (speech 2 200 NoGroup) Allowed
-    ∷ decides abroad (speech 1 150 NoGroup) Allowed  -- the home network is not in it
-    ∷ decides abroad (speech 2 150 NoGroup) Allowed  -- excepted
-    ∷ decides abroad (speech 2 160 NoGroup) (Barred 2)  -- excepted in the home network only
+    decides abroad (speech 2 99 None) allowed
+    ∷ decides abroad (speech 2 100 None) (barred RestrictedAddress)  -- the first
+    ∷ decides abroad (speech 2 199 None) (barred RestrictedAddress)  -- the last
+    ∷ decides abroad (speech 2 200 None) allowed
+    ∷ decides abroad (speech 1 150 None) allowed  -- the home network is not in it
+    ∷ decides abroad (speech 2 150 None) allowed  -- excepted
+    ∷ decides abroad (speech 2 160 None) (barred RestrictedAddress)  -- excepted in the home network only
     ∷ []
 
 -- groups: no extension, another network, the home network spelt out; none restricted
 abbrev group_lists : List Case
 group_lists =
-    decides grouped (speech 1 9 (group 1 500)) Allowed  -- its group is in the list
-    ∷ decides grouped (speech 1 9 (group 2 500)) (Barred 0)  -- another network
-    ∷ decides grouped (speech 1 9 (group 2 600)) Allowed  -- with extension
-    ∷ decides grouped (speech 1 9 (group 1 600)) (Barred 0)
-    ∷ decides grouped (speech 1 9 (group 1 700)) Allowed  -- the home network spelt out
-    ∷ decides grouped (speech 1 9 (group 1 501)) (Barred 0)
-    ∷ decides grouped (speech 1 9 NoGroup) (Barred 0)  -- the call has none
-    ∷ decides grouped (speech 1 7 NoGroup) Allowed  -- an exception needs no group
-    ∷ decides grouped (circuit_data 1 9 NoGroup) Allowed  -- nor does a service that is not listed
-    ∷ decides C (speech 1 8 NoGroup) (Barred 2)  -- restricted comes before the group
-    ∷ decides A (speech 1 99 (group 1 500)) Allowed  -- an empty group list asks for none
+    decides grouped (speech 1 9 (group 1 500)) allowed  -- its group is in the list
+    ∷ decides grouped (speech 1 9 (group 2 500)) (barred OutsideGroup)  -- another network
+    ∷ decides grouped (speech 1 9 (group 2 600)) allowed  -- with extension
+    ∷ decides grouped (speech 1 9 (group 1 600)) (barred OutsideGroup)
+    ∷ decides grouped (speech 1 9 (group 1 700)) allowed  -- the home network spelt out
+    ∷ decides grouped (speech 1 9 (group 1 501)) (barred OutsideGroup)
+    ∷ decides grouped (speech 1 9 None) (barred OutsideGroup)  -- the call has none
+    ∷ decides grouped (speech 1 7 None) allowed  -- an exception needs no group
+    ∷ decides grouped (circuit_data 1 9 None) allowed  -- nor does a service that is not listed
+    ∷ decides C (speech 1 8 None) (barred RestrictedAddress)  -- restricted comes before the group
+    ∷ decides A (speech 1 99 (group 1 500)) allowed  -- an empty group list asks for none
     ∷ []
 
 -- a range of groups
 abbrev group_ranges : List Case
 group_ranges =
-    decides ranged (speech 1 9 (group 1 499)) (Barred 0)
-    ∷ decides ranged (speech 1 9 (group 1 500)) Allowed  -- the first
-    ∷ decides ranged (speech 1 9 (group 1 509)) Allowed  -- the last
-    ∷ decides ranged (speech 1 9 (group 1 510)) (Barred 0)
-    ∷ decides ranged (speech 1 9 (group 2 505)) (Barred 0)  -- another network
+    decides ranged (speech 1 9 (group 1 499)) (barred OutsideGroup)
+    ∷ decides ranged (speech 1 9 (group 1 500)) allowed  -- the first
+    ∷ decides ranged (speech 1 9 (group 1 509)) allowed  -- the last
+    ∷ decides ranged (speech 1 9 (group 1 510)) (barred OutsideGroup)
+    ∷ decides ranged (speech 1 9 (group 2 505)) (barred OutsideGroup)  -- another network
     ∷ []
 
 -- number parts: restricted, excepted, both, and neither
 abbrev number_lists : List Case
 number_lists =
-    decides (number_part [] (n112 ∷ []) []) (dial n112 NoGroup) (Barred 2)  -- restricted
-    ∷ decides (number_part [] (n112 ∷ []) []) (dial n113 NoGroup) Allowed  -- another number
-    ∷ decides (number_part [] [] (n112 ∷ [])) (dial n112 NoGroup) Allowed  -- excepted
-    ∷ decides (number_part [] [] (n112 ∷ [])) (dial n113 NoGroup) (Barred 1)  -- no groups, none restricted
-    ∷ decides (number_part [] (n112 ∷ n113 ∷ []) (n112 ∷ [])) (dial n112 NoGroup) Allowed  -- restricted and excepted
-    ∷ decides (number_part [] (n112 ∷ n113 ∷ []) (n112 ∷ [])) (dial n113 NoGroup) (Barred 2)  -- the second of two
-    ∷ decides (number_part [] (n112 ∷ n113 ∷ []) (n112 ∷ [])) (dial n114 NoGroup) Allowed
-    ∷ decides (number_part [] [] []) (dial n112 NoGroup) (Barred 1)  -- both lists empty
-    ∷ decides (number_part [] [] []) (dial_by 2 n112 NoGroup) Allowed  -- a service that is not listed
-    ∷ decides (number_part (at 500 ∷ []) (n112 ∷ []) []) (dial n113 (group 1 500)) Allowed  -- in the group
-    ∷ decides (number_part (at 500 ∷ []) (n112 ∷ []) []) (dial n113 (group 1 501)) (Barred 0)
-    ∷ decides (number_part (at 500 ∷ []) (n112 ∷ []) []) (dial n113 NoGroup) (Barred 0)  -- the call has none
-    ∷ decides (number_part (at 500 ∷ []) (n112 ∷ []) []) (dial n112 (group 1 500)) (Barred 2)  -- restricted comes first
-    ∷ decides (number_part (at 500 ∷ []) [] (n112 ∷ [])) (dial n113 (group 1 500)) Allowed  -- none restricted, but groups
-    ∷ decides (number_part (at 500 ∷ []) [] (n112 ∷ [])) (dial n112 NoGroup) Allowed  -- an exception needs no group
+    decides (number_part [] (n112 ∷ []) []) (dial n112 None) (barred RestrictedAddress)  -- restricted
+    ∷ decides (number_part [] (n112 ∷ []) []) (dial n113 None) allowed  -- another number
+    ∷ decides (number_part [] [] (n112 ∷ [])) (dial n112 None) allowed  -- excepted
+    ∷ decides (number_part [] [] (n112 ∷ [])) (dial n113 None) (barred RestrictedService)  -- no groups, none restricted
+    ∷ decides (number_part [] (n112 ∷ n113 ∷ []) (n112 ∷ [])) (dial n112 None) allowed  -- restricted and excepted
+    ∷ decides (number_part [] (n112 ∷ n113 ∷ []) (n112 ∷ [])) (dial n113 None) (barred RestrictedAddress)  -- the second of two
+    ∷ decides (number_part [] (n112 ∷ n113 ∷ []) (n112 ∷ [])) (dial n114 None) allowed
+    ∷ decides (number_part [] [] []) (dial n112 None) (barred RestrictedService)  -- both lists empty
+    ∷ decides (number_part [] [] []) (dial_by 2 n112 None) allowed  -- a service that is not listed
+    ∷ decides (number_part (at 500 ∷ []) (n112 ∷ []) []) (dial n113 (group 1 500)) allowed  -- in the group
+    ∷ decides (number_part (at 500 ∷ []) (n112 ∷ []) []) (dial n113 (group 1 501)) (barred OutsideGroup)
+    ∷ decides (number_part (at 500 ∷ []) (n112 ∷ []) []) (dial n113 None) (barred OutsideGroup)  -- the call has none
+    ∷ decides (number_part (at 500 ∷ []) (n112 ∷ []) []) (dial n112 (group 1 500)) (barred RestrictedAddress)  -- restricted comes first
+    ∷ decides (number_part (at 500 ∷ []) [] (n112 ∷ [])) (dial n113 (group 1 500)) allowed  -- none restricted, but groups
+    ∷ decides (number_part (at 500 ∷ []) [] (n112 ∷ [])) (dial n112 None) allowed  -- an exception needs no group
     ∷ []
 
 -- numbers match if all digits and the length are equal
 abbrev number_digits : List Case
 number_digits =
-    decides (number_part [] (n112 ∷ []) []) (dial (1 ∷ 1 ∷ []) NoGroup) Allowed  -- shorter
-    ∷ decides (number_part [] (n112 ∷ []) []) (dial (1 ∷ 1 ∷ 2 ∷ 0 ∷ []) NoGroup) Allowed  -- longer by a zero
-    ∷ decides (number_part [] (n112 ∷ []) []) (dial (2 ∷ 1 ∷ 2 ∷ []) NoGroup) Allowed  -- the first digit differs
-    ∷ decides (number_part [] (n112 ∷ []) []) (dial (1 ∷ 0 ∷ 2 ∷ []) NoGroup) Allowed  -- the second differs
-    ∷ decides (number_part [] (n112 ∷ []) []) (dial (2 ∷ 1 ∷ 1 ∷ []) NoGroup) Allowed  -- the same digits in another order
-    ∷ decides (number_part [] ((1 ∷ 0 ∷ []) ∷ []) []) (dial (1 ∷ []) NoGroup) Allowed  -- shorter by a zero
-    ∷ decides (number_part [] ((1 ∷ 0 ∷ []) ∷ []) []) (dial (1 ∷ 0 ∷ []) NoGroup) (Barred 2)
-    ∷ decides (number_part [] ((10 ∷ 11 ∷ 12 ∷ 0 ∷ []) ∷ []) []) (dial (10 ∷ 11 ∷ 12 ∷ 0 ∷ []) NoGroup) (Barred 2)  -- * # + 0
-    ∷ decides (number_part [] ((10 ∷ 11 ∷ 12 ∷ 0 ∷ []) ∷ []) []) (dial (11 ∷ 10 ∷ 12 ∷ 0 ∷ []) NoGroup) Allowed  -- # * + 0
-    ∷ decides (number_part [] ((12 ∷ 4 ∷ 4 ∷ []) ∷ []) []) (dial (0 ∷ 4 ∷ 4 ∷ []) NoGroup) Allowed  -- +44 is not 044
-    ∷ decides (number_part [] (replicate 24 9 ∷ []) []) (dial (replicate 24 9) NoGroup) (Barred 2)  -- 24 digits
-    ∷ decides (number_part [] (replicate 24 9 ∷ []) []) (dial (replicate 23 9 ++ (8 ∷ [])) NoGroup) Allowed  -- the last of them differs
-    ∷ decides (number_part [] (replicate 24 9 ∷ []) []) (dial (replicate 23 9) NoGroup) Allowed  -- one less
-    ∷ decides (number_part [] eight_numbers []) (dial (8 ∷ []) NoGroup) (Barred 2)  -- the eighth number
-    ∷ decides (number_part [] eight_numbers []) (dial (9 ∷ []) NoGroup) Allowed
+    decides (number_part [] (n112 ∷ []) []) (dial (1 ∷ 1 ∷ []) None) allowed  -- shorter
+    ∷ decides (number_part [] (n112 ∷ []) []) (dial (1 ∷ 1 ∷ 2 ∷ 0 ∷ []) None) allowed  -- longer by a zero
+    ∷ decides (number_part [] (n112 ∷ []) []) (dial (2 ∷ 1 ∷ 2 ∷ []) None) allowed  -- the first digit differs
+    ∷ decides (number_part [] (n112 ∷ []) []) (dial (1 ∷ 0 ∷ 2 ∷ []) None) allowed  -- the second differs
+    ∷ decides (number_part [] (n112 ∷ []) []) (dial (2 ∷ 1 ∷ 1 ∷ []) None) allowed  -- the same digits in another order
+    ∷ decides (number_part [] ((1 ∷ 0 ∷ []) ∷ []) []) (dial (1 ∷ []) None) allowed  -- shorter by a zero
+    ∷ decides (number_part [] ((1 ∷ 0 ∷ []) ∷ []) []) (dial (1 ∷ 0 ∷ []) None) (barred RestrictedAddress)
+    ∷ decides (number_part [] ((10 ∷ 11 ∷ 12 ∷ 0 ∷ []) ∷ []) []) (dial (10 ∷ 11 ∷ 12 ∷ 0 ∷ []) None) (barred RestrictedAddress)  -- * # + 0
+    ∷ decides (number_part [] ((10 ∷ 11 ∷ 12 ∷ 0 ∷ []) ∷ []) []) (dial (11 ∷ 10 ∷ 12 ∷ 0 ∷ []) None) allowed  -- # * + 0
+    ∷ decides (number_part [] ((12 ∷ 4 ∷ 4 ∷ []) ∷ []) []) (dial (0 ∷ 4 ∷ 4 ∷ []) None) allowed  -- +44 is not 044
+    ∷ decides (number_part [] (replicate 24 9 ∷ []) []) (dial (replicate 24 9) None) (barred RestrictedAddress)  -- 24 digits
+    ∷ decides (number_part [] (replicate 24 9 ∷ []) []) (dial (replicate 23 9 ++ (8 ∷ [])) None) allowed  -- the last of them differs
+    ∷ decides (number_part [] (replicate 24 9 ∷ []) []) (dial (replicate 23 9) None) allowed  -- one less
+    ∷ decides (number_part [] eight_numbers []) (dial (8 ∷ []) None) (barred RestrictedAddress)  -- the eighth number
+    ∷ decides (number_part [] eight_numbers []) (dial (9 ∷ []) None) allowed
     ∷ []
 
 -- visitor 2/5: single entries and groups without extension are of network 2
 abbrev visitor_entries : List Case
 visitor_entries =
-    decides (singles_of (of 2 5)) (visitor_speech 2 7 (group 2 500)) (Barred 2)  -- no extension: the visitor's network
-    ∷ decides (singles_of (of 2 5)) (visitor_speech 1 7 (group 2 500)) Allowed  -- and not the home network
-    ∷ decides (singles_of (of 2 5)) (visitor_speech 1 8 (group 2 500)) (Barred 2)  -- the home network spelt out
-    ∷ decides (singles_of (of 2 5)) (visitor_speech 2 8 (group 2 500)) Allowed
-    ∷ decides (singles_of (of 2 5)) (visitor_speech 2 9 (group 2 500)) (Barred 2)  -- the visitor's network spelt out
-    ∷ decides (singles_of (of 2 5)) (visitor_speech 1 9 (group 2 500)) Allowed
-    ∷ decides (singles_of (of 2 5)) (visitor_speech 2 12 NoGroup) Allowed  -- an exception of the visitor's network
-    ∷ decides (singles_of (of 2 5)) (visitor_speech 1 12 NoGroup) (Barred 0)  -- not one of the home network
-    ∷ decides (singles_of (of 2 5)) (visitor_speech 2 10 (group 2 500)) Allowed  -- a group of the visitor's network
-    ∷ decides (singles_of (of 2 5)) (visitor_speech 2 10 (group 1 500)) (Barred 0)  -- not of the home network
-    ∷ decides (singles_of (of 2 5)) (visitor_speech 2 10 (group 1 600)) Allowed  -- the home network spelt out
-    ∷ decides (singles_of (of 2 5)) (visitor_speech 2 10 (group 2 600)) (Barred 0)
-    ∷ decides (singles_of (of 2 5)) (visitor_speech 2 10 (group 2 700)) Allowed  -- the visitor's network spelt out
-    ∷ decides (number_part_of (of 2 5) (at 500 ∷ []) (n112 ∷ []) []) (dial n113 (group 2 500)) Allowed  -- groups of a number part
-    ∷ decides (number_part_of (of 2 5) (at 500 ∷ []) (n112 ∷ []) []) (dial n113 (group 1 500)) (Barred 0)
+    decides (singles_of (of 2 5)) (visitor_speech 2 7 (group 2 500)) (barred RestrictedAddress)  -- no extension: the visitor's network
+    ∷ decides (singles_of (of 2 5)) (visitor_speech 1 7 (group 2 500)) allowed  -- and not the home network
+    ∷ decides (singles_of (of 2 5)) (visitor_speech 1 8 (group 2 500)) (barred RestrictedAddress)  -- the home network spelt out
+    ∷ decides (singles_of (of 2 5)) (visitor_speech 2 8 (group 2 500)) allowed
+    ∷ decides (singles_of (of 2 5)) (visitor_speech 2 9 (group 2 500)) (barred RestrictedAddress)  -- the visitor's network spelt out
+    ∷ decides (singles_of (of 2 5)) (visitor_speech 1 9 (group 2 500)) allowed
+    ∷ decides (singles_of (of 2 5)) (visitor_speech 2 12 None) allowed  -- an exception of the visitor's network
+    ∷ decides (singles_of (of 2 5)) (visitor_speech 1 12 None) (barred OutsideGroup)  -- not one of the home network
+    ∷ decides (singles_of (of 2 5)) (visitor_speech 2 10 (group 2 500)) allowed  -- a group of the visitor's network
+    ∷ decides (singles_of (of 2 5)) (visitor_speech 2 10 (group 1 500)) (barred OutsideGroup)  -- not of the home network
+    ∷ decides (singles_of (of 2 5)) (visitor_speech 2 10 (group 1 600)) allowed  -- the home network spelt out
+    ∷ decides (singles_of (of 2 5)) (visitor_speech 2 10 (group 2 600)) (barred OutsideGroup)
+    ∷ decides (singles_of (of 2 5)) (visitor_speech 2 10 (group 2 700)) allowed  -- the visitor's network spelt out
+    ∷ decides (number_part_of (of 2 5) (at 500 ∷ []) (n112 ∷ []) []) (dial n113 (group 2 500)) allowed  -- groups of a number part
+    ∷ decides (number_part_of (of 2 5) (at 500 ∷ []) (n112 ∷ []) []) (dial n113 (group 1 500)) (barred OutsideGroup)
     ∷ []
 
 -- visitor 2/5: ranges without extension are of network 2; a user of network 0 is a visitor too
 abbrev visitor_ranges : List Case
 visitor_ranges =
-    decides (ranges_of (of 2 5)) (visitor_speech 2 100 NoGroup) (Barred 2)  -- the first
-    ∷ decides (ranges_of (of 2 5)) (visitor_speech 2 199 NoGroup) (Barred 2)  -- the last
-    ∷ decides (ranges_of (of 2 5)) (visitor_speech 2 200 (group 2 509)) Allowed
-    ∷ decides (ranges_of (of 2 5)) (visitor_speech 1 100 (group 2 500)) Allowed  -- the home network is not in it
-    ∷ decides (ranges_of (of 2 5)) (visitor_speech 2 155 NoGroup) Allowed  -- excepted
-    ∷ decides (ranges_of (of 2 5)) (visitor_speech 1 155 NoGroup) (Barred 0)  -- the home network is not excepted
-    ∷ decides (ranges_of (of 2 5)) (visitor_speech 2 200 (group 1 509)) (Barred 0)  -- nor are its groups listed
-    ∷ decides (ranges_of (of 0 5)) (speech 0 100 NoGroup) (Barred 2)
-    ∷ decides (ranges_of (of 0 5)) (speech 1 100 (group 0 500)) Allowed
+    decides (ranges_of (of 2 5)) (visitor_speech 2 100 None) (barred RestrictedAddress)  -- the first
+    ∷ decides (ranges_of (of 2 5)) (visitor_speech 2 199 None) (barred RestrictedAddress)  -- the last
+    ∷ decides (ranges_of (of 2 5)) (visitor_speech 2 200 (group 2 509)) allowed
+    ∷ decides (ranges_of (of 2 5)) (visitor_speech 1 100 (group 2 500)) allowed  -- the home network is not in it
+    ∷ decides (ranges_of (of 2 5)) (visitor_speech 2 155 None) allowed  -- excepted
+    ∷ decides (ranges_of (of 2 5)) (visitor_speech 1 155 None) (barred OutsideGroup)  -- the home network is not excepted
+    ∷ decides (ranges_of (of 2 5)) (visitor_speech 2 200 (group 1 509)) (barred OutsideGroup)  -- nor are its groups listed
+    ∷ decides (ranges_of (of 0 5)) (speech 0 100 None) (barred RestrictedAddress)
+    ∷ decides (ranges_of (of 0 5)) (speech 1 100 (group 0 500)) allowed
     ∷ []
 
 -- user 1/5 with the home network spelt out is judged as without: no extension means the home network
 abbrev home_spelt_out : List Case
 home_spelt_out =
-    decides (singles_of (of 1 5)) (speech 1 7 (group 1 500)) (Barred 2)
-    ∷ decides (singles_of (of 1 5)) (speech 2 7 (group 1 500)) Allowed
-    ∷ decides (singles_of (of 1 5)) (speech 1 10 (group 1 500)) Allowed
-    ∷ decides (singles_of (of 1 5)) (speech 1 10 (group 2 500)) (Barred 0)
-    ∷ decides (ranges_of (of 1 5)) (speech 1 100 NoGroup) (Barred 2)
-    ∷ decides (ranges_of (of 1 5)) (speech 1 155 NoGroup) Allowed
-    ∷ decides (ranges_of (of 1 5)) (speech 2 100 (group 1 509)) Allowed
+    decides (singles_of (of 1 5)) (speech 1 7 (group 1 500)) (barred RestrictedAddress)
+    ∷ decides (singles_of (of 1 5)) (speech 2 7 (group 1 500)) allowed
+    ∷ decides (singles_of (of 1 5)) (speech 1 10 (group 1 500)) allowed
+    ∷ decides (singles_of (of 1 5)) (speech 1 10 (group 2 500)) (barred OutsideGroup)
+    ∷ decides (ranges_of (of 1 5)) (speech 1 100 None) (barred RestrictedAddress)
+    ∷ decides (ranges_of (of 1 5)) (speech 1 155 None) allowed
+    ∷ decides (ranges_of (of 1 5)) (speech 2 100 (group 1 509)) allowed
     ∷ []
 
 pub cases : All listed_services × All single_entries × All ranges_abroad × All group_lists × All group_ranges × All number_lists × All number_digits
@@ -327,16 +326,16 @@ cases = (
 )
 
 -- Only A held. A number is judged by the number part, which is not held; nor is any part of user 2/5. The other answers are what A says.
-held : (decide_is bytes_a (dial n112 NoGroup) ≡ decision.NotHeld)
-    × (decide_is bytes_a (speech 1 200 NoGroup) ≡ decision.Allowed)
-    × (decide_is bytes_a (speech 1 100 NoGroup) ≡ decision.Barred 2)
+held : (decide_is bytes_a (dial n112 None) ≡ Ok decision.NotHeld)
+    × (decide_is bytes_a (speech 1 200 None) ≡ Ok decision.Allowed)
+    × (decide_is bytes_a (speech 1 100 None) ≡ Ok (decision.Barred RestrictedAddress))
     × (decide_is bytes_a (record {
       user = record { network = 2; ssi = 5 };
       service = 1;
       destination = to.Identity (record { network = 1; ssi = 200 });
       digits = replicate 24 0;
-      group = NoGroup;
-    }) ≡ decision.NotHeld)
+      group = None;
+    }) ≡ Ok decision.NotHeld)
 unfolding calls rules requests body_agrees filing_of part_for decide_is
 held = (refl, refl, refl, refl)
 
@@ -347,8 +346,8 @@ bytes_visitor =
     ∷ 0x49 ∷ 0x82 ∷ 0x00 ∷ 0x00 ∷ 0x0b ∷ 0x00 ∷ 0x00 ∷ 0x02 ∷ 0x21 ∷ 0x21 ∷ 0x20 ∷ 0x00
     ∷ 0x0c ∷ 0x80 ∷ 0x00 ∷ 0x0c ∷ 0x70 ∷ 0x80 ∷ 0x00 ∷ 0x4b ∷ 0x00 ∷ []
 
-held-visitor : (decide_is bytes_visitor (visitor_speech 2 100 NoGroup) ≡ decision.Barred 2)
-    × (decide_is bytes_visitor (visitor_speech 1 100 NoGroup) ≡ decision.Allowed)
-    × (decide_is bytes_visitor (speech 2 100 NoGroup) ≡ decision.NotHeld)
+held-visitor : (decide_is bytes_visitor (visitor_speech 2 100 None) ≡ Ok (decision.Barred RestrictedAddress))
+    × (decide_is bytes_visitor (visitor_speech 1 100 None) ≡ Ok decision.Allowed)
+    × (decide_is bytes_visitor (speech 2 100 None) ≡ Ok decision.NotHeld)
 unfolding calls rules requests body_agrees filing_of part_for decide_is
 held-visitor = (refl, refl, refl)

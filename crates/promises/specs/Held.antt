@@ -1,20 +1,18 @@
 -- Which PDUs an archive may hold (otherwise 6), and under which entry, in plain values of document 01, with worked cases.
-use Rattle.std.specs.Prelude.{◌≡◌, refl, ◌↔◌, ◌⊎◌, Bool, true, false, ◌&&◌, List, [], ◌∷◌, ℕ, ◌≤◌, ◌<◌, length, take, drop, replicate, leb, eqb}
+use Rattle.std.specs.Prelude.{◌≡◌, refl, ◌↔◌, ◌⊎◌, Bool, true, false, ◌&&◌, List, [], ◌∷◌, ℕ, ◌≤◌, ◌<◌, length, take, drop, replicate, leb, eqb, Result, Ok, Err}
 use Rattle.std.proofs.Common.{sym, ap, ◌∙◌, inl, inr, arith, leb-true, leb-false, eqb-true, le-leb, lt-ltb, eq-eqb}
 use Rattle.bits.specs.Bits.{pick}
 use Rattle.bits.proofs.Tests.{false-unless, both, both⁻¹, by-test}
 use Rattle.grammar.specs.declared.record.Record.{Record}
-use Rattle.reader.specs.Read.{read_is}
-use Rattle.reader.specs.declared.Answer.TheVariants as reader
+use Rattle.reader.specs.Read.{answer_of, found_in, read_is}
 use Rattle.judging.specs.Judge.{may_hold}
 use Rattle.archive.specs.Model.{length_of, within_limits}
 use Rattle.archive.specs.Reading.{is_archive}
 use Rattle.archive.specs.Refusals.{plain}
 use Rattle.archive.specs.Keeping.{stored_refusal, captured, placed, capture_is, capture_out}
 use Rattle.archive.specs.Examples.{calls}
-use Rattle.archive.specs.declared.Stored.{Stored}
-use Rattle.archive.specs.declared.Stored.TheVariants.{Bytes, Refused}
 use Rattle.archive.proofs.Model.Checked.{archive_checked}
+use Rattle.archive.specs.declared.refusal.Refusal.{Refusal}
 
 -- an INTERROGATE ACK (PDU type 12) that accepts (interrogation result 1 or 2), for one user (affected range type 1)
 pub record Holdable (r : Record) : Type 0 where
@@ -51,24 +49,24 @@ pub may_be-held : (r : Record) → (may_hold r ≡ true) ↔ Holdable r
 may_be-held r = (says r, is r)
 
 -- Captured into an archive, a legal PDU gives 6 exactly if it is not such a one.
-module _ (b s : List ℕ) (n day room : ℕ) (dated : day < 65536) (archive : is_archive b ≡ true) (legal : (read_is s n).answer ≡ reader.Accepted) where
+module _ (b s : List ℕ) (n day room : ℕ) (dated : day < 65536) (archive : is_archive b ≡ true) (legal : answer_of (read_is s n) ≡ Ok tt) where
   abbrev fits : Bool
   fits = within_limits (length (captured b s n day).held) (length_of (captured b s n day)) && leb (length_of (captured b s n day)) room
 
-  answer : (t : Bool) → may_hold (read_is s n).found ≡ t
-      → capture_is b s n day room ≡ pick t (pick fits (Bytes (length_of (captured b s n day))) (Refused (plain 8))) (Refused (plain 6))
+  answer : (t : Bool) → may_hold (found_in (read_is s n)) ≡ t
+      → capture_is b s n day room ≡ pick t (pick fits (Ok (length_of (captured b s n day))) (Err (plain 8))) (Err (plain 6))
   unfolding capture_is placed
   answer t e = rw (lt-ltb _ _ dated, archive_checked b archive, legal, e)
 
-  not-6 : may_hold (read_is s n).found ≡ true → capture_is b s n day room ≡ Refused (plain 6) → ⊥
+  not-6 : may_hold (found_in (read_is s n)) ≡ true → capture_is b s n day room ≡ Err (plain 6) → ⊥
   not-6 m e =
-      let refused : Stored → ℕ = λ a. (stored_refusal a).number in
-      by-test (λ (a : Stored). refused a ≡ 6 → ⊥) fits (λ x. omega (arith, x)) (λ x. omega (arith, x)) (ap refused (sym (answer true m) ∙ e))
+      let refused : Result ℕ Refusal → ℕ = λ a. (stored_refusal a).number in
+      by-test (λ (a : Result ℕ Refusal). refused a ≡ 6 → ⊥) fits (λ x. omega (arith, x)) (λ x. omega (arith, x)) (ap refused (sym (answer true m) ∙ e))
 
-  pub gives-6 : (capture_is b s n day room ≡ Refused (plain 6)) ↔ (Holdable (read_is s n).found → ⊥)
+  pub gives-6 : (capture_is b s n day room ≡ Err (plain 6)) ↔ (Holdable (found_in (read_is s n)) → ⊥)
   gives-6 = (
-    λ e h. not-6 (is (read_is s n).found h) e,
-    λ none. answer false (false-unless _ (λ m. none (says (read_is s n).found m))),
+    λ e h. not-6 (is (found_in (read_is s n)) h) e,
+    λ none. answer false (false-unless _ (λ m. none (says (found_in (read_is s n)) m))),
   )
 
 -- ---- worked cases: PDUs for user 5 that list service 1, captured into the empty archive of home network 1

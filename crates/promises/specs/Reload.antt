@@ -1,11 +1,11 @@
 -- What a reload writes (document 02, requests 2026-01 and 2026-06): a DEFINE or DEFINE EXTERNAL that reads as the part that is held, of which
 -- nothing is lost; the six rules applied to its services and lists say of every call what they say by the part.
-use Rattle.std.specs.Prelude.{◌≡◌, ◌↔◌, List, ℕ, take}
+use Rattle.std.specs.Prelude.{◌≡◌, ◌↔◌, List, ℕ, take, Ok, Err}
 use Rattle.bits.specs.Frame.{bytes_for}
 use Rattle.codec.specs.Codec.{Legal}
 use Rattle.grammar.specs.Grammar.{pdu}
 use Rattle.grammar.specs.declared.record.Record.{Record}
-use Rattle.reader.specs.Read.{read_is}
+use Rattle.reader.specs.Read.{found_in, read_is}
 use Rattle.pdu.specs.Accepted.{accepted_as}
 use Rattle.rules.specs.Rule.{ruling}
 use Rattle.rules.specs.declared.request.Request.{Request}
@@ -15,7 +15,6 @@ use Rattle.archive.specs.declared.contents.Key.{Key}
 use Rattle.reload.specs.Define.{kind_of, define_of}
 use Rattle.reload.specs.Reload.{record_of, reload_is, reload_out}
 use Rattle.reload.specs.declared.Definition.{Definition}
-use Rattle.reload.specs.declared.Reloaded.TheVariants.{Bits, Refused}
 use Rattle.reload.specs.declared.Target.{Target}
 use Rattle.promises.specs.Held.{Holdable}
 use Rattle.promises.specs.Archive.{IsArchive, Ranged}
@@ -43,17 +42,17 @@ Puttable t d part x = Legal pdu x × (x.kind ≡ kind_of t) × (x.figures.defini
 module _ (t : Target) (b : List ℕ) (key : Key) (d : Definition) (out : List ℕ) where
   -- what stands in the buffer after a reload of n bits, read
   abbrev pub read_back : ℕ → Record
-  read_back n = (read_is (take (bytes_for n) (reload_out t b key d out)) n).found
+  read_back n = found_in (read_is (take (bytes_for n) (reload_out t b key d out)) n)
 
   -- Proved in proofs/Reload.antt.
   pub record Promise : Type 0 where
     -- What was written reads back as the PDU that puts back the one held for that user and part, an accepting INTERROGATE ACK:
-    pub reads-back : (n : ℕ) → reload_is t b key d out ≡ Bits (record { 0 = n }) → (k : IsArchive b) (h : Held) → Holds b key k h
+    pub reads-back : (n : ℕ) → reload_is t b key d out ≡ Ok (record { 0 = n }) → (k : IsArchive b) (h : Held) → Holds b key k h
         → Holdable (record_of h) × (read_is (take (bytes_for n) (reload_out t b key d out)) n ≡ accepted_as (define_of t d (record_of h)))
         × PutsBack t d (record_of h) (read_back n)
     -- so no list of it is lost; 12 is given exactly where no legal PDU of the type and definition type has all its lists.
     pub lost-exactly : Ranged key → Asked d → (k : IsArchive b) (h : Held) → Holds b key k h
-        → (reload_is t b key d out ≡ Refused (plain 12)) ↔ ((x : Record) → Puttable t d (record_of h) x → ⊥)
+        → (reload_is t b key d out ≡ Err (plain 12)) ↔ ((x : Record) → Puttable t d (record_of h) x → ⊥)
     -- The six rules applied to it say of every call what they say by the held part.
-    pub same_decisions : (n : ℕ) → reload_is t b key d out ≡ Bits (record { 0 = n }) → (k : IsArchive b) (h : Held) → Holds b key k h
+    pub same_decisions : (n : ℕ) → reload_is t b key d out ≡ Ok (record { 0 = n }) → (k : IsArchive b) (h : Held) → Holds b key k h
         → (home : ℕ) (q : Request) → ruling home (read_back n) q ≡ ruling home (record_of h) q

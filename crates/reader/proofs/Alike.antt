@@ -3,6 +3,7 @@ use mathlib.Core.Path.{◌≡◌, refl, sym, ◌∙◌}
 use mathlib.Core.Bool.{Bool}
 use mathlib.Core.List.{List}
 use Prim.Native.Nat.{ℕ, ◌+◌}
+use Rattle.std.specs.Prelude.{Option, Some, None}
 use Rattle.codec.specs.Parts.{number, element}
 use Rattle.codec.specs.Reading.{got, unless_at, read_at}
 use Rattle.codec.proofs.Reading.{read_at-tested}
@@ -12,18 +13,18 @@ use Rattle.grammar.specs.declared.record.Identities.{Identities}
 use Rattle.grammar.specs.declared.site.ListKind.{ListKind}
 use Rattle.grammar.specs.declared.site.ListKind.TheVariants as of
 use Rattle.grammar.specs.declared.site.RangeType.{RangeType}
-use Rattle.grammar.specs.declared.site.RangeType.TheVariants.{Empty, Single, FirstAndLast, NoRangeType}
+use Rattle.grammar.specs.declared.site.RangeType.TheVariants.{Empty, Single, FirstAndLast}
 use Rattle.grammar.proofs.Steps.{identities-at}
 use Rattle.reader.specs.Inner.{Reads, Fills}
 use Rattle.reader.proofs.Elements.{steps, passed}
 
-in-identities : (j : ListKind) (t : RangeType) → refusal_in j t ≡ 0 → refusal_in of.Identities t ≡ 0
-in-identities j Empty e = refl
-in-identities j (Single n) e = refl
-in-identities j FirstAndLast e = refl
-in-identities of.Users NoRangeType e = e
-in-identities of.Identities NoRangeType e = e
-in-identities of.Numbers NoRangeType e = e
+in-identities : (j : ListKind) (t : Option RangeType) → refusal_in j t ≡ 0 → refusal_in of.Identities t ≡ 0
+in-identities j (Some Empty) e = refl
+in-identities j (Some (Single n)) e = refl
+in-identities j (Some FirstAndLast) e = refl
+in-identities of.Users None e = e
+in-identities of.Identities None e = e
+in-identities of.Numbers None e = e
 
 code_alike : (j : ListKind) (s : List Bool) (at : ℕ) {v m : ℕ} → read_at (element 4 (range_refusal j)) s at ≡ got v m
     → read_at (element 4 (range_refusal of.Identities)) s at ≡ got v m

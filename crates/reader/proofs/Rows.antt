@@ -3,6 +3,7 @@ use mathlib.Core.Path.{◌≡◌, refl, sym, ap, ◌∙◌, subst}
 use mathlib.Core.Bool.{Bool}
 use mathlib.Core.List.{List, ◌++◌, append_assoc}
 use Prim.Native.Nat.{ℕ, ◌+◌, ◌*◌, ◌≤◌}
+use Rattle.std.specs.Prelude.{Option}
 use native.Mathlib.Omega.{arith}
 use lib.ListN.{length, drop, length-append, length-drop}
 use Rattle.bits.specs.Bits.{bits, pick}
@@ -45,7 +46,7 @@ module _ {A : Type 0} (c : Codec A) (s : List Bool) (at : ℕ) (h : at ≤ lengt
 
 -- ---- the figures stand in the window at their place
 
-module _ (t : PduType) (s : List ℕ) (at : ℕ) (h : at ≤ length (bits s)) (r : Reads (figures_of t) (bits s) at) where
+module _ (t : Option PduType) (s : List ℕ) (at : ℕ) (h : at ≤ length (bits s)) (r : Reads (figures_of t) (bits s) at) where
   pub figures-there : at + width_of t ≤ length (bits s)
   figures-there =
       let v = r.value in
@@ -59,7 +60,7 @@ module _ (t : PduType) (s : List ℕ) (at : ℕ) (h : at ≤ length (bits s)) (r
 
 -- ---- row by row
 
-module _ (t : PduType) {form : Form} (same : form ≡ form_of t) {s : List Bool} {at : ℕ} (r : Reads (rest_of t) s at) where
+module _ (t : Option PduType) {form : Form} (same : form ≡ form_of t) {s : List Bool} {at : ℕ} (r : Reads (rest_of t) s at) where
   row_reads : Reads (rowed t) s at
   row_reads = subst (λ (c : Codec Rest). Reads c s at) (in_rows t) r
 

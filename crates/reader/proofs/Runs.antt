@@ -21,7 +21,7 @@ use Rattle.codec.proofs.Reading.{read_at-absent, read_at-cons}
 use Rattle.codec.proofs.Filling.{places-each}
 use Rattle.grammar.specs.SiteSheet.{digit_refusal, service_refusal}
 use Rattle.walk.proofs.Numbers.{element-says}
-use Rattle.reader.specs.Inner.{Read, Reads, held_in, four_in, twelve_in, seven_in}
+use Rattle.reader.specs.Inner.{Read, Reads, held_in, codes_in}
 use Rattle.reader.proofs.Elements.{steps, number-there, number-end, number-inside}
 use Rattle.reader.proofs.Parts.{element-read}
 
@@ -120,98 +120,82 @@ length-values : (f : ℕ → ℕ) (i n : ℕ) → length (table.values f i n) �
 length-values f i zero = refl
 length-values f i (suc n) = ap suc (length-values f (suc i) n)
 
-pub seven_at : (run i : ℕ) → i < 7 → get_or (seven_in run) i 0 ≡ run / 2 ^ (18 - 3 * i) % 8
-unfolding seven_in
-seven_at run i h = table.at (λ i. run / 2 ^ (18 - 3 * i) % 8) 0 7 i h
+pub code-at : (count width run i : ℕ) → i < count → get_or (codes_in count width run) i 0 ≡ run / 2 ^ (width * (count - 1 - i)) % 2 ^ width
+unfolding codes_in
+code-at count width run i h = table.at (λ i. run / 2 ^ (width * (count - 1 - i)) % 2 ^ width) 0 count i h
 
-pub seven-long : (run : ℕ) → length (seven_in run) ≡ 7
-unfolding seven_in
-seven-long run = length-values (λ i. run / 2 ^ (18 - 3 * i) % 8) 0 7
-
-pub four-at : (run i : ℕ) → i < 4 → get_or (four_in run) i 0 ≡ run / 2 ^ (12 - 4 * i) % 16
-unfolding four_in
-four-at run i h = table.at (λ i. run / 2 ^ (12 - 4 * i) % 16) 0 4 i h
-
-pub four-long : (run : ℕ) → length (four_in run) ≡ 4
-unfolding four_in
-four-long run = length-values (λ i. run / 2 ^ (12 - 4 * i) % 16) 0 4
+pub codes-long : (count width run : ℕ) → length (codes_in count width run) ≡ count
+unfolding codes_in
+codes-long count width run = length-values (λ i. run / 2 ^ (width * (count - 1 - i)) % 2 ^ width) 0 count
 
 four_as : {a b c d a' b' c' d' : ℕ} {l l' : List ℕ} → a ≡ a' → b ≡ b' → c ≡ c' → d ≡ d' → l ≡ l' → a ∷ b ∷ c ∷ d ∷ l ≡ a' ∷ b' ∷ c' ∷ d' ∷ l'
 four_as p q r s t = cc
 
 -- twelve are four, four and four
-pub twelve-is : (run : ℕ) → (four_in (run / 2 ^ 32) ++ four_in (run / 2 ^ 16 % 65536)) ++ four_in (run % 65536) ≡ twelve_in run
-unfolding four_in twelve_in
+pub twelve-is : (run : ℕ) → (codes_in 4 4 (run / 2 ^ 32) ++ codes_in 4 4 (run / 2 ^ 16 % 65536)) ++ codes_in 4 4 (run % 65536) ≡ codes_in 12 4 run
+unfolding codes_in
 twelve-is run =
     four_as (omega arith) (omega arith) (omega arith) (omega arith)
     (four_as (omega arith) (omega arith) (omega arith) (omega arith) (four_as (omega arith) (omega arith) (omega arith) (omega arith) refl))
 
-twelve-at : (run i : ℕ) → i < 12 → get_or (twelve_in run) i 0 ≡ run / 2 ^ (44 - 4 * i) % 16
-unfolding twelve_in
-twelve-at run i h = table.at (λ i. run / 2 ^ (44 - 4 * i) % 16) 0 12 i h
-
-twelve-long : (run : ℕ) → length (twelve_in run) ≡ 12
-unfolding twelve_in
-twelve-long run = length-values (λ i. run / 2 ^ (44 - 4 * i) % 16) 0 12
-
 -- the services of a window that begins with their number
 pub services-read : (s : List ℕ) (at count : ℕ) → count ≤ 7 → Reads (places (element 3 service_refusal) absent 7 count) (bits s) (at + 3)
     → {v run used : ℕ} → v ≡ window_at s at → used ≡ 3 * count → run ≡ held_in v 3 21 used
-    → Read (places (element 3 service_refusal) absent 7 count) (bits s) (at + 3) (seven_in run) (at + 3 + 3 * count)
+    → Read (places (element 3 service_refusal) absent 7 count) (bits s) (at + 3) (codes_in 7 3 run) (at + 3 + 3 * count)
 services-read s at count few r {v} {run} {used} ev eu er =
-    listed s (at + 3) 3 service_refusal 7 count (omega arith) few r (seven_in run) (seven-long run)
-    (λ i h there. valued (sym (seven_at run i (omega arith)))
-    (part-read s at 3 21 used ev er (omega arith) (omega arith) 3 (3 * i) (18 - 3 * i) (omega arith) (omega arith) (omega arith) (omega arith) there))
-    (λ i h k. seven_at run i k ∙ part_none s at 3 21 used ev er (omega arith) (omega arith) 3 (3 * i) (18 - 3 * i) (omega arith) (omega arith))
+    listed s (at + 3) 3 service_refusal 7 count (omega arith) few r (codes_in 7 3 run) (codes-long 7 3 run)
+    (λ i h there. valued (sym (code-at 7 3 run i (omega arith)))
+    (part-read s at 3 21 used ev er (omega arith) (omega arith) 3 (3 * i) (3 * (7 - 1 - i)) (omega arith) (omega arith) (omega arith) (omega arith) there))
+    (λ i h k. code-at 7 3 run i k ∙ part_none s at 3 21 used ev er (omega arith) (omega arith) 3 (3 * i) (3 * (7 - 1 - i)) (omega arith) (omega arith))
 
 -- the digits of a number, the first twelve from the window that begins with its length
 module _ (s : List ℕ) (at count first : ℕ) (half : first ≡ min count 12) (few : count ≤ 24)
     (r : Reads (places (element 4 digit_refusal) absent 24 count) (bits s) (at + 5)) {v v' high low : ℕ}
     (ev : v ≡ window_at s at) (ev' : v' ≡ window_at s (at + 53))
     (eh : high ≡ held_in v 5 48 (4 * first)) (el : low ≡ held_in v' 0 48 (4 * (count - first))) where
-  early : (i : ℕ) → i < 12 → get_or (twelve_in high ++ twelve_in low) i 0 ≡ high / 2 ^ (44 - 4 * i) % 16
-  early i h = get_or-append (twelve_in high) (twelve_in low) 0 i (omega (arith, twelve-long high)) ∙ twelve-at high i h
+  early : (i : ℕ) → i < 12 → get_or (codes_in 12 4 high ++ codes_in 12 4 low) i 0 ≡ high / 2 ^ (4 * (12 - 1 - i)) % 2 ^ 4
+  early i h = get_or-append (codes_in 12 4 high) (codes_in 12 4 low) 0 i (omega (arith, codes-long 12 4 high)) ∙ code-at 12 4 high i h
 
-  late : (i j : ℕ) → i ≡ 12 + j → j < 12 → get_or (twelve_in high ++ twelve_in low) i 0 ≡ low / 2 ^ (44 - 4 * j) % 16
+  late : (i j : ℕ) → i ≡ 12 + j → j < 12 → get_or (codes_in 12 4 high ++ codes_in 12 4 low) i 0 ≡ low / 2 ^ (4 * (12 - 1 - j)) % 2 ^ 4
   late i j e h =
-      ap (λ (x : ℕ). get_or (twelve_in high ++ twelve_in low) x 0) (e ∙ ap (λ (x : ℕ). x + j) (sym (twelve-long high)))
-      ∙ get_or-append-add (twelve_in high) (twelve_in low) j 0
-      ∙ twelve-at low j h
+      ap (λ (x : ℕ). get_or (codes_in 12 4 high ++ codes_in 12 4 low) x 0) (e ∙ ap (λ (x : ℕ). x + j) (sym (codes-long 12 4 high)))
+      ∙ get_or-append-add (codes_in 12 4 high) (codes_in 12 4 low) j 0
+      ∙ code-at 12 4 low j h
 
   digit-read : (i : ℕ) → i < count → at + 5 + 4 * i + 4 ≤ length (bits s)
-      → Read (number 4) (bits s) (at + 5 + 4 * i) (get_or (twelve_in high ++ twelve_in low) i 0) (at + 5 + 4 * i + 4)
+      → Read (number 4) (bits s) (at + 5 + 4 * i) (get_or (codes_in 12 4 high ++ codes_in 12 4 low) i 0) (at + 5 + 4 * i + 4)
   digit-read i h there = go (ltb i 12) refl
     where
       go : (t : Bool) → ltb i 12 ≡ t
-          → Read (number 4) (bits s) (at + 5 + 4 * i) (get_or (twelve_in high ++ twelve_in low) i 0) (at + 5 + 4 * i + 4)
+          → Read (number 4) (bits s) (at + 5 + 4 * i) (get_or (codes_in 12 4 high ++ codes_in 12 4 low) i 0) (at + 5 + 4 * i + 4)
       go true t =
           let k : i < 12 = ltb-true i 12 t in
           valued (sym (early i k))
-          (part-read s at 5 48 (4 * first) ev eh (omega arith) (omega arith) 4 (4 * i) (44 - 4 * i) (omega arith) (omega arith) (omega arith)
+          (part-read s at 5 48 (4 * first) ev eh (omega arith) (omega arith) 4 (4 * i) (4 * (12 - 1 - i)) (omega arith) (omega arith) (omega arith)
           (omega arith) there)
       go false t =
           let k : 12 ≤ i = ltb-false i 12 t in
           let j : ℕ = i - 12 in
           let e : i ≡ 12 + j = omega arith in
           valued (sym (late i j e (omega arith)))
-          (part-read s (at + 53) 0 48 (4 * (count - first)) ev' el (omega arith) (omega arith) 4 (4 * j) (44 - 4 * j) (omega arith) (omega arith)
+          (part-read s (at + 53) 0 48 (4 * (count - first)) ev' el (omega arith) (omega arith) 4 (4 * j) (4 * (12 - 1 - j)) (omega arith) (omega arith)
           (omega arith) (omega arith) there)
 
-  no_digit : (i : ℕ) → count ≤ i → i < 24 → get_or (twelve_in high ++ twelve_in low) i 0 ≡ 0
+  no_digit : (i : ℕ) → count ≤ i → i < 24 → get_or (codes_in 12 4 high ++ codes_in 12 4 low) i 0 ≡ 0
   no_digit i h k = go (ltb i 12) refl
     where
-      go : (t : Bool) → ltb i 12 ≡ t → get_or (twelve_in high ++ twelve_in low) i 0 ≡ 0
+      go : (t : Bool) → ltb i 12 ≡ t → get_or (codes_in 12 4 high ++ codes_in 12 4 low) i 0 ≡ 0
       go true t =
           let m : i < 12 = ltb-true i 12 t in
-          early i m ∙ part_none s at 5 48 (4 * first) ev eh (omega arith) (omega arith) 4 (4 * i) (44 - 4 * i) (omega arith) (omega arith)
+          early i m ∙ part_none s at 5 48 (4 * first) ev eh (omega arith) (omega arith) 4 (4 * i) (4 * (12 - 1 - i)) (omega arith) (omega arith)
       go false t =
           let m : 12 ≤ i = ltb-false i 12 t in
           let j : ℕ = i - 12 in
           let e : i ≡ 12 + j = omega arith in
           late i j e (omega arith)
-          ∙ part_none s (at + 53) 0 48 (4 * (count - first)) ev' el (omega arith) (omega arith) 4 (4 * j) (44 - 4 * j) (omega arith) (omega arith)
+          ∙ part_none s (at + 53) 0 48 (4 * (count - first)) ev' el (omega arith) (omega arith) 4 (4 * j) (4 * (12 - 1 - j)) (omega arith) (omega arith)
 
-  pub digits-read : Read (places (element 4 digit_refusal) absent 24 count) (bits s) (at + 5) (twelve_in high ++ twelve_in low) (at + 5 + 4 * count)
+  pub digits-read : Read (places (element 4 digit_refusal) absent 24 count) (bits s) (at + 5) (codes_in 12 4 high ++ codes_in 12 4 low) (at + 5 + 4 * count)
   digits-read =
-      listed s (at + 5) 4 digit_refusal 24 count (omega arith) few r (twelve_in high ++ twelve_in low)
-      (length-append (twelve_in high) (twelve_in low) ∙ omega (arith, twelve-long high, twelve-long low)) digit-read no_digit
+      listed s (at + 5) 4 digit_refusal 24 count (omega arith) few r (codes_in 12 4 high ++ codes_in 12 4 low)
+      (length-append (codes_in 12 4 high) (codes_in 12 4 low) ∙ omega (arith, codes-long 12 4 high, codes-long 12 4 low)) digit-read no_digit

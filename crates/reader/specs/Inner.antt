@@ -1,5 +1,5 @@
 -- What storing a part of a PDU that is known to be legal needs, and what it leaves among the lent words.
-use Rattle.std.specs.Prelude.{◌≡◌, Bool, List, [], ◌∷◌, ◌++◌, ℕ, ◌+◌, ◌-◌, ◌*◌, ◌/◌, ◌%◌, ◌^◌, ◌≤◌, length}
+use Rattle.std.specs.Prelude.{◌≡◌, Bool, List, [], ◌∷◌, ◌++◌, ℕ, ◌+◌, ◌-◌, ◌*◌, ◌/◌, ◌%◌, ◌^◌, ◌≤◌, length, replicate}
 use Rattle.bits.specs.Bits.{bits, pick}
 use Rattle.bits.proofs.Table.{values}
 use Rattle.codec.specs.Codec.{Codec}
@@ -61,18 +61,18 @@ pub record Fills {A : Type 0} (c : Codec A) (f : A → List ℕ) (n : ℕ) (s : 
   pub read : Read c s at value end
   pub put : Put words to (f value) n words' (to + n)
 
+-- nothing of a PDU is read as z, and its value is n zeros as words
+pub record Zeros {A : Type 0} (z : Codec A) (f : A → List ℕ) (n : ℕ) : Type 0 where
+  pub value : A
+  pub read : (s : List Bool) (at : ℕ) → read_at z s at ≡ got value at
+  pub words : f value ≡ replicate n 0
+
 -- ---- several numbers from one window
 
 -- the `used` bits after the first `skip` of a window's 57, and zeros after them: `whole` bits, below those that were skipped
 unfoldable pub held_in : ℕ → ℕ → ℕ → ℕ → ℕ
 held_in window skip whole used = window / 2 ^ (57 - skip - used) * 2 ^ (whole - used)
 
--- the four numbers of four bits in 16, the twelve in 48, and the seven of three bits in 21
-unfoldable pub four_in : ℕ → List ℕ
-four_in run = values (λ i. run / 2 ^ (12 - 4 * i) % 16) 0 4
-
-unfoldable pub twelve_in : ℕ → List ℕ
-twelve_in run = values (λ i. run / 2 ^ (44 - 4 * i) % 16) 0 12
-
-unfoldable pub seven_in : ℕ → List ℕ
-seven_in run = values (λ i. run / 2 ^ (18 - 3 * i) % 8) 0 7
+-- so many numbers of so many bits each, the last the lowest of a run
+unfoldable pub codes_in : ℕ → ℕ → ℕ → List ℕ
+codes_in count width run = values (λ i. run / 2 ^ (width * (count - 1 - i)) % 2 ^ width) 0 count

@@ -1,6 +1,7 @@
 // Reading a PDU: the walk decides; only from an accepted PDU are values stored, straight from its bits into the lent words.
 #![tactic(auto)]
 
+mod entry;
 mod identities;
 mod lists;
 mod numbers;
@@ -15,50 +16,30 @@ ghost use Rattle.reader.specs.Words.{read_words_is, read_words};
 use bits::BitCount;
 use grammar::record::Record;
 use record::fill_record;
-use walk::{BitPlace, Refusal, Walked};
+use walk::Refusal;
 use words::record::{RECORD_WORDS, record_from};
 
-// Whether a PDU is accepted, or the number with which it is refused and the bit place of the element at fault.
-#[derive(Clone, Copy)]
-pub enum Answer {
-    Accepted,
-    Refused(Refusal),
-}
-
-// The answer, and the record of an accepted PDU. Beside a refusal all of it is zero.
-#[derive(Clone, Copy)]
-pub struct Reading {
-    pub answer: Answer,
-    pub found: Record,
-}
-
 // Reads the PDU of n bits in s into the words of its record: 9 for another number of words than a record's, then as `read`.
-pub fn read_words(s: &[u8], n: BitCount, words: &mut [u32]) -> Answer
+pub fn read_words(s: &[u8], n: BitCount, words: &mut [u32]) -> Result<(), Refusal>
     ensures value { result ≡ read_words_is s.now n.0 (length words.old) }
     ensures words_after { words.new ≡ read_words s.now n.0 words.old }
 {
     if words.len() != RECORD_WORDS {
-        return Answer::Refused(Refusal {
+        return Err(Refusal {
             number: 9,
-            place: BitPlace::Nowhere,
+            place: None,
         });
     }
-    match walk::walk(s, n) {
-        Walked::Accepted(_) => {
-            fill_record(s, words);
-            Answer::Accepted
-        },
-        Walked::Refused(refusal) => Answer::Refused(refusal),
-    }
+    walk::walk(s, n)?;
+    fill_record(s, words);
+    Ok(())
 }
 
 // Reads the PDU of n bits in s: refusal 1 first, then element by element, 5 last.
-pub fn read(s: &[u8], n: BitCount) -> Reading
+pub fn read(s: &[u8], n: BitCount) -> Result<Record, Refusal>
     ensures { result ≡ read_is s.now n.0 }
 {
     let mut words = [0u32; RECORD_WORDS];
-    let answer = read_words(s, n, &mut words);
-    let spelt = record_from(&words);
-    let found = spelt.found;
-    Reading { answer, found }
+    read_words(s, n, &mut words)?;
+    Ok(record_from(&words).unwrap())
 }

@@ -1,8 +1,8 @@
 -- What an archive holds is an INTERROGATE ACK, so the PDU that puts it back is legal wherever its lists stand. Assumes nothing.
+use Rattle.std.specs.Prelude.{Some}
 use mathlib.Core.Path.{◌≡◌}
 use mathlib.Core.Bool.{true, ◌&&◌}
 use mathlib.Core.List.{List}
-use mathlib.Core.Option.{some}
 use Prim.Native.Nat.{ℕ}
 use borrow.Author.Tests.{eqb-true}
 use lib.Dec.{eqb, leb}
@@ -22,7 +22,7 @@ use Rattle.reload.specs.declared.Definition.{Definition}
 use Rattle.reload.specs.declared.Target.{Target}
 use Rattle.reload.proofs.Standing.{define-legal}
 
-module _ (b : List ℕ) (a : is_archive b ≡ true) (k : Key) {h : Held} (e : lookup k (reading b).held ≡ some h) where
+module _ (b : List ℕ) (a : is_archive b ≡ true) (k : Key) {h : Held} (e : lookup k (reading b).held ≡ Some h) where
   pub held-defined : (t : Target) (d : Definition) → is_definition d ≡ true → stands t d.definition (record_of h).lists ≡ true
       → Legal pdu (define_of t d (record_of h))
   held-defined t d asked fits =

@@ -1,5 +1,5 @@
 -- Worked cases that antt computes: profile A put back, a number part put back in each target, removals, each refusal and their order.
-use Rattle.std.specs.Prelude.{◌≡◌, refl, true, false, List, [], ◌∷◌, ◌++◌, ℕ, take, drop, replicate}
+use Rattle.std.specs.Prelude.{◌≡◌, refl, true, false, List, [], ◌∷◌, ◌++◌, ℕ, take, drop, replicate, Some, Ok}
 use Rattle.bits.specs.Frame.{pack, bytes_of}
 use Rattle.archive.specs.Refusals.{plain, of_body}
 use Rattle.archive.specs.Model.{in_range}
@@ -7,8 +7,6 @@ use Rattle.archive.specs.Filing.{filing_of, body_agrees}
 use Rattle.archive.specs.Examples.{calls, part_of5, bytes_a}
 use Rattle.archive.specs.declared.contents.Key.{Key}
 use Rattle.archive.specs.declared.refusal.Refusal.{Refusal}
-use Rattle.reload.specs.declared.Reloaded.TheVariants.{Bits}
-use Rattle.walk.specs.declared.BitPlace.TheVariants.{At}
 use Rattle.writer.specs.Write.{record_refusal, write_refusal, write_is}
 use Rattle.reload.specs.Define.{is_definition, define_of, stands_in}
 use Rattle.reload.specs.Reload.{reloaded_refusal, reload_is, reload_out}
@@ -41,7 +39,7 @@ abbrev define_a : List ℕ
 define_a =
     0x48 ∷ 0xa2 ∷ 0x00 ∷ 0x00 ∷ 0x0a ∷ 0x92 ∷ 0x42 ∷ 0x40 ∷ 0x00 ∷ 0x19 ∷ 0x00 ∷ 0x00 ∷ 0x18 ∷ 0xe1 ∷ 0x00 ∷ 0x00 ∷ 0x96 ∷ 0x00 ∷ []
 
-put_back : (reload_is Define bytes_a (part_of5 1) (asked 1 1 0) (lent 20) ≡ Bits (record { 0 = 137 }))
+put_back : (reload_is Define bytes_a (part_of5 1) (asked 1 1 0) (lent 20) ≡ Ok (record { 0 = 137 }))
     × (reload_out Define bytes_a (part_of5 1) (asked 1 1 0) (replicate 20 255) ≡ define_a ++ (255 ∷ 255 ∷ []))
 unfolding computed
 put_back = (refl, refl)
@@ -87,7 +85,7 @@ abbrev external : List ℕ
 external =
     0x48 ∷ 0xe2 ∷ 0x00 ∷ 0x00 ∷ 0x0a ∷ 0xd2 ∷ 0x04 ∷ 0x00 ∷ 0x07 ∷ 0xd2 ∷ 0x00 ∷ 0x00 ∷ 0x04 ∷ 0x43 ∷ 0x11 ∷ 0x20 ∷ 0x80 ∷ 0x87 ∷ 0x00 ∷ []
 
-numbers-back : (reload_is DefineExternal full (part_of5 2) (asked 1 1 1) (lent 19) ≡ Bits (record { 0 = 146 }))
+numbers-back : (reload_is DefineExternal full (part_of5 2) (asked 1 1 1) (lent 19) ≡ Ok (record { 0 = 146 }))
     × (reload_out DefineExternal full (part_of5 2) (asked 1 1 1) (replicate 20 255) ≡ external ++ (255 ∷ []))
 unfolding computed
 numbers-back = (refl, refl)
@@ -101,9 +99,9 @@ unfolding computed
 groups-back = (refl, refl)
 
 -- the removal of a part without lists
-removed : (reload_is Define bare (part_of5 1) (asked 2 1 1) (lent 7) ≡ Bits (record { 0 = 50 }))
+removed : (reload_is Define bare (part_of5 1) (asked 2 1 1) (lent 7) ≡ Ok (record { 0 = 50 }))
     × (reload_out Define bare (part_of5 1) (asked 2 1 1) (lent 7) ≡ 0x48 ∷ 0xa2 ∷ 0x00 ∷ 0x00 ∷ 0x0a ∷ 0xe2 ∷ 0x80 ∷ [])
-    × (reload_is DefineExternal bare_numbers (part_of5 2) (asked 2 1 1) (lent 7) ≡ Bits (record { 0 = 50 }))
+    × (reload_is DefineExternal bare_numbers (part_of5 2) (asked 2 1 1) (lent 7) ≡ Ok (record { 0 = 50 }))
     × (reload_out DefineExternal bare_numbers (part_of5 2) (asked 2 1 1) (lent 7) ≡ 0x48 ∷ 0xe2 ∷ 0x00 ∷ 0x00 ∷ 0x0a ∷ 0xe2 ∷ 0x80 ∷ [])
 unfolding computed
 removed = (refl, refl, refl, refl)
@@ -136,7 +134,7 @@ damaged b = take 16 b ++ (0x48 ∷ drop 17 b)
 
 in_order : (refusal Define (damaged bytes_a) (part_of5 3) (asked 2 0 0) 0 ≡ plain 9)
     × (refusal Define (damaged bytes_a) (part_of5 2) (asked 3 0 0) 0 ≡ plain 9)
-    × (refusal Define (damaged bytes_a) (part_of5 2) (asked 2 0 0) 0 ≡ of_body 0 (At 6)) × (refusal Define [] (part_of5 2) (asked 2 0 0) 0 ≡ plain 7)
+    × (refusal Define (damaged bytes_a) (part_of5 2) (asked 2 0 0) 0 ≡ of_body 0 (Some 6)) × (refusal Define [] (part_of5 2) (asked 2 0 0) 0 ≡ plain 7)
     × (refusal Define bytes_a (part_of5 2) (asked 2 0 0) 0 ≡ plain 11) × (refusal Define bytes_a (part_of5 1) (asked 2 0 0) 0 ≡ plain 12)
     × (refusal Define bytes_a (part_of5 1) (asked 1 0 0) 17 ≡ plain 8) × (refusal Define bytes_a (part_of5 1) (asked 1 0 0) 18 ≡ plain 0)
 unfolding computed
@@ -144,7 +142,7 @@ in_order = (refl, refl, refl, refl, refl, refl, refl, refl)
 
 in_order-external : (refusal DefineExternal (damaged full) (part_of5 3) (asked 2 0 0) 0 ≡ plain 9)
     × (refusal DefineExternal (damaged full) (part_of5 1) (asked 1 0 1) 0 ≡ plain 9)
-    × (refusal DefineExternal (damaged full) (part_of5 1) (asked 2 0 0) 0 ≡ of_body 0 (At 6))
+    × (refusal DefineExternal (damaged full) (part_of5 1) (asked 2 0 0) 0 ≡ of_body 0 (Some 6))
     × (refusal DefineExternal [] (part_of5 1) (asked 2 0 0) 0 ≡ plain 7) × (refusal DefineExternal full (part_of5 1) (asked 2 0 0) 0 ≡ plain 11)
     × (refusal DefineExternal full (part_of5 2) (asked 2 0 0) 0 ≡ plain 12) × (refusal DefineExternal full (part_of5 2) (asked 1 0 0) 18 ≡ plain 8)
     × (refusal DefineExternal full (part_of5 2) (asked 1 0 0) 19 ≡ plain 0)

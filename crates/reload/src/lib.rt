@@ -1,18 +1,19 @@
 // A held part put back into a switch: the DEFINE or DEFINE EXTERNAL that is written for it (document 02, requests 2026-01 and 2026-06).
 #![tactic(auto)]
 
-ghost use Rattle.std.specs.Prelude.{◌≡◌, ◌+◌, ◌≤◌, length};
+ghost use Rattle.std.specs.Prelude.{◌≡◌, ◌+◌, ◌≤◌, length, take, drop, Ok};
 ghost use Rattle.bits.specs.Frame.{bytes_for};
+ghost use Rattle.reader.specs.Read.{answer_of, found_in, read_is};
+ghost use Rattle.writer.specs.Write.{write_is, out_is};
 ghost use Rattle.archive.specs.Refusals.{plain};
 ghost use Rattle.reload.specs.Define.{is_definition, kind_of, part_for, define_of, no_identities, no_numbers, stands_in};
 ghost use Rattle.reload.specs.Reload.{reload_is, reload_out};
 ghost use Rattle.reload.specs.Inner.{reloaded_from, reloaded_out};
 
-use archive::{EntryPlace, Fetched, Key, Refusal};
+use archive::{Key, Refusal};
 use bits::BitCount;
 use grammar::record::{Figures, Lists, Record};
 use grammar::site;
-use pdu::{BitPlace, Written};
 
 // The PDU in which a part is put back: a DEFINE has lists of identities, a DEFINE EXTERNAL lists of numbers.
 #[derive(Clone, Copy)]
@@ -27,13 +28,6 @@ pub struct Definition {
     pub definition: u32,
     pub delivery: u32,
     pub acknowledgement: u32,
-}
-
-// The length in bits of the PDU that was written, or a refusal.
-#[derive(Clone, Copy)]
-pub enum Reloaded {
-    Bits(BitCount),
-    Refused(Refusal),
 }
 
 // Whether a definition may be asked for.
@@ -133,17 +127,39 @@ fn define_of(target: Target, wanted: Definition, part: Record) -> Record
 }
 
 // A refusal without entry and place.
-fn refused(number: u32) -> Reloaded
-    ensures { result ≡ Reloaded.Refused (plain number) }
+fn refused(number: u32) -> Refusal
+    ensures { result ≡ plain number }
 {
-    Reloaded::Refused(Refusal {
+    Refusal {
         number,
-        entry: EntryPlace::Nowhere,
-        place: BitPlace::Nowhere,
-    })
+        entry: None,
+        place: None,
+    }
 }
 
-// Writes the PDU that puts back the body of n bits at a place of the archive.
+// The record of an accepted PDU. A call by itself, as the next: so the words that each lays on the stack are never there together.
+#[inline(never)]
+fn part_of(s: &[u8], n: BitCount) -> Record
+    requires { answer_of (read_is s.now n.0) ≡ Ok tt }
+    ensures { result ≡ found_in (read_is s.now n.0) }
+{
+    pdu::read(s, n).unwrap()
+}
+
+// Writes the PDU that puts a part back.
+#[inline(never)]
+fn write_define(
+    target: Target,
+    wanted: Definition,
+    part: Record,
+    out: &mut [u8],
+) -> Result<BitCount, u32>
+    ensures { (result ≡ write_is (define_of target wanted part) out.old) × (out.new ≡ out_is (define_of target wanted part) out.old) }
+{
+    pdu::write(define_of(target, wanted, part), out)
+}
+
+// Writes the PDU that puts back the body of n bits at a place of the archive, which holds it: so it is accepted.
 fn reload_body(
     archive: &[u8],
     at: usize,
@@ -151,46 +167,45 @@ fn reload_body(
     target: Target,
     wanted: Definition,
     out: &mut [u8],
-) -> Reloaded
-    requires { at + bytes_for n.0 ≤ length archive.now }
+) -> Result<BitCount, Refusal>
+    requires within { at + bytes_for n.0 ≤ length archive.now }
+    requires accepted { answer_of (read_is (take (bytes_for n.0) (drop at archive.now)) n.0) ≡ Ok tt }
     ensures value { result ≡ reloaded_from target archive.now at n.0 wanted out.old }
     ensures out_after { out.new ≡ reloaded_out target archive.now at n.0 wanted out.old }
 {
     let end = at + n.bytes();
-    let reading = pdu::read(&archive[at..end], n);
-    let part = reading.found;
+    let part = part_of(&archive[at..end], n);
     let lists = part.lists;
     let carried = site::defined_part(part_for(target), wanted.definition);
     if !stand_in(carried, lists) {
-        return refused(12);
+        return Err(refused(12));
     }
-    match pdu::write(define_of(target, wanted, part), out) {
-        Written::Bits(length) => Reloaded::Bits(length),
-        Written::Refused(number) => refused(number),
+    match write_define(target, wanted, part, out) {
+        Ok(length) => Ok(length),
+        Err(number) => Err(refused(number)),
     }
 }
 
-// Writes the PDU that puts the part held for a user back: 9, 7, 11, 12, 8.
+// Writes the PDU that puts the part held for a user back; its length in bits. Refusals in order: 9, 7, 11, 12, 8.
 pub fn reload(
     target: Target,
     archive: &[u8],
     key: Key,
     wanted: Definition,
     out: &mut [u8],
-) -> Reloaded
+) -> Result<BitCount, Refusal>
     ensures value { result ≡ reload_is target archive.now key wanted out.old }
     ensures out_after { out.new ≡ reload_out target archive.now key wanted out.old }
 {
     if !archive::in_range(key) {
-        return refused(9);
+        return Err(refused(9));
     }
     if !is_definition(wanted) {
-        return refused(9);
+        return Err(refused(9));
     }
-    let found = archive::fetch(archive, key);
-    match found {
-        Fetched::Refused(refusal) => Reloaded::Refused(refusal),
-        Fetched::NotHeld => refused(11),
-        Fetched::Body(at, n, _) => reload_body(archive, at, n, target, wanted, out),
+    match archive::fetch(archive, key) {
+        Err(refusal) => Err(refusal),
+        Ok(None) => Err(refused(11)),
+        Ok(Some(body)) => reload_body(archive, body.off, body.bits, target, wanted, out),
     }
 }

@@ -1,7 +1,7 @@
 -- A loop that tests the elements of a list in order: what is left to test decides what the whole list gives. Assumes nothing.
-use mathlib.Core.Path.{◌≡◌, refl, sym, ◌∙◌}
-use mathlib.Core.Bool.{Bool, true, false, ◌&&◌}
-use mathlib.Core.List.{List, []}
+use mathlib.Core.Path.{◌≡◌, refl, sym, ap, ◌∙◌}
+use mathlib.Core.Bool.{Bool, true, false, ◌&&◌, ◌||◌}
+use mathlib.Core.List.{List, [], ◌∷◌}
 use Prim.Native.Nat.{ℕ, zero, suc, ◌+◌, ◌≤◌, ◌<◌}
 use native.Mathlib.Nat.{zero-add}
 use native.Mathlib.Numerals.{add-one}
@@ -10,8 +10,15 @@ use lib.ListN.{length, get_or, take, length-take, drop_of_length-le}
 use lib.Dec.{eqb}
 use borrow.Author.Tests.{ne_eqb}
 use lib.Seq.{slice, slice-cons}
+use Rattle.std.specs.List.{list_any}
 use Rattle.bits.specs.Lists.{some, every}
 use Rattle.rules.specs.Matching.{same}
+
+-- std's word for the same test
+pub any-some : {A : Type 0} (f : A → Bool) (l : List A) → list_any f l ≡ some f l
+unfolding some
+any-some f [] = refl
+any-some f (a ∷ l) = ap (λ (t : Bool). f a || t) (any-some f l)
 
 -- a sum is zero if what it was and what is added are
 more : {x : Bool} (sum v : ℕ) (rest : Bool) → eqb sum 0 && (eqb v 0 && rest) ≡ x → eqb (sum + v) 0 && rest ≡ x

@@ -1,12 +1,10 @@
 -- Worked cases that antt computes: each limit of a request from both sides, and which numbers match.
-use Rattle.std.specs.Prelude.{◌≡◌, refl, true, false, List, [], ◌∷◌, ◌++◌, map, ℕ, replicate}
+use Rattle.std.specs.Prelude.{◌≡◌, refl, true, false, List, [], ◌∷◌, ◌++◌, map, ℕ, replicate, Option, Some, None}
 use Rattle.rules.specs.Request.{request_refusal, requests}
 use Rattle.rules.specs.Matching.{is_number}
 use Rattle.rules.specs.Rule.{rules}
 use Rattle.rules.specs.declared.request.User.{User}
 use Rattle.rules.specs.declared.request.Destination.TheVariants.{Identity, Number}
-use Rattle.rules.specs.declared.request.Group.{Group}
-use Rattle.rules.specs.declared.request.Group.TheVariants.{Of, NoGroup}
 use Rattle.rules.specs.declared.request.Request.{Request}
 
 -- ---- requests
@@ -15,25 +13,25 @@ abbrev user : ℕ → ℕ → User
 user network ssi = record { network = network; ssi = ssi }
 
 -- a call of user 1/5 to identity 1/100, and one to an external number, but for what a case changes
-abbrev to_identity : User → ℕ → User → List ℕ → Group → Request
+abbrev to_identity : User → ℕ → User → List ℕ → Option User → Request
 to_identity caller service called digits group =
     record { user = caller; service = service; destination = Identity called; digits = digits; group = group }
 
 abbrev to_number : ℕ → List ℕ → Request
 to_number length digits =
-    record { user = user 1 5; service = 1; destination = Number (record { 0 = length }); digits = digits; group = NoGroup }
+    record { user = user 1 5; service = 1; destination = Number (record { 0 = length }); digits = digits; group = None }
 
 abbrev by : ℕ → Request
-by service = to_identity (user 1 5) service (user 1 100) (replicate 24 0) NoGroup
+by service = to_identity (user 1 5) service (user 1 100) (replicate 24 0) None
 
 abbrev from : User → Request
-from caller = to_identity caller 1 (user 1 100) (replicate 24 0) NoGroup
+from caller = to_identity caller 1 (user 1 100) (replicate 24 0) None
 
 abbrev to : User → Request
-to called = to_identity (user 1 5) 1 called (replicate 24 0) NoGroup
+to called = to_identity (user 1 5) 1 called (replicate 24 0) None
 
 abbrev within : User → Request
-within group = to_identity (user 1 5) 1 (user 1 100) (replicate 24 0) (Of group)
+within group = to_identity (user 1 5) 1 (user 1 100) (replicate 24 0) (Some group)
 
 -- the refusals at these values
 abbrev refusals : (ℕ → Request) → List ℕ → List ℕ
@@ -80,8 +78,8 @@ used-places = (refl, refl)
 -- a place that is not used is zero: after the digits of a number, and anywhere beside an identity
 unused-places : (refusals (λ d. to_number 2 (1 ∷ 1 ∷ d ∷ replicate 21 0)) (0 ∷ 1 ∷ 2 ∷ []) ≡ 0 ∷ 9 ∷ 9 ∷ [])
     × (refusals (λ d. to_number 23 (replicate 23 1 ++ (d ∷ []))) (0 ∷ 1 ∷ 12 ∷ []) ≡ 0 ∷ 9 ∷ 9 ∷ [])
-    × (refusals (λ d. to_identity (user 1 5) 1 (user 1 100) (d ∷ replicate 23 0) NoGroup) (0 ∷ 1 ∷ []) ≡ 0 ∷ 9 ∷ [])
-    × (refusals (λ d. to_identity (user 1 5) 1 (user 1 100) (replicate 23 0 ++ (d ∷ [])) NoGroup) (0 ∷ 1 ∷ []) ≡ 0 ∷ 9 ∷ [])
+    × (refusals (λ d. to_identity (user 1 5) 1 (user 1 100) (d ∷ replicate 23 0) None) (0 ∷ 1 ∷ []) ≡ 0 ∷ 9 ∷ [])
+    × (refusals (λ d. to_identity (user 1 5) 1 (user 1 100) (replicate 23 0 ++ (d ∷ [])) None) (0 ∷ 1 ∷ []) ≡ 0 ∷ 9 ∷ [])
 unfolding requests
 unused-places = (refl, refl, refl, refl)
 

@@ -1,10 +1,10 @@
 -- When a list names a user, an external number or a service. `missing` is the network that a missing extension means.
-use Rattle.std.specs.Prelude.{ℕ, Bool, true, false, ◌&&◌, ◌||◌, List, [], ◌∷◌, take, get_or, eqb, leb}
+use Rattle.std.specs.Prelude.{ℕ, Bool, true, false, ◌&&◌, ◌||◌, List, [], ◌∷◌, take, get_or, eqb, leb, Option, Some, None}
 use Rattle.bits.specs.Lists.{some}
 use Rattle.grammar.specs.SiteSheet.{range_type, entries_of}
 use Rattle.grammar.specs.Grammar.{zero_identity, network_of}
 use Rattle.grammar.specs.declared.site.RangeType.{RangeType}
-use Rattle.grammar.specs.declared.site.RangeType.TheVariants.{Empty, Single, FirstAndLast, NoRangeType}
+use Rattle.grammar.specs.declared.site.RangeType.TheVariants.{Empty, Single, FirstAndLast}
 use Rattle.grammar.specs.declared.record.Identity.{Identity}
 use Rattle.grammar.specs.declared.record.Identities.{Identities}
 use Rattle.grammar.specs.declared.record.Number.{Number}
@@ -23,11 +23,11 @@ unfoldable pub in_range : ℕ → User → Identity → Identity → Bool
 in_range missing u first last = eqb (network_of missing first) u.network && leb first.ssi u.ssi && leb u.ssi last.ssi
 
 -- by the site sheet's meaning of the range type
-abbrev pub among_entries : ℕ → List Identity → User → RangeType → Bool
-among_entries missing entries u Empty = false
-among_entries missing entries u (Single n) = some (is_entry missing u) (take n entries)
-among_entries missing entries u FirstAndLast = in_range missing u (get_or entries 0 zero_identity) (get_or entries 1 zero_identity)
-among_entries missing entries u NoRangeType = false
+abbrev pub among_entries : ℕ → List Identity → User → Option RangeType → Bool
+among_entries missing entries u (Some Empty) = false
+among_entries missing entries u (Some (Single n)) = some (is_entry missing u) (take n entries)
+among_entries missing entries u (Some FirstAndLast) = in_range missing u (get_or entries 0 zero_identity) (get_or entries 1 zero_identity)
+among_entries missing entries u None = false
 
 unfoldable pub identity_among : ℕ → Identities → User → Bool
 identity_among missing list u = among_entries missing list.entries u (range_type list.code)

@@ -1,13 +1,11 @@
 -- When a request is in its range; otherwise the answer is 9.
-use Rattle.std.specs.Prelude.{ℕ, Bool, true, ◌&&◌, take, drop, eqb, leb, ltb}
+use Rattle.std.specs.Prelude.{ℕ, Bool, true, ◌&&◌, take, drop, eqb, leb, ltb, Option, Some, None}
 use Rattle.bits.specs.Bits.{pick}
 use Rattle.bits.specs.Lists.{every}
 use Rattle.grammar.specs.SiteSheet.{digit_of, digit_refusal}
 use Rattle.rules.specs.declared.request.User.{User}
 use Rattle.rules.specs.declared.request.Destination.{Destination}
 use Rattle.rules.specs.declared.request.Destination.TheVariants.{Identity, Number}
-use Rattle.rules.specs.declared.request.Group.{Group}
-use Rattle.rules.specs.declared.request.Group.TheVariants.{Of, NoGroup}
 use Rattle.rules.specs.declared.request.Request.{Request}
 
 -- networks and SSIs are below 16,777,216
@@ -24,9 +22,9 @@ is_destination (Identity u) = is_user u
 is_destination (Number length) = leb 1 length.0 && leb length.0 24
 
 -- a group or none
-unfoldable pub is_group : Group → Bool
-is_group (Of u) = is_user u
-is_group NoGroup = true
+unfoldable pub is_group : Option User → Bool
+is_group (Some u) = is_user u
+is_group None = true
 
 -- how many digit places the destination uses: an identity uses none
 unfoldable pub digits_used : Destination → ℕ

@@ -3,7 +3,7 @@ ghost use Rattle.std.specs.Prelude.{◌≡◌};
 ghost use Rattle.rules.specs.Rule.{is_excepted, is_restricted, is_outside, both_empty};
 
 use crate::matching::{identity_among, number_among};
-use crate::request::{Destination, Group};
+use crate::request::{Destination, User};
 use grammar::record::{Identities, Lists};
 
 // The destination is among the exceptions.
@@ -37,15 +37,15 @@ pub(crate) fn is_restricted(
 }
 
 // The group list isn't empty, and either the call has no group or its group is not in the list.
-pub(crate) fn is_outside(groups: Identities, missing: u32, group: Group) -> bool
+pub(crate) fn is_outside(groups: Identities, missing: u32, group: Option<User>) -> bool
     ensures { result ≡ is_outside missing groups group }
 {
     if groups.code == 0 {
         return false;
     }
     match group {
-        Group::Of(u) => !identity_among(groups, missing, u),
-        Group::NoGroup => true,
+        Some(u) => !identity_among(groups, missing, u),
+        None => true,
     }
 }
 

@@ -4,6 +4,7 @@ ghost use Rattle.bits.specs.Lists.{every};
 ghost use Rattle.rules.specs.Request.{is_user, is_service, is_destination, is_group, is_digit, is_unused, digits_used, request_refusal};
 
 use bits::DigitCount;
+use grammar::site::digit_refusal;
 
 // A network and an SSI in it.
 #[derive(Clone, Copy)]
@@ -20,28 +21,19 @@ pub enum Destination {
 }
 
 #[derive(Clone, Copy)]
-pub enum Group {
-    Of(User),
-    NoGroup,
-}
-
-#[derive(Clone, Copy)]
 pub struct Request {
     pub user: User,
     pub service: u32,
     pub destination: Destination,
     pub digits: [u8; 24],
-    pub group: Group,
+    pub group: Option<User>,
 }
 
 // Networks and SSIs are of 24 bits.
 fn is_user(u: User) -> bool
     ensures { result ≡ is_user u }
 {
-    if 16777216 <= u.network {
-        return false;
-    }
-    u.ssi < 16777216
+    u.network < 16777216 && u.ssi < 16777216
 }
 
 fn is_service(service: u32) -> bool
@@ -58,21 +50,16 @@ fn is_destination(destination: Destination) -> bool
 {
     match destination {
         Destination::Identity(u) => is_user(u),
-        Destination::Number(length) => {
-            if length.0 == 0 {
-                return false;
-            }
-            length.0 <= 24
-        },
+        Destination::Number(length) => 1 <= length.0 && length.0 <= 24,
     }
 }
 
-fn is_group(group: Group) -> bool
+fn is_group(group: Option<User>) -> bool
     ensures { result ≡ is_group group }
 {
     match group {
-        Group::Of(u) => is_user(u),
-        Group::NoGroup => true,
+        Some(u) => is_user(u),
+        None => true,
     }
 }
 
@@ -86,16 +73,14 @@ fn digits_used(destination: Destination) -> DigitCount
     }
 }
 
-// Each used place has a legal digit.
+// Each used place has a legal digit. Summed, and not left at the first that is wrong (`all`): without a branch for each digit it is faster.
 fn used_are_digits(digits: [u8; 24], length: DigitCount) -> bool
     ensures { result ≡ every is_digit (take length.0 digits) }
 {
     let n = bits::least(length.0 as usize, 24);
     let mut refused = 0u32;
-    let mut i: usize = 0;
-    while i < n {
-        refused += grammar::site::digit_refusal(digits[i] as u32);
-        i += 1;
+    for &digit in &digits[..n] {
+        refused += digit_refusal(digit as u32);
     }
     refused == 0
 }
@@ -106,15 +91,14 @@ fn wide(digit: u8) -> u32
     digit as u32
 }
 
-// Each place that is not used is zero.
+// Each place that is not used is zero. Summed for the same reason.
 fn unused_are_zero(digits: [u8; 24], length: DigitCount) -> bool
     ensures { result ≡ every is_unused (drop length.0 digits) }
 {
+    let n = bits::least(length.0 as usize, 24);
     let mut sum = 0u32;
-    let mut i = bits::least(length.0 as usize, 24);
-    while i < 24 {
-        sum += wide(digits[i]);
-        i += 1;
+    for &digit in &digits[n..] {
+        sum += wide(digit);
     }
     sum == 0
 }

@@ -61,18 +61,16 @@ plain t (suc (suc p)) few h = absurd (omega arith)
 
 module _ {n p from : ℕ} {words : List ℕ} {start : Tally} (few : n ≤ 8) (alike : Alike n p from words)
     (fits : Fits (places identity no_identity 8 n) (entries_from identity_from 3 8 (drop from words)) start) where
-  -- so many are counted, up to a place and so many bits
-  abbrev pub Counted : ℕ → ℕ → ℕ → Type 0
-  Counted i place size =
-      Tallying identity no_identity identity_from 3 8 n words from start i place
-      (record { clean = start.clean; refusal = start.refusal; bits = size })
+  -- so many are counted, with so many bits
+  abbrev pub Counted : ℕ → ℕ → Type 0
+  Counted i size =
+      Tallying identity no_identity identity_from 3 8 n words from start i (record { clean = start.clean; refusal = start.refusal; bits = size })
 
-  moved : {i j x y a b : ℕ} → i ≡ j → x ≡ y → a ≡ b → Counted i x a → Counted j y b
-  moved {i} {j} {x} {y} {a} {b} p q r h =
-      subst (λ (k : ℕ). Counted k y b) p (subst (λ (k : ℕ). Counted i k b) q (subst (λ (k : ℕ). Counted i x k) r h))
+  moved : {i j a b : ℕ} → i ≡ j → a ≡ b → Counted i a → Counted j b
+  moved {i} {j} {a} {b} p r h = subst (λ (k : ℕ). Counted k b) p (subst (λ (k : ℕ). Counted i k) r h)
 
-  pub alike-counted : (i : ℕ) → i ≤ n → Counted i (from + 3 * i) (start.bits + (25 + 24 * p) * i)
-  alike-counted zero h = moved refl (omega arith) (omega (arith, mul-zero (25 + 24 * p))) (tallying-start fits)
+  pub alike-counted : (i : ℕ) → i ≤ n → Counted i (start.bits + (25 + 24 * p) * i)
+  alike-counted zero h = moved refl (omega (arith, mul-zero (25 + 24 * p))) (tallying-start fits)
   alike-counted (suc i) h =
-      moved (omega arith) (omega arith) (omega (arith, mul-suc (25 + 24 * p) i))
+      moved (omega arith) (omega (arith, mul-suc (25 + 24 * p) i))
       (tallying-next (alike-counted i (omega arith)) (omega arith) few (plain _ p alike.bit (alike.each i (omega arith))))

@@ -1,5 +1,5 @@
 -- A loop over the entries of a list among words, and what they come to so far. Assumes nothing.
-use mathlib.Core.Path.{◌≡◌, refl, ap, ◌∙◌}
+use mathlib.Core.Path.{◌≡◌, refl, ap, ◌∙◌, subst}
 use mathlib.Core.List.{List, ◌∷◌}
 use Prim.Native.Nat.{ℕ, zero, suc, ◌+◌, ◌-◌, ◌*◌, ◌≤◌, ◌<◌, min}
 use native.Mathlib.Nat.{sub-zero}
@@ -11,10 +11,10 @@ use Rattle.codec.specs.Parts.{seq}
 use Rattle.codec.specs.Places.{cons, places}
 use Rattle.words.specs.RecordWords.{entries_from}
 use Rattle.tally.specs.Tally.{Tallies}
-use Rattle.tally.specs.Inner.{Fits, Skips}
+use Rattle.tally.specs.Inner.{Fits, Skips, Uncarried}
 use Rattle.tally.specs.declared.Tally.{Tally}
 use Rattle.tally.proofs.Parts.{then, fits-first, fits_next}
-use Rattle.tally.proofs.Unused.{Uncarried, uncarried-places, skipped}
+use Rattle.tally.proofs.Unused.{uncarried-places, skipped}
 
 -- of the places from i on, the next is used, and the others are those from i + 1 on
 pub places-next : {A : Type 0} (c z : Codec A) (m n i : ℕ) → i < m → i < n → places c z (m - i) (n - i) ≡ cons c
@@ -43,14 +43,13 @@ places-most c z (suc m) (suc n) =
 
 -- ---- the loop
 
--- of m entries of k words each from `from` on, of which the PDU carries the first n, the first i are counted and the next stands at `place`;
--- the others fit, and whatever they come to is what all of them come to
-pub record Tallying {A : Type 0} (c z : Codec A) (f : List ℕ → A) (k m n : ℕ) (words : List ℕ) (from : ℕ) (start : Tally) (i place : ℕ)
+-- of m entries of k words each from `from` on, of which the PDU carries the first n, the first i are counted; the others fit, and whatever
+-- they come to is what all of them come to
+pub record Tallying {A : Type 0} (c z : Codec A) (f : List ℕ → A) (k m n : ℕ) (words : List ℕ) (from : ℕ) (start : Tally) (i : ℕ)
     (t : Tally) : Type 0 where
   pub done : i ≤ n
-  pub there : place ≡ from + k * i
-  pub fits : Fits (places c z (m - i) (n - i)) (entries_from f k (m - i) (drop place words)) t
-  pub rest : (r : Tally) → Tallies (places c z (m - i) (n - i)) (entries_from f k (m - i) (drop place words)) t r
+  pub fits : Fits (places c z (m - i) (n - i)) (entries_from f k (m - i) (drop (from + k * i) words)) t
+  pub rest : (r : Tally) → Tallies (places c z (m - i) (n - i)) (entries_from f k (m - i) (drop (from + k * i) words)) t r
       → Tallies (places c z m n) (entries_from f k m (drop from words)) start r
 
 -- one entry before others
@@ -64,16 +63,22 @@ module _ {A : Type 0} (c : Codec A) (d : Codec (List A)) {a : A} {l : List A} {t
   fits-before h = record { short = h.short }
 
 module _ {A : Type 0} {c z : Codec A} {f : List ℕ → A} {k m n : ℕ} {words : List ℕ} {from : ℕ} {start : Tally} where
-  pub tallying-start : Fits (places c z m n) (entries_from f k m (drop from words)) start → Tallying c z f k m n words from start 0 from start
-  tallying-start h = record {
-    done = omega arith;
-    there = omega arith;
-    fits = rw (sub-zero m, sub-zero n) h;
-    rest = λ r p. rw
-        (sub-zero m, sub-zero n) at p;
-  }
+  pub tallying-start : Fits (places c z m n) (entries_from f k m (drop from words)) start → Tallying c z f k m n words from start 0 start
+  tallying-start h =
+      let none : from + k * 0 ≡ from = omega arith in
+      record {
+        done = omega arith;
+        fits = rw (none, sub-zero m, sub-zero n) h;
+        rest = λ r p. rw (none, sub-zero m, sub-zero n) at p;
+      }
 
-  module _ {i place : ℕ} {t : Tally} (h : Tallying c z f k m n words from start i place t) where
+  module _ {i : ℕ} {t : Tally} (h : Tallying c z f k m n words from start i t) where
+    abbrev place : ℕ
+    place = from + k * i
+
+    next : place + k ≡ from + k * (i + 1)
+    next = omega arith
+
     module _ (inside : i < n) (few : n ≤ m) where
       here : Fits (seq c (λ x. places c z (m - (i + 1)) (n - (i + 1))))
           (f (drop place words), entries_from f k (m - (i + 1)) (drop (place + k) words)) t
@@ -82,12 +87,11 @@ module _ {A : Type 0} {c z : Codec A} {f : List ℕ → A} {k m n : ℕ} {words 
       pub tallying-fits : Fits c (f (drop place words)) t
       tallying-fits = fits-first _ here
 
-      pub tallying-next : {s : Tally} → Tallies c (f (drop place words)) t s → Tallying c z f k m n words from start (i + 1) (place + k) s
-      tallying-next p = record {
+      pub tallying-next : {s : Tally} → Tallies c (f (drop place words)) t s → Tallying c z f k m n words from start (i + 1) s
+      tallying-next {s} p = record {
         done = omega arith;
-        there = omega (arith, h.there);
-        fits = fits_next _ here p;
-        rest = λ r q. h.rest r (rw (places-next c z m n i (omega arith) inside, entries_next f k m i words place (omega arith)) (before _ _ p q));
+        fits = subst (λ (q : ℕ). Fits (places c z (m - (i + 1)) (n - (i + 1))) (entries_from f k (m - (i + 1)) (drop q words)) s) next (fits_next _ here p);
+        rest = λ r q. h.rest r (rw (places-next c z m n i (omega arith) inside, entries_next f k m i words place (omega arith), next) (before _ _ p q));
       }
 
     -- after the last that is used, the words of the others

@@ -1,5 +1,4 @@
 pub mod Parts
-pub mod RangeTypes
 pub mod Entries
 pub mod Narrow
 pub mod Alike

@@ -18,7 +18,7 @@ use Rattle.words.specs.RecordWords.{word, narrow, entries_from, identity_from}
 use Rattle.words.specs.RecordWords.{identities_from, number_from, numbers_from, services_from, lists_from}
 use Rattle.words.proofs.Filling.{words-taken, words-narrowed}
 use Rattle.tally.specs.Tally.{Tallies}
-use Rattle.tally.specs.Inner.{none_above, Skips}
+use Rattle.tally.specs.Inner.{none_above, Skips, Absent, Uncarried}
 use Rattle.tally.specs.declared.Tally.{Tally}
 use Rattle.tally.proofs.Parts.{first-zero}
 use Rattle.tally.proofs.Narrow.{zero-leb, narrow-leb}
@@ -36,16 +36,6 @@ none-front most m n l few none =
     (both (none_above most (take m l)) (none_above most (take (n - m) (drop m l)))
     (sym (ap (none_above most) (ap (λ (k : ℕ). take k l) (sym all) ∙ take-add m (n - m) l)
     ∙ none_append most (take m l) (take (n - m) (drop m l))) ∙ none)).0
-
--- of the value a the PDU carries nothing, and its words are all zero or it is not clean
-pub record Absent {A : Type 0} (c : Codec A) (a : A) (words : List ℕ) : Type 0 where
-  pub clean : c.clean a ≡ none_above 0 words
-  pub faultless : c.fault a ≡ 0
-  pub empty : c.print a ≡ []
-
--- so is each value that is read from n words
-abbrev pub Uncarried : {A : Type 0} → ℕ → Codec A → (List ℕ → A) → Type 0
-Uncarried n c from = (w : List ℕ) → n ≤ length w → Absent c (from w) (take n w)
 
 -- ---- what it comes to
 

@@ -16,7 +16,8 @@ use Rattle.grammar.specs.declared.record.Lists.{Lists}
 use Rattle.words.specs.RecordWords.{word, narrow, narrowed, entries_from, identity_from}
 use Rattle.words.specs.RecordWords.{identities_from, number_from, numbers_from, services_from, lists_from}
 use Rattle.words.proofs.Filling.{first_word}
-use Rattle.tally.proofs.Unused.{Absent, uncarried-word, uncarried-two-numbers}
+use Rattle.tally.specs.Inner.{Absent}
+use Rattle.tally.proofs.Unused.{uncarried-word, uncarried-two-numbers}
 
 module _ (w : List ℕ) (at : ℕ) where
   abbrev pub identity_at : Identity

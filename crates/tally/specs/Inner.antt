@@ -1,5 +1,5 @@
 -- Counting part by part: what each part needs, and what words come to that the PDU does not carry.
-use Rattle.std.specs.Prelude.{◌≡◌, Bool, ◌&&◌, List, ℕ, ◌+◌, ◌*◌, ◌/◌, ◌^◌, ◌≤◌, ◌<◌, length, drop, leb}
+use Rattle.std.specs.Prelude.{◌≡◌, Bool, ◌&&◌, List, [], ℕ, ◌+◌, ◌*◌, ◌/◌, ◌^◌, ◌≤◌, ◌<◌, length, take, drop, leb}
 use Rattle.bits.specs.Lists.{every}
 use Rattle.codec.specs.Codec.{Codec}
 use Rattle.grammar.specs.declared.record.Identity.{Identity}
@@ -30,3 +30,13 @@ pub record Plain (present : ℕ) (e : Identity) : Type 0 where
 pub record Alike (n present from : ℕ) (words : List ℕ) : Type 0 where
   pub bit : present ≤ 1
   pub each : (k : ℕ) → k < n → Plain present (identity_from (drop (from + 3 * k) words))
+
+-- of the value a the PDU carries nothing, and its words are all zero or it is not clean
+pub record Absent {A : Type 0} (c : Codec A) (a : A) (words : List ℕ) : Type 0 where
+  pub clean : c.clean a ≡ none_above 0 words
+  pub faultless : c.fault a ≡ 0
+  pub empty : c.print a ≡ []
+
+-- so is each value that is read from n words
+abbrev pub Uncarried : {A : Type 0} → ℕ → Codec A → (List ℕ → A) → Type 0
+Uncarried n c from = (w : List ℕ) → n ≤ length w → Absent c (from w) (take n w)

@@ -3,6 +3,7 @@
 #![tactic(auto)]
 
 mod elements;
+mod entry;
 mod identities;
 mod lists;
 mod numbers;
@@ -15,17 +16,14 @@ ghost use Rattle.words.specs.RecordWords.{identities_from, services_from, record
 ghost use Rattle.tally.specs.Tally.{nothing, Tallies, TalliesWords};
 ghost use Rattle.tally.specs.Inner.{Fits};
 
-use elements::{both, first_refusal, tally_element, tally_unused};
+use elements::first_refusal;
 use grammar::figures::{figures_clean, figures_refusal, form_of, part_in};
 use grammar::record::Figures;
 use grammar::site::{ListKind, PduType, SS_TYPE, kind_refusal, pdu_type};
-use identities::tally_identities;
-use lists::tally_part;
-use services::tally_services;
 use words::record::{RECORD_WORDS, figures_from};
 
 // What the parts so far come to: all is zero that must be, the first refusal number or 0, and the length in bits.
-// Each function counts one part more, from `start` on.
+// Each method counts one part more.
 #[derive(Clone, Copy)]
 pub struct Tally {
     pub clean: bool,
@@ -33,52 +31,54 @@ pub struct Tally {
     pub bits: usize,
 }
 
-// Affected users, where the PDU has them.
-fn tally_users(start: Tally, carried: bool, words: &[u32]) -> Tally
-    requires { (length words.now ≡ 520) × Fits (users_if carried) (identities_from (drop 1 words.now)) start }
-    ensures { Tallies (users_if carried) (identities_from (drop 1 words.now)) start result }
-{
-    if carried {
-        return tally_identities(start, ListKind::Users, words, 1);
+impl Tally {
+    // Affected users, where the PDU has them.
+    fn users(self, carried: bool, words: &[u32]) -> Tally
+        requires { (length words.now ≡ 520) × Fits (users_if carried) (identities_from (drop 1 words.now)) self }
+        ensures { Tallies (users_if carried) (identities_from (drop 1 words.now)) self result }
+    {
+        if carried {
+            return self.identities(ListKind::Users, words, 1);
+        }
+        self.unused(words, 1, 25)
     }
-    tally_unused(start, words, 1, 25)
-}
 
-// The figures of a type, so many bits of them.
-fn tally_figures(start: Tally, kind: PduType, width: usize, figures: Figures) -> Tally
-    requires { (width ≡ width_of kind) × Fits (figures_of kind) figures start }
-    ensures { Tallies (figures_of kind) figures start result }
-{
-    let bits = start.bits + width;
-    Tally {
-        clean: both(start.clean, figures_clean(kind, figures)),
-        refusal: first_refusal(start.refusal, figures_refusal(kind, figures)),
-        bits,
+    // The figures of a type, so many bits of them.
+    fn figures(self, kind: Option<PduType>, width: usize, figures: Figures) -> Tally
+        requires { (width ≡ width_of kind) × Fits (figures_of kind) figures self }
+        ensures { Tallies (figures_of kind) figures self result }
+    {
+        let zero = figures_clean(kind, figures);
+        Tally {
+            clean: self.clean && zero,
+            refusal: first_refusal(self.refusal, figures_refusal(kind, figures)),
+            bits: self.bits + width,
+        }
     }
-}
 
-// Services, where the PDU has them.
-fn tally_services_if(start: Tally, carried: bool, words: &[u32]) -> Tally
-    requires { (length words.now ≡ 520) × Fits (services_if carried) (services_from (drop 29 words.now)) start }
-    ensures { Tallies (services_if carried) (services_from (drop 29 words.now)) start result }
-{
-    if carried {
-        return tally_services(start, words, 29);
+    // Services, where the PDU has them.
+    fn services_if(self, carried: bool, words: &[u32]) -> Tally
+        requires { (length words.now ≡ 520) × Fits (services_if carried) (services_from (drop 29 words.now)) self }
+        ensures { Tallies (services_if carried) (services_from (drop 29 words.now)) self result }
+    {
+        if carried {
+            return self.services(words, 29);
+        }
+        self.unused(words, 29, 8)
     }
-    tally_unused(start, words, 29, 8)
-}
 
-// What follows the PDU type: the row of its table.
-fn tally_rest(start: Tally, kind: PduType, words: &[u32]) -> Tally
-    requires { (length words.now ≡ 520) × Fits (rest_of kind) (from_record (record_from words.now)).1 start }
-    ensures { Tallies (rest_of kind) (from_record (record_from words.now)).1 start result }
-{
-    let form = form_of(kind);
-    let figures = figures_from(words);
-    let after_users = tally_users(start, form.users, words);
-    let after_figures = tally_figures(after_users, kind, form.width, figures);
-    let after_services = tally_services_if(after_figures, form.services, words);
-    tally_part(after_services, part_in(kind, figures), words, 37)
+    // What follows the PDU type: the row of its table.
+    fn rest(self, kind: Option<PduType>, words: &[u32]) -> Tally
+        requires { (length words.now ≡ 520) × Fits (rest_of kind) (from_record (record_from words.now)).1 self }
+        ensures { Tallies (rest_of kind) (from_record (record_from words.now)).1 self result }
+    {
+        let form = form_of(kind);
+        let figures = figures_from(words);
+        let after_users = self.users(form.users, words);
+        let after_figures = after_users.figures(kind, form.width, figures);
+        let after_services = after_figures.services_if(form.services, words);
+        after_services.part(part_in(kind, figures), words, 37)
+    }
 }
 
 // SS type, PDU type, and what follows them.
@@ -92,9 +92,9 @@ fn tally_record(words: &[u32]) -> Tally
         refusal: 0,
         bits: 0,
     };
-    let after_ss = tally_element(start, 6, SS_TYPE, 0);
-    let after_kind = tally_element(after_ss, 5, kind, kind_refusal(kind));
-    tally_rest(after_kind, pdu_type(kind), words)
+    let after_ss = start.element(6, SS_TYPE, 0);
+    let after_kind = after_ss.element(5, kind, kind_refusal(kind));
+    after_kind.rest(pdu_type(kind), words)
 }
 
 // The words of a record; words of another count are no record's.

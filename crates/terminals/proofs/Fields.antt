@@ -1,17 +1,18 @@
 -- What the fields of a set line that is not refused say. Assumes nothing.
-use mathlib.Core.Path.{◌≡◌, refl}
-use mathlib.Core.Bool.{Bool, true, false, not, ◌&&◌, ◌||◌}
+use mathlib.Core.Path.{◌≡◌, refl, sym, ap, ◌∙◌}
+use mathlib.Core.Bool.{Bool, true, false, not}
+use Rattle.std.proofs.lemmas.Bool.{false≢true}
 use Prim.Native.Nat.{ℕ, ◌+◌, ◌≤◌, ◌<◌}
 use native.Mathlib.Omega.{arith}
 use borrow.Author.Tests.{leb-true, ltb-true}
 use lib.Dec.{leb, ltb}
+use Rattle.std.specs.Prelude.{Option, Some, None, is_some, Result, Ok, Err}
+use Rattle.std.proofs.lemmas.Option.{same_Some}
 use Rattle.bits.specs.Bits.{guard}
-use Rattle.bits.proofs.Tests.{both}
+use Rattle.bits.proofs.Tests.{both, never}
 use Rattle.terminals.specs.Layers.{layer_at}
-use Rattle.terminals.specs.Profiles.{is_value, takes, fields_refusal}
+use Rattle.terminals.specs.Profiles.{is_among, is_value, takes, fields_refusal}
 use Rattle.terminals.specs.declared.layers.Layer.{Layer}
-use Rattle.terminals.specs.declared.layers.Third.{Third}
-use Rattle.terminals.specs.declared.layers.Third.TheVariants.{Given, Missing}
 use Rattle.terminals.specs.declared.lines.Fields.{Fields}
 
 -- each test passes
@@ -22,14 +23,15 @@ pub record Settled (f : Fields) : Type 0 where
   pub taken : takes (layer_at f.layer) f.third ≡ true
   pub no-fourth : f.fourth ≡ false
 
-pub settled : (f : Fields) → fields_refusal f ≡ 0 → Settled f
+pub settled : (f : Fields) → fields_refusal f ≡ Ok tt → Settled f
 unfolding fields_refusal
 settled f = go (leb f.profile 3) refl (leb f.layer 4) refl (is_value (layer_at f.layer) f.third) refl
     (takes (layer_at f.layer) f.third) refl f.fourth refl
   where
     go : (p : Bool) → leb f.profile 3 ≡ p → (l : Bool) → leb f.layer 4 ≡ l → (v : Bool) → is_value (layer_at f.layer) f.third ≡ v
         → (t : Bool) → takes (layer_at f.layer) f.third ≡ t → (o : Bool) → f.fourth ≡ o
-        → ◌≡◌ {A = ℕ} (guard p 16 (guard l 16 (guard v 16 (guard t 17 (guard (not o) 17 0))))) 0 → Settled f
+        → guard {A = Result (Unit {0}) ℕ} p (Err 16) (guard l (Err 16) (guard v (Err 16) (guard t (Err 17) (guard (not o) (Err 17) (Ok tt))))) ≡ Ok tt
+        → Settled f
     go true ep true el true ev true et false eo e = record {
       profile = leb-true f.profile 3 ep;
       layer = leb-true f.layer 4 el;
@@ -37,31 +39,38 @@ settled f = go (leb f.profile 3) refl (leb f.layer 4) refl (is_value (layer_at f
       taken = et;
       no-fourth = eo;
     }
-    go false ep l el v ev t et o eo e = absurd (omega arith)
-    go true ep false el v ev t et o eo e = absurd (omega arith)
-    go true ep true el false ev t et o eo e = absurd (omega arith)
-    go true ep true el true ev false et o eo e = absurd (omega arith)
-    go true ep true el true ev true et true eo e = absurd (omega arith)
+    go false ep l el v ev t et o eo e = never cc
+    go true ep false el v ev t et o eo e = never cc
+    go true ep true el false ev t et o eo e = never cc
+    go true ep true el true ev false et o eo e = never cc
+    go true ep true el true ev true et true eo e = never cc
 
 -- a value of its layer
 pub record Value (row : Layer) (x : ℕ) : Type 0 where
-  pub named : row.named ≡ true
-  pub low : row.first ≤ x
-  pub high : x < row.first + row.count
+  pub first : ℕ
+  pub named : row.first ≡ Some first
+  pub low : first ≤ x
+  pub high : x < first + row.count
 
-pub value_of : (row : Layer) (third : Third) {x : ℕ} → third ≡ Given x → is_value row third ≡ true → takes row third ≡ true → Value row x
-value_of row Missing {x} e v t = absurd (let z : ◌≡◌ {A = ℕ} 0 1 = cc in omega arith)
-value_of row (Given y) {x} e v t = go row.named refl t v
+pub value_of : (row : Layer) (third : Option ℕ) {x : ℕ} → third ≡ Some x → is_value row third ≡ true → takes row third ≡ true → Value row x
+value_of row None {x} e v t = never cc
+value_of row (Some y) {x} e v t = go row.first refl t v
   where
     same : y ≡ x
-    same = cc
+    same = same_Some y x e
 
-    go : (b : Bool) → row.named ≡ b → b ≡ true → not b || (leb row.first y && ltb y (row.first + row.count)) ≡ true → Value row x
-    go false n t v = absurd (let z : ◌≡◌ {A = ℕ} 0 1 = cc in omega arith)
-    go true n t v =
-        let k = both (leb row.first y) (ltb y (row.first + row.count)) v in
+    go : (o : Option ℕ) → row.first ≡ o → is_some o ≡ true → is_among o row.count y ≡ true → Value row x
+    go None n t v = never cc
+    go (Some first) n t v =
+        let k = both (leb first y) (ltb y (first + row.count)) v in
         record {
+          first = first;
           named = n;
-          low = omega (arith, same, leb-true row.first y k.0);
-          high = omega (arith, same, ltb-true y (row.first + row.count) k.1);
+          low = omega (arith, same, leb-true first y k.0);
+          high = omega (arith, same, ltb-true y (first + row.count) k.1);
         }
+
+-- a layer without values has no third field then
+pub not_taken : (row : Layer) (third : Option ℕ) → row.first ≡ None → takes row third ≡ true → third ≡ None
+not_taken row None e t = refl
+not_taken row (Some x) e t = absurd (false≢true (sym (ap is_some e) ∙ t))

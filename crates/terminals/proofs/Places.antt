@@ -1,6 +1,6 @@
 -- Where the places of a layer stand among all. Assumes nothing.
 use mathlib.Core.Path.{◌≡◌, refl, sym, ap, ◌∙◌}
-use mathlib.Core.Bool.{Bool, true, false, not, ◌&&◌}
+use mathlib.Core.Bool.{Bool, true, not, ◌&&◌}
 use mathlib.Core.List.{List, [], ◌∷◌, ◌++◌}
 use Prim.Native.Nat.{ℕ, zero, suc, ◌+◌, ◌-◌, ◌≤◌, ◌<◌}
 use native.Mathlib.Omega.{arith}
@@ -8,11 +8,11 @@ use native.Mathlib.Nat.{not-suc-le-zero, le_of_suc-le-suc, add-zero}
 use lib.ListN.{length, get_or, get_or-append}
 use lib.Seq.{get_or-append-add}
 use lib.Dec.{eqb}
-use Rattle.bits.specs.Bits.{pick}
-use Rattle.terminals.specs.Layers.{layer_cc, layer_mm, layer_sds, layer_sds_tl, layer_packet_data, layer_at, values, places_of, places, nowhere}
+use Rattle.std.specs.Prelude.{Option, Some, None, option_map}
+use Rattle.bits.proofs.Tests.{never}
+use Rattle.terminals.specs.Layers.{layer_cc, layer_mm, layer_sds, layer_sds_tl, layer_packet_data, layer_at, values, alone, places_from, places_of, places, nowhere}
 use Rattle.terminals.specs.Inner.{Has}
 use Rattle.terminals.specs.declared.layers.Place.{Place}
-use Rattle.terminals.specs.declared.layers.Third.TheVariants.{Given, Missing}
 
 -- ---- the five layers
 
@@ -71,32 +71,27 @@ split =
 
 -- ---- the place at an index
 
-value-at : (l t n k : ℕ) → k < n → get_or (values l t n) k nowhere ≡ record { layer = l; third = Given (t + k) }
+value-at : (l t n k : ℕ) → k < n → get_or (values l t n) k nowhere ≡ record { layer = l; third = Some (t + k) }
 unfolding values
 value-at l t zero k h = absurd (not-suc-le-zero h)
-value-at l t (suc n) zero h = ap (λ (x : ℕ). record { layer = l; third = Given x }) (sym (add-zero t))
+value-at l t (suc n) zero h = ap (λ (x : ℕ). record { layer = l; third = Some x }) (sym (add-zero t))
 value-at l t (suc n) (suc k) h =
-    value-at l (suc t) n k (le_of_suc-le-suc h) ∙ ap (λ (x : ℕ). record { layer = l; third = Given x }) (omega arith)
+    value-at l (suc t) n k (le_of_suc-le-suc h) ∙ ap (λ (x : ℕ). record { layer = l; third = Some x }) (omega arith)
 
 -- the place of a layer at an index of it
 abbrev pub place_in : ℕ → ℕ → Place
-place_in l i =
-    pick (layer_at l).named (record { layer = l; third = Given ((layer_at l).first + (i - (layer_at l).start)) }) (record { layer = l; third = Missing })
+place_in l i = record { layer = l; third = option_map (λ t. t + (i - (layer_at l).start)) (layer_at l).first }
 
-in-layer : (l k : ℕ) (named : Bool) (first count : ℕ) → k < count → (named ≡ false → count ≡ 1)
-    → get_or (pick named (values l first count) (record { layer = l; third = Missing } ∷ [])) k nowhere
-    ≡ pick named (record { layer = l; third = Given (first + k) }) (record { layer = l; third = Missing })
-in-layer l k true first count h one = value-at l first count k h
-in-layer l k false first count h one =
-    ap (λ (j : ℕ). get_or (record { layer = l; third = Missing } ∷ []) j nowhere) {x = k} {y = 0} (let o = one refl in omega arith)
+in-layer : (l k : ℕ) (first : Option ℕ) (count : ℕ) → k < count → (first ≡ None → count ≡ 1)
+    → get_or (places_from l first count) k nowhere ≡ record { layer = l; third = option_map (λ t. t + k) first }
+in-layer l k (Some t) count h one = value-at l t count k h
+in-layer l k None count h one = ap (λ (j : ℕ). get_or (alone l) j nowhere) {x = k} {y = 0} (let o = one refl in omega arith)
 
 -- a layer without values has one place
-pub only_one : (l : ℕ) → l ≤ 4 → (layer_at l).named ≡ false → (layer_at l).count ≡ 1
+pub only_one : (l : ℕ) → l ≤ 4 → (layer_at l).first ≡ None → (layer_at l).count ≡ 1
 unfolding layer_at
 only_one =
-    each (λ l. (layer_at l).named ≡ false → (layer_at l).count ≡ 1) (λ e. absurd (let z : ◌≡◌ {A = ℕ} 0 1 = cc in omega arith))
-    (λ e. absurd (let z : ◌≡◌ {A = ℕ} 0 1 = cc in omega arith)) (λ e. absurd (let z : ◌≡◌ {A = ℕ} 0 1 = cc in omega arith))
-    (λ e. absurd (let z : ◌≡◌ {A = ℕ} 0 1 = cc in omega arith)) (λ e. refl)
+    each (λ l. (layer_at l).first ≡ None → (layer_at l).count ≡ 1) (λ e. never cc) (λ e. never cc) (λ e. never cc) (λ e. never cc) (λ e. refl)
 
 pub place_at : (l i : ℕ) → Has l i → get_or places i nowhere ≡ place_in l i
 place_at l i h =
@@ -112,4 +107,4 @@ place_at l i h =
     whole
     ∙ get_or-append-add s.before (places_of l row ++ s.after) k nowhere
     ∙ get_or-append (places_of l row) s.after nowhere k here
-    ∙ in-layer l k row.named row.first row.count short (only_one l h.known)
+    ∙ in-layer l k row.first row.count short (only_one l h.known)

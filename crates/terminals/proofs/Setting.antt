@@ -1,6 +1,6 @@
 -- What a set line changes: the places of its layer, or the one that it names. Assumes nothing.
 use mathlib.Core.Path.{◌≡◌, refl, sym, ap, ◌∙◌}
-use mathlib.Core.Bool.{Bool, true, false, not}
+use mathlib.Core.Bool.{true, not}
 use mathlib.Core.List.{List, [], ◌∷◌, ◌++◌}
 use Prim.Native.Nat.{ℕ, zero, suc, ◌+◌, ◌-◌, ◌≤◌, ◌<◌}
 use native.Mathlib.Omega.{arith}
@@ -9,16 +9,14 @@ use borrow.Author.Tests.{eq-eqb, ne_eqb, not-true}
 use lib.ListN.{length, get_or, take, drop, set, replicate, length-drop, length-replicate, take-append-drop}
 use lib.Seq.{drop-drop, set-append_left, length-take-le}
 use lib.Dec.{eqb}
+use Rattle.std.specs.Prelude.{Option, Some, None}
 use Rattle.bits.specs.Bits.{pick, splice}
 use Rattle.bits.proofs.Tests.{both}
 use Rattle.bits.proofs.Lists.{length_part}
-use Rattle.bits.proofs.Laying.{one}
-use Rattle.terminals.specs.Layers.{layer_at, values, alone, places_of, places, nowhere}
+use Rattle.terminals.specs.Layers.{layer_at, values, alone, places_from, places_of, places, nowhere}
 use Rattle.terminals.specs.Profiles.{names_third, names, set_in}
 use Rattle.terminals.specs.declared.layers.Layer.{Layer}
 use Rattle.terminals.specs.declared.layers.Place.{Place}
-use Rattle.terminals.specs.declared.layers.Third.{Third}
-use Rattle.terminals.specs.declared.layers.Third.TheVariants.{Given, Missing}
 use Rattle.terminals.specs.declared.lines.Fields.{Fields}
 use Rattle.terminals.proofs.Places.{none_of, split, ends, only_one}
 
@@ -59,28 +57,28 @@ others_stay f (p ∷ ps) (v ∷ t) e =
 -- ---- the layer's own places
 
 -- whether a place of its own layer is named
-own-place : (f : Fields) (q : Third) → names f (record { layer = f.layer; third = q }) ≡ names_third f.third q
+own-place : (f : Fields) (q : Option ℕ) → names f (record { layer = f.layer; third = q }) ≡ names_third f.third q
 unfolding names
 own-place f q = rw (eq-eqb f.layer f.layer refl)
 
-own_value : (f : Fields) (x a : ℕ) → f.third ≡ Given x → names f (record { layer = f.layer; third = Given a }) ≡ eqb x a
-own_value f x a e = own-place f (Given a) ∙ ap (λ (y : Third). names_third y (Given a)) e
+own_value : (f : Fields) (x a : ℕ) → f.third ≡ Some x → names f (record { layer = f.layer; third = Some a }) ≡ eqb x a
+own_value f x a e = own-place f (Some a) ∙ ap (λ (y : Option ℕ). names_third y (Some a)) e
 
 module _ (f : Fields) where
-  own-all : (q : Third) → f.third ≡ Missing → names f (record { layer = f.layer; third = q }) ≡ true
-  own-all q e = own-place f q ∙ ap (λ (y : Third). names_third y q) e
+  own-all : (q : Option ℕ) → f.third ≡ None → names f (record { layer = f.layer; third = q }) ≡ true
+  own-all q e = own-place f q ∙ ap (λ (y : Option ℕ). names_third y q) e
 
   -- all of them
-  all-values : (a n : ℕ) (t : List ℕ) → f.third ≡ Missing → length t ≡ n → set_in f (values f.layer a n) t ≡ replicate n f.profile
+  all-values : (a n : ℕ) (t : List ℕ) → f.third ≡ None → length t ≡ n → set_in f (values f.layer a n) t ≡ replicate n f.profile
   unfolding set_in values
   all-values a zero [] e h = refl
   all-values a zero (v ∷ t) e h = absurd (omega arith)
   all-values a (suc n) [] e h = absurd (omega arith)
   all-values a (suc n) (v ∷ t) e h =
-      rw (own-all (Given a) e) (ap (λ (s : List ℕ). f.profile ∷ s) (all-values (suc a) n t e (omega arith)))
+      rw (own-all (Some a) e) (ap (λ (s : List ℕ). f.profile ∷ s) (all-values (suc a) n t e (omega arith)))
 
   -- none, if the value is below theirs
-  no_value : (a n x : ℕ) (t : List ℕ) → f.third ≡ Given x → x < a → set_in f (values f.layer a n) t ≡ t
+  no_value : (a n x : ℕ) (t : List ℕ) → f.third ≡ Some x → x < a → set_in f (values f.layer a n) t ≡ t
   unfolding set_in values
   no_value a zero x t e h = refl
   no_value a (suc n) x [] e h = refl
@@ -88,7 +86,7 @@ module _ (f : Fields) where
       rw (own_value f x a e ∙ ne_eqb x a (λ q. omega arith)) (ap (λ (s : List ℕ). v ∷ s) (no_value (suc a) n x t e (omega arith)))
 
   -- the one of the value
-  one_value : (a n k : ℕ) (t : List ℕ) → f.third ≡ Given (a + k) → k < n → length t ≡ n
+  one_value : (a n k : ℕ) (t : List ℕ) → f.third ≡ Some (a + k) → k < n → length t ≡ n
       → set_in f (values f.layer a n) t ≡ set t k f.profile
   unfolding set_in values
   one_value a zero k t e h l = absurd (not-suc-le-zero h)
@@ -99,17 +97,17 @@ module _ (f : Fields) where
   one_value a (suc n) (suc k) (v ∷ t) e h l =
       let m : a + suc k ≡ suc a + k = omega arith in
       rw (own_value f (a + suc k) a e ∙ ne_eqb (a + suc k) a (λ q. omega arith))
-      (ap (λ (s : List ℕ). v ∷ s) (one_value (suc a) n k t (e ∙ ap (λ (x : ℕ). Given x) m) (le_of_suc-le-suc h) (omega arith)))
+      (ap (λ (s : List ℕ). v ∷ s) (one_value (suc a) n k t (e ∙ ap (λ (x : ℕ). Some x) m) (le_of_suc-le-suc h) (omega arith)))
 
-single : (f : Fields) (v : ℕ) → f.third ≡ Missing → set_in f (alone f.layer) (v ∷ []) ≡ f.profile ∷ []
+single : (f : Fields) (v : ℕ) → f.third ≡ None → set_in f (alone f.layer) (v ∷ []) ≡ f.profile ∷ []
 unfolding set_in
-single f v e = rw (own-all f Missing e)
+single f v e = rw (own-all f None e)
 
 -- all places of a layer, whether it takes a third field or not
-all_own : (f : Fields) (named : Bool) (first count : ℕ) (t : List ℕ) → f.third ≡ Missing → length t ≡ count → (named ≡ false → count ≡ 1)
-    → set_in f (pick named (values f.layer first count) (alone f.layer)) t ≡ replicate count f.profile
-all_own f true first count t e h o = all-values f first count t e h
-all_own f false first count t e h o = go t count h (o refl)
+all_own : (f : Fields) (first : Option ℕ) (count : ℕ) (t : List ℕ) → f.third ≡ None → length t ≡ count → (first ≡ None → count ≡ 1)
+    → set_in f (places_from f.layer first count) t ≡ replicate count f.profile
+all_own f (Some first) count t e h o = all-values f first count t e h
+all_own f None count t e h o = go t count h (o refl)
   where
     go : (t : List ℕ) (count : ℕ) → length t ≡ count → count ≡ 1 → set_in f (alone f.layer) t ≡ replicate count f.profile
     go t zero h k = absurd (omega arith)
@@ -119,6 +117,14 @@ all_own f false first count t e h o = go t count h (o refl)
     go (v ∷ []) (suc zero) h k = single f v e
 
 -- ---- in the whole table
+
+-- a part that was filled
+pub filled : (t : List ℕ) (a n p : ℕ) {s : List ℕ} → s ≡ replicate n p → take a t ++ (s ++ drop (a + n - a) (drop a t)) ≡ splice t a (replicate n p)
+filled t a n p e =
+    let count : a + n - a ≡ n = omega arith in
+    (λ i. take a t ++ (e i ++ drop (count i) (drop a t)))
+    ∙ ap (λ (l : List ℕ). take a t ++ (replicate n p ++ l)) (drop-drop n a t)
+    ∙ ap (λ (k : ℕ). take a t ++ (replicate n p ++ drop (a + k) t)) (sym (length-replicate n p))
 
 -- a store in the second of two parts
 set_append_right : (xs ys : List ℕ) (i x : ℕ) → set (xs ++ ys) (length xs + i) x ≡ xs ++ set ys i x
@@ -172,25 +178,25 @@ module _ (f : Fields) (t : List ℕ) (known : f.layer ≤ 4) (whole : length t �
       ∙ ap (λ (x : List ℕ). set_in f m own ++ x) (drop-drop row.count row.start t))
 
   -- without a third field: all places of the layer
-  pub set_all : f.third ≡ Missing → set_in f places t ≡ splice t row.start (replicate row.count f.profile)
+  pub set_all : f.third ≡ None → set_in f places t ≡ splice t row.start (replicate row.count f.profile)
   set_all e =
       let n : length (replicate row.count f.profile) ≡ row.count = length-replicate row.count f.profile in
       own-part
       ∙ ap (λ (x : List ℕ). take row.start t ++ (x ++ rest))
-      (all_own f row.named row.first row.count own e own-length (only_one f.layer known))
+      (all_own f row.first row.count own e own-length (only_one f.layer known))
       ∙ ap (λ (k : ℕ). take row.start t ++ (replicate row.count f.profile ++ drop (row.start + k) t)) (sym n)
 
   -- with one: the place of that value
-  pub set-one : (x : ℕ) → f.third ≡ Given x → row.named ≡ true → row.first ≤ x → x < row.first + row.count
-      → set_in f places t ≡ splice t (row.start + (x - row.first)) (replicate 1 f.profile)
-  set-one x e named low high =
-      let k : ℕ = x - row.first in
-      let x-is : x ≡ row.first + k = omega arith in
+  pub set-one : (x first : ℕ) → f.third ≡ Some x → row.first ≡ Some first → first ≤ x → x < first + row.count
+      → set_in f places t ≡ set t (row.start + (x - first)) f.profile
+  set-one x first e named low high =
+      let k : ℕ = x - first in
+      let x-is : x ≡ first + k = omega arith in
       let front : List ℕ = take row.start t in
       let front_length : length front ≡ row.start = length-take-le row.start t (omega (arith, ends f.layer known)) in
       let middle : set_in f (places_of f.layer row) own ≡ set own k f.profile =
-      ap (λ (b : Bool). set_in f (pick b (values f.layer row.first row.count) (alone f.layer)) own) named
-      ∙ one_value f row.first row.count k own (e ∙ ap (λ (y : ℕ). Given y) x-is) (omega arith) own-length
+      ap (λ (o : Option ℕ). set_in f (places_from f.layer o row.count) own) named
+      ∙ one_value f first row.count k own (e ∙ ap (λ (y : ℕ). Some y) x-is) (omega arith) own-length
       in
       let back : set (front ++ (own ++ rest)) (length front + k) f.profile ≡ front ++ (set own k f.profile ++ rest) =
       set_append_right front (own ++ rest) k f.profile
@@ -200,4 +206,3 @@ module _ (f : Fields) (t : List ℕ) (known : f.layer ≤ 4) (whole : length t �
       ∙ ap (λ (y : List ℕ). front ++ (y ++ rest)) middle
       ∙ sym back
       ∙ (λ i. set (sym t-parts i) (front_length i + k) f.profile)
-      ∙ (one t (row.start + k) f.profile (omega (arith, ends f.layer known))).same

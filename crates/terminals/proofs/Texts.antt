@@ -8,14 +8,14 @@ use native.Mathlib.Numerals.{add-one}
 use borrow.Author.Tests.{eq-eqb, ne_eqb, le-leb, lt-leb}
 use lib.ListN.{length, get_or, drop, length-append, drop_of_length-le}
 use lib.Seq.{drop-cons}
+use Rattle.std.specs.Prelude.{Some, None, Ok, Err}
 use Rattle.bits.specs.Inner.{Laid}
-use Rattle.text.specs.Decimal.{decimal}
+use Rattle.text.specs.Decimal.{decimal, item}
+use Rattle.text.proofs.Decimals.{length-item}
 use Rattle.terminals.specs.Layers.{layer_at, values, places, nowhere}
-use Rattle.terminals.specs.Reading.{comma, line_end, lead, item, place_text, line_text, lines_text, led, text_of}
+use Rattle.terminals.specs.Reading.{comma, line_end, lead, place_text, line_text, lines_text, led, text_of}
 use Rattle.terminals.specs.Answers.{read_is, read_out}
 use Rattle.terminals.specs.declared.layers.Place.{Place}
-use Rattle.terminals.specs.declared.layers.Third.TheVariants.{Given, Missing}
-use Rattle.terminals.specs.declared.Answer.TheVariants.{Length, Refused}
 
 pub length-places : length places ≡ 269
 unfolding places layer_at values
@@ -38,10 +38,6 @@ module _ (t : List ℕ) (i : ℕ) (whole : length t ≡ 269) where
 
 -- ---- lengths
 
-pub length-item : (n : ℕ) (word : List ℕ) → length (item n word) ≡ length (decimal n) + length word
-unfolding item
-length-item n word = length-append (decimal n) word
-
 -- no line at the default, and the line of a place off it
 pub no_line : (v : ℕ) (p : Place) → v ≡ 2 → line_text v p ≡ []
 unfolding line_text
@@ -57,11 +53,11 @@ length-off v p h =
     ∙ length-append (item v comma) (place_text p.layer p.third)
     ∙ ap (λ (n : ℕ). n + length (place_text p.layer p.third)) (length-item v comma)
 
-pub length-given : (l x : ℕ) → length (place_text l (Given x)) ≡ length (decimal l) + 1 + (length (decimal x) + 2)
+pub length-given : (l x : ℕ) → length (place_text l (Some x)) ≡ length (decimal l) + 1 + (length (decimal x) + 2)
 unfolding place_text
 length-given l x = omega (arith, length-append (item l comma) (item x line_end), length-item l comma, length-item x line_end)
 
-pub length-missing : (l : ℕ) → length (place_text l Missing) ≡ length (decimal l) + 2
+pub length-missing : (l : ℕ) → length (place_text l None) ≡ length (decimal l) + 2
 unfolding place_text
 length-missing l = length-item l line_end
 
@@ -87,20 +83,20 @@ module _ (t : List ℕ) where
 -- ---- what the read form leaves
 
 module _ (t out : List ℕ) where
-  pub read_none : text_of t ≡ [] → (Length 0 ≡ read_is t (length out)) × (out ≡ read_out t out)
+  pub read_none : text_of t ≡ [] → (Ok 0 ≡ read_is t (length out)) × (out ≡ read_out t out)
   unfolding read_is read_out
   read_none e = let k = le-leb 0 (length out) (omega arith) in (rw (e, k), rw (e, k))
 
-  pub read_short : length out < length (text_of t) → (Refused 8 ≡ read_is t (length out)) × (out ≡ read_out t out)
+  pub read_short : length out < length (text_of t) → (Err 8 ≡ read_is t (length out)) × (out ≡ read_out t out)
   unfolding read_is read_out
   read_short h = let k = lt-leb (length (text_of t)) (length out) h in (rw k, rw k)
 
   pub read-written : {out' : List ℕ} {end : ℕ} → length (text_of t) ≤ length out → Laid out 0 (text_of t) out' end
-      → (Length end ≡ read_is t (length out)) × (out' ≡ read_out t out)
+      → (Ok end ≡ read_is t (length out)) × (out' ≡ read_out t out)
   unfolding read_is read_out
   read-written h l =
       let k = le-leb (length (text_of t)) (length out) h in
       let z = zero-add (length (text_of t)) in (
-        rw k (ap (λ (n : ℕ). Length n) (l.ends ∙ z)),
+        rw k (ap (λ (n : ℕ). Ok n) (l.ends ∙ z)),
         rw k (l.same ∙ ap (λ (n : ℕ). text_of t ++ drop n out) z),
       )

@@ -1,18 +1,16 @@
 -- What a line is answered with, and what it leaves in the table and in the lent buffer. In order: 9, 15, 16, 17, 8.
-use Rattle.std.specs.Prelude.{List, ◌++◌, ℕ, length, drop, leb}
+use Rattle.std.specs.Prelude.{List, ◌++◌, Option, Some, None, Result, Ok, Err, ℕ, length, drop, leb}
 use Rattle.bits.specs.Bits.{guard}
 use Rattle.terminals.specs.Profiles.{is_table, settles, set_line}
 use Rattle.terminals.specs.Reading.{text_of}
 use Rattle.terminals.specs.Lines.{line_of}
 use Rattle.terminals.specs.declared.lines.Line.{Line}
-use Rattle.terminals.specs.declared.lines.Line.TheVariants.{Read, Set, Unreadable}
-use Rattle.terminals.specs.declared.Answer.{Answer}
-use Rattle.terminals.specs.declared.Answer.TheVariants.{Length, Refused}
+use Rattle.terminals.specs.declared.lines.Line.TheVariants.{Read, Set}
 
 -- ---- the read form: 8 if the lent buffer is too short
 
-unfoldable pub read_is : List ℕ → ℕ → Answer
-read_is t room = guard (leb (length (text_of t)) room) (Refused 8) (Length (length (text_of t)))
+unfoldable pub read_is : List ℕ → ℕ → Result ℕ ℕ
+read_is t room = guard (leb (length (text_of t)) room) (Err 8) (Ok (length (text_of t)))
 
 -- the text first, and the buffer's own bytes after it
 unfoldable pub read_out : List ℕ → List ℕ → List ℕ
@@ -20,28 +18,28 @@ read_out t out = guard (leb (length (text_of t)) (length out)) out (text_of t ++
 
 -- ---- any line: 9 for what is no table, 15 for what is no line
 
-abbrev pub answered : Line → List ℕ → ℕ → Answer
-answered Unreadable t room = Refused 15
-answered (Set f) t room = settles f
-answered Read t room = read_is t room
+abbrev pub answered : Option Line → List ℕ → ℕ → Result ℕ ℕ
+answered None t room = Err 15
+answered (Some (Set f)) t room = settles f
+answered (Some Read) t room = read_is t room
 
-unfoldable pub line_is : List ℕ → List ℕ → ℕ → Answer
-line_is s t room = guard (is_table t) (Refused 9) (answered (line_of s) t room)
+unfoldable pub line_is : List ℕ → List ℕ → ℕ → Result ℕ ℕ
+line_is s t room = guard (is_table t) (Err 9) (answered (line_of s) t room)
 
 -- a set line changes the table
-abbrev pub changed : Line → List ℕ → List ℕ
-changed Unreadable t = t
-changed (Set f) t = set_line f t
-changed Read t = t
+abbrev pub changed : Option Line → List ℕ → List ℕ
+changed None t = t
+changed (Some (Set f)) t = set_line f t
+changed (Some Read) t = t
 
 unfoldable pub table_after : List ℕ → List ℕ → List ℕ
 table_after s t = guard (is_table t) t (changed (line_of s) t)
 
 -- the read form writes
-abbrev pub written : Line → List ℕ → List ℕ → List ℕ
-written Unreadable t out = out
-written (Set f) t out = out
-written Read t out = read_out t out
+abbrev pub written : Option Line → List ℕ → List ℕ → List ℕ
+written None t out = out
+written (Some (Set f)) t out = out
+written (Some Read) t out = read_out t out
 
 unfoldable pub out_after : List ℕ → List ℕ → List ℕ → List ℕ
 out_after s t out = guard (is_table t) out (written (line_of s) t out)

@@ -1,20 +1,17 @@
 -- Worked cases that antt computes: lines and their answers on either side of each refusal, and the texts of tables.
-use Rattle.std.specs.Prelude.{◌≡◌, refl, true, false, List, [], ◌∷◌, ◌++◌, ℕ, length, replicate, set}
-use Rattle.text.specs.Decimal.{digits, decimal}
+use Rattle.std.specs.Prelude.{◌≡◌, refl, true, false, List, [], ◌∷◌, ◌++◌, ℕ, length, replicate, set, Some, None, Result, Ok, Err}
+use Rattle.text.specs.Decimal.{digits, decimal, item}
 use Rattle.text.specs.Field.{is_digit, run, number_from, field_of, field_at}
 use Rattle.terminals.specs.Layers.{layer_at, values, places}
-use Rattle.terminals.specs.Lines.{fields_of, same_bytes, ends_at, next_field, last_from, third_from, set_from, line_of}
+use Rattle.terminals.specs.Lines.{fields_of, ends_at, next_field, last_from, third_from, set_from, line_of}
 use Rattle.terminals.specs.Profiles.{are_profiles, is_table, reset_is, reset_out, fields_refusal, names, set_in, settles, set_line}
-use Rattle.terminals.specs.Reading.{item, place_text, line_text, lines_text, text_of}
+use Rattle.terminals.specs.Reading.{place_text, line_text, lines_text, text_of}
 use Rattle.terminals.specs.Answers.{read_is, read_out, line_is, table_after, out_after}
-use Rattle.terminals.specs.declared.layers.Third.TheVariants.{Given, Missing}
-use Rattle.terminals.specs.declared.lines.Line.TheVariants.{Read, Set, Unreadable}
-use Rattle.terminals.specs.declared.Answer.{Answer}
-use Rattle.terminals.specs.declared.Answer.TheVariants.{Length, Refused}
+use Rattle.terminals.specs.declared.lines.Line.TheVariants.{Read, Set}
 
 -- `unfolding calls` opens all that a line's answer is made of
 unfoldable pub calls : Unit {0}
-unfolding digits decimal is_digit run number_from field_of field_at layer_at values places same_bytes ends_at next_field last_from third_from set_from line_of
+unfolding digits decimal is_digit run number_from field_of field_at layer_at values places ends_at next_field last_from third_from set_from line_of
     are_profiles is_table reset_is reset_out fields_refusal names set_in settles set_line item place_text line_text lines_text text_of read_is read_out line_is
     table_after out_after
 calls = tt
@@ -30,90 +27,90 @@ lent n = replicate n 0
 -- ---- lines
 
 -- `AT+CTSP=3,4` CR
-two_fields : line_of (65 ∷ 84 ∷ 43 ∷ 67 ∷ 84 ∷ 83 ∷ 80 ∷ 61 ∷ 51 ∷ 44 ∷ 52 ∷ 13 ∷ []) ≡ Set (fields_of 3 4 Missing false)
+two_fields : line_of (65 ∷ 84 ∷ 43 ∷ 67 ∷ 84 ∷ 83 ∷ 80 ∷ 61 ∷ 51 ∷ 44 ∷ 52 ∷ 13 ∷ []) ≡ Some (Set (fields_of 3 4 None false))
 unfolding calls
 two_fields = refl
 
 -- `AT+CTSP=002,03,255` CR
 three-fields : line_of (65 ∷ 84 ∷ 43 ∷ 67 ∷ 84 ∷ 83 ∷ 80 ∷ 61 ∷ 48 ∷ 48 ∷ 50 ∷ 44 ∷ 48 ∷ 51 ∷ 44 ∷ 50 ∷ 53 ∷ 53 ∷ 13 ∷ [])
-    ≡ Set (fields_of 2 3 (Given 255) false)
+    ≡ Some (Set (fields_of 2 3 (Some 255) false))
 unfolding calls
 three-fields = refl
 
 -- `AT+CTSP=0,1,10,999` CR
 four-fields : line_of (65 ∷ 84 ∷ 43 ∷ 67 ∷ 84 ∷ 83 ∷ 80 ∷ 61 ∷ 48 ∷ 44 ∷ 49 ∷ 44 ∷ 49 ∷ 48 ∷ 44 ∷ 57 ∷ 57 ∷ 57 ∷ 13 ∷ [])
-    ≡ Set (fields_of 0 1 (Given 10) true)
+    ≡ Some (Set (fields_of 0 1 (Some 10) true))
 unfolding calls
 four-fields = refl
 
 -- `AT+CTSP=000,000` CR
-zeros : line_of (65 ∷ 84 ∷ 43 ∷ 67 ∷ 84 ∷ 83 ∷ 80 ∷ 61 ∷ 48 ∷ 48 ∷ 48 ∷ 44 ∷ 48 ∷ 48 ∷ 48 ∷ 13 ∷ []) ≡ Set (fields_of 0 0 Missing false)
+zeros : line_of (65 ∷ 84 ∷ 43 ∷ 67 ∷ 84 ∷ 83 ∷ 80 ∷ 61 ∷ 48 ∷ 48 ∷ 48 ∷ 44 ∷ 48 ∷ 48 ∷ 48 ∷ 13 ∷ []) ≡ Some (Set (fields_of 0 0 None false))
 unfolding calls
 zeros = refl
 
 -- `AT+CTSP?` CR
-asked : line_of (65 ∷ 84 ∷ 43 ∷ 67 ∷ 84 ∷ 83 ∷ 80 ∷ 63 ∷ 13 ∷ []) ≡ Read
+asked : line_of (65 ∷ 84 ∷ 43 ∷ 67 ∷ 84 ∷ 83 ∷ 80 ∷ 63 ∷ 13 ∷ []) ≡ Some Read
 unfolding calls
 asked = refl
 
 -- no line: each is a line but for one thing
 
 -- no CR
-no_cr : line_of (65 ∷ 84 ∷ 43 ∷ 67 ∷ 84 ∷ 83 ∷ 80 ∷ 61 ∷ 51 ∷ 44 ∷ 52 ∷ []) ≡ Unreadable
+no_cr : line_of (65 ∷ 84 ∷ 43 ∷ 67 ∷ 84 ∷ 83 ∷ 80 ∷ 61 ∷ 51 ∷ 44 ∷ 52 ∷ []) ≡ None
 unfolding calls
 no_cr = refl
 
 -- something after the CR
-lf-after : line_of (65 ∷ 84 ∷ 43 ∷ 67 ∷ 84 ∷ 83 ∷ 80 ∷ 61 ∷ 51 ∷ 44 ∷ 52 ∷ 13 ∷ 10 ∷ []) ≡ Unreadable
+lf-after : line_of (65 ∷ 84 ∷ 43 ∷ 67 ∷ 84 ∷ 83 ∷ 80 ∷ 61 ∷ 51 ∷ 44 ∷ 52 ∷ 13 ∷ 10 ∷ []) ≡ None
 unfolding calls
 lf-after = refl
 
 -- something after the CR of the read form
-asked_lf : line_of (65 ∷ 84 ∷ 43 ∷ 67 ∷ 84 ∷ 83 ∷ 80 ∷ 63 ∷ 13 ∷ 10 ∷ []) ≡ Unreadable
+asked_lf : line_of (65 ∷ 84 ∷ 43 ∷ 67 ∷ 84 ∷ 83 ∷ 80 ∷ 63 ∷ 13 ∷ 10 ∷ []) ≡ None
 unfolding calls
 asked_lf = refl
 
 -- one field
-one_field : line_of (65 ∷ 84 ∷ 43 ∷ 67 ∷ 84 ∷ 83 ∷ 80 ∷ 61 ∷ 51 ∷ 13 ∷ []) ≡ Unreadable
+one_field : line_of (65 ∷ 84 ∷ 43 ∷ 67 ∷ 84 ∷ 83 ∷ 80 ∷ 61 ∷ 51 ∷ 13 ∷ []) ≡ None
 unfolding calls
 one_field = refl
 
 -- five fields
-five-fields : line_of (65 ∷ 84 ∷ 43 ∷ 67 ∷ 84 ∷ 83 ∷ 80 ∷ 61 ∷ 51 ∷ 44 ∷ 49 ∷ 44 ∷ 49 ∷ 48 ∷ 44 ∷ 49 ∷ 44 ∷ 49 ∷ 13 ∷ []) ≡ Unreadable
+five-fields : line_of (65 ∷ 84 ∷ 43 ∷ 67 ∷ 84 ∷ 83 ∷ 80 ∷ 61 ∷ 51 ∷ 44 ∷ 49 ∷ 44 ∷ 49 ∷ 48 ∷ 44 ∷ 49 ∷ 44 ∷ 49 ∷ 13 ∷ []) ≡ None
 unfolding calls
 five-fields = refl
 
 -- a field of four digits
-four-digits : line_of (65 ∷ 84 ∷ 43 ∷ 67 ∷ 84 ∷ 83 ∷ 80 ∷ 61 ∷ 51 ∷ 44 ∷ 48 ∷ 48 ∷ 48 ∷ 52 ∷ 13 ∷ []) ≡ Unreadable
+four-digits : line_of (65 ∷ 84 ∷ 43 ∷ 67 ∷ 84 ∷ 83 ∷ 80 ∷ 61 ∷ 51 ∷ 44 ∷ 48 ∷ 48 ∷ 48 ∷ 52 ∷ 13 ∷ []) ≡ None
 unfolding calls
 four-digits = refl
 
 -- a field without a digit
-empty-field : line_of (65 ∷ 84 ∷ 43 ∷ 67 ∷ 84 ∷ 83 ∷ 80 ∷ 61 ∷ 51 ∷ 44 ∷ 13 ∷ []) ≡ Unreadable
+empty-field : line_of (65 ∷ 84 ∷ 43 ∷ 67 ∷ 84 ∷ 83 ∷ 80 ∷ 61 ∷ 51 ∷ 44 ∷ 13 ∷ []) ≡ None
 unfolding calls
 empty-field = refl
 
 -- a space after the comma
-space : line_of (65 ∷ 84 ∷ 43 ∷ 67 ∷ 84 ∷ 83 ∷ 80 ∷ 61 ∷ 51 ∷ 44 ∷ 32 ∷ 52 ∷ 13 ∷ []) ≡ Unreadable
+space : line_of (65 ∷ 84 ∷ 43 ∷ 67 ∷ 84 ∷ 83 ∷ 80 ∷ 61 ∷ 51 ∷ 44 ∷ 32 ∷ 52 ∷ 13 ∷ []) ≡ None
 unfolding calls
 space = refl
 
 -- another word
-lower_case : line_of (97 ∷ 116 ∷ 43 ∷ 67 ∷ 84 ∷ 83 ∷ 80 ∷ 61 ∷ 51 ∷ 44 ∷ 52 ∷ 13 ∷ []) ≡ Unreadable
+lower_case : line_of (97 ∷ 116 ∷ 43 ∷ 67 ∷ 84 ∷ 83 ∷ 80 ∷ 61 ∷ 51 ∷ 44 ∷ 52 ∷ 13 ∷ []) ≡ None
 unfolding calls
 lower_case = refl
 
 -- the test form
-test_form : line_of (65 ∷ 84 ∷ 43 ∷ 67 ∷ 84 ∷ 83 ∷ 80 ∷ 61 ∷ 63 ∷ 13 ∷ []) ≡ Unreadable
+test_form : line_of (65 ∷ 84 ∷ 43 ∷ 67 ∷ 84 ∷ 83 ∷ 80 ∷ 61 ∷ 63 ∷ 13 ∷ []) ≡ None
 unfolding calls
 test_form = refl
 
 -- ---- refusals: 16 for a value, then 17, on either side of each limit
 
 -- the number of a line's answer, 0 for a success
-abbrev numbered : Answer → ℕ
-numbered (Length n) = 0
-numbered (Refused k) = k
+abbrev numbered : Result ℕ ℕ → ℕ
+numbered (Ok n) = 0
+numbered (Err k) = k
 
 -- on a fresh table, with no room to write
 abbrev answer : List ℕ → ℕ
@@ -195,7 +192,7 @@ tables : numbered (line_is [] (replicate 268 2) 0) ∷ numbered (line_is [] (rep
 unfolding calls
 tables = refl
 
-reset-lengths : reset_is 268 ∷ reset_is 269 ∷ reset_is 270 ∷ [] ≡ 9 ∷ 0 ∷ 9 ∷ []
+reset-lengths : reset_is 268 ∷ reset_is 269 ∷ reset_is 270 ∷ [] ≡ Err 9 ∷ Ok tt ∷ Err 9 ∷ []
 unfolding calls
 reset-lengths = refl
 
@@ -239,7 +236,7 @@ refused = refl
 -- ---- the read form
 
 -- nothing off the default: no text, and no room needed
-nothing : line_is (65 ∷ 84 ∷ 43 ∷ 67 ∷ 84 ∷ 83 ∷ 80 ∷ 63 ∷ 13 ∷ []) fresh 0 ≡ Length 0
+nothing : line_is (65 ∷ 84 ∷ 43 ∷ 67 ∷ 84 ∷ 83 ∷ 80 ∷ 63 ∷ 13 ∷ []) fresh 0 ≡ Ok 0
 unfolding calls
 nothing = refl
 
@@ -256,7 +253,7 @@ text-some = refl
 
 -- 28 bytes are enough, 27 are not and stay as they were
 room-some : line_is (65 ∷ 84 ∷ 43 ∷ 67 ∷ 84 ∷ 83 ∷ 80 ∷ 63 ∷ 13 ∷ []) some 28 ∷ line_is (65 ∷ 84 ∷ 43 ∷ 67 ∷ 84 ∷ 83 ∷ 80 ∷ 63 ∷ 13 ∷ []) some 27 ∷ []
-    ≡ Length 28 ∷ Refused 8 ∷ []
+    ≡ Ok 28 ∷ Err 8 ∷ []
 unfolding calls
 room-some = refl
 

@@ -1,21 +1,17 @@
 -- The table, a byte with a profile for each place; the default; and what a set line changes (document 02, request 2026-10).
-use Rattle.std.specs.Prelude.{Bool, true, false, not, ◌&&◌, ◌||◌, List, [], ◌∷◌, ℕ, ◌+◌, length, replicate, eqb, leb, ltb}
+use Rattle.std.specs.Prelude.{Bool, true, false, not, ◌&&◌, List, [], ◌∷◌, Option, Some, None, is_some, Result, Ok, Err, is_ok, ℕ, ◌+◌, length, replicate, eqb, leb, ltb}
+use Rattle.std.specs.List.{list_all}
 use Rattle.bits.specs.Bits.{pick, guard}
 use Rattle.terminals.specs.Layers.{layer_at, places}
 use Rattle.terminals.specs.declared.layers.Layer.{Layer}
 use Rattle.terminals.specs.declared.layers.Place.{Place}
-use Rattle.terminals.specs.declared.layers.Third.{Third}
-use Rattle.terminals.specs.declared.layers.Third.TheVariants.{Given, Missing}
 use Rattle.terminals.specs.declared.lines.Fields.{Fields}
-use Rattle.terminals.specs.declared.Answer.{Answer}
-use Rattle.terminals.specs.declared.Answer.TheVariants.{Length, Refused}
 
 -- ---- the table
 
 -- profiles are 0 MT only, 1 TE only, 2 both, 3 neither (clause 6.17.39)
 unfoldable pub are_profiles : List ℕ → Bool
-are_profiles [] = true
-are_profiles (v ∷ t) = leb v 3 && are_profiles t
+are_profiles t = list_all (λ v. leb v 3) t
 
 -- a profile for each of the 269 places
 unfoldable pub is_table : List ℕ → Bool
@@ -27,38 +23,43 @@ both = 2
 
 -- ---- reset: 9 for a table of another length
 
-unfoldable pub reset_is : ℕ → ℕ
-reset_is n = guard (eqb n 269) 9 0
+unfoldable pub reset_is : ℕ → Result (Unit {0}) ℕ
+reset_is n = guard (eqb n 269) (Err 9) (Ok tt)
 
 unfoldable pub reset_out : List ℕ → List ℕ
 reset_out t = guard (eqb (length t) 269) t (replicate 269 both)
 
 -- ---- a set line
 
+-- a value is one of so many from the first on, where there are any
+abbrev pub is_among : Option ℕ → ℕ → ℕ → Bool
+is_among (Some first) n t = leb first t && ltb t (first + n)
+is_among None n t = true
+
 -- a third field that its layer takes is one of its values
-abbrev pub is_value : Layer → Third → Bool
-is_value row Missing = true
-is_value row (Given t) = not row.named || (leb row.first t && ltb t (row.first + row.count))
+abbrev pub is_value : Layer → Option ℕ → Bool
+is_value row None = true
+is_value row (Some t) = is_among row.first row.count t
 
 -- a layer without values takes no third field
-abbrev pub takes : Layer → Third → Bool
-takes row Missing = true
-takes row (Given t) = row.named
+abbrev pub takes : Layer → Option ℕ → Bool
+takes row None = true
+takes row (Some t) = is_some row.first
 
 -- 16 for a value of one of the first three fields, then 17 for a third field that its layer does not take, or for any fourth
-unfoldable pub fields_refusal : Fields → ℕ
+unfoldable pub fields_refusal : Fields → Result (Unit {0}) ℕ
 fields_refusal f =
-    guard (leb f.profile 3) 16
-    (guard (leb f.layer 4) 16
-    (guard (is_value (layer_at f.layer) f.third) 16
-    (guard (takes (layer_at f.layer) f.third) 17
-    (guard (not f.fourth) 17 0))))
+    guard (leb f.profile 3) (Err 16)
+    (guard (leb f.layer 4) (Err 16)
+    (guard (is_value (layer_at f.layer) f.third) (Err 16)
+    (guard (takes (layer_at f.layer) f.third) (Err 17)
+    (guard (not f.fourth) (Err 17) (Ok tt)))))
 
 -- without a third field a line names all places of its layer, otherwise the one of that value
-abbrev pub names_third : Third → Third → Bool
-names_third Missing q = true
-names_third (Given t) (Given u) = eqb t u
-names_third (Given t) Missing = false
+abbrev pub names_third : Option ℕ → Option ℕ → Bool
+names_third None q = true
+names_third (Some t) (Some u) = eqb t u
+names_third (Some t) None = false
 
 unfoldable pub names : Fields → Place → Bool
 names f p = eqb f.layer p.layer && names_third f.third p.third
@@ -69,9 +70,14 @@ set_in f [] t = t
 set_in f (p ∷ ps) [] = []
 set_in f (p ∷ ps) (v ∷ t) = pick (names f p) f.profile v ∷ set_in f ps t
 
-unfoldable pub settles : Fields → Answer
-settles f = guard (eqb (fields_refusal f) 0) (Refused (fields_refusal f)) (Length 0)
+-- a set line that is not refused writes no text
+abbrev pub without_text : Result (Unit {0}) ℕ → Result ℕ ℕ
+without_text (Ok done) = Ok 0
+without_text (Err k) = Err k
+
+unfoldable pub settles : Fields → Result ℕ ℕ
+settles f = without_text (fields_refusal f)
 
 -- a refused line changes no place
 unfoldable pub set_line : Fields → List ℕ → List ℕ
-set_line f t = guard (eqb (fields_refusal f) 0) t (set_in f places t)
+set_line f t = guard (is_ok (fields_refusal f)) t (set_in f places t)

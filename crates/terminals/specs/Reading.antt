@@ -1,12 +1,10 @@
 -- The text of the read form (clause 6.14.4.4): the places off the default, rising, each on a line.
-use Rattle.std.specs.Prelude.{List, [], ◌∷◌, ◌++◌, ℕ, eqb}
+use Rattle.std.specs.Prelude.{List, [], ◌∷◌, ◌++◌, Option, Some, None, ℕ, eqb}
 use Rattle.bits.specs.Bits.{pick}
-use Rattle.text.specs.Decimal.{decimal}
+use Rattle.text.specs.Decimal.{item}
 use Rattle.terminals.specs.Layers.{places}
 use Rattle.terminals.specs.Profiles.{both}
 use Rattle.terminals.specs.declared.layers.Place.{Place}
-use Rattle.terminals.specs.declared.layers.Third.{Third}
-use Rattle.terminals.specs.declared.layers.Third.TheVariants.{Given, Missing}
 
 -- `+CTSP: `
 abbrev pub lead : List ℕ
@@ -19,14 +17,10 @@ comma = 44 ∷ []
 abbrev pub line_end : List ℕ
 line_end = 13 ∷ 10 ∷ []
 
--- a number and what stands after it
-unfoldable pub item : ℕ → List ℕ → List ℕ
-item n word = decimal n ++ word
-
 -- layer and third field
-unfoldable pub place_text : ℕ → Third → List ℕ
-place_text l Missing = item l line_end
-place_text l (Given t) = item l comma ++ item t line_end
+unfoldable pub place_text : ℕ → Option ℕ → List ℕ
+place_text l None = item l line_end
+place_text l (Some t) = item l comma ++ item t line_end
 
 -- the line of a place off the default: `profile,layer1[,third]` CR LF
 unfoldable pub line_text : ℕ → Place → List ℕ

@@ -6,30 +6,26 @@ ghost use Rattle.terminals.specs.Inner.{Has};
 // How many places all layers have.
 pub(crate) const PLACES: usize = 269;
 
+// The highest layer. Layers stay numbers: a line may say any, and the text writes them.
+pub(crate) const PACKET_DATA: usize = 4;
+
 // A layer: its places stand in the table from `start` on, `count` of them; if it takes a third field, the values from `first` on name them.
 #[derive(Clone, Copy)]
 pub struct Layer {
     pub start: usize,
     pub count: usize,
-    pub named: bool,
-    pub first: usize,
+    pub first: Option<usize>,
 }
 
-// The third field of a line, or of a place: service layer 2, or PID.
-#[derive(Clone, Copy)]
-pub enum Third {
-    Given(usize),
-    Missing,
-}
-
-// A place: its layer, and the third field that names it.
+// A place: its layer, and the third field that names it, service layer 2 or PID.
 #[derive(Clone, Copy)]
 pub struct Place {
     pub layer: usize,
-    pub third: Third,
+    pub third: Option<usize>,
 }
 
 // CC, MM, SDS, SDS-TL and Packet Data; no other layer has a place.
+#[tactic(auto, unfolding(crate::specs::Layers::layer_at))]
 pub(crate) fn layer_of(layer: usize) -> Layer
     ensures { result ≡ layer_at layer }
 {
@@ -37,38 +33,32 @@ pub(crate) fn layer_of(layer: usize) -> Layer
         0 => Layer {
             start: 0,
             count: 2,
-            named: true,
-            first: 0,
+            first: Some(0),
         },
         1 => Layer {
             start: 2,
             count: 5,
-            named: true,
-            first: 10,
+            first: Some(10),
         },
         2 => Layer {
             start: 7,
             count: 5,
-            named: true,
-            first: 20,
+            first: Some(20),
         },
         3 => Layer {
             start: 12,
             count: 256,
-            named: true,
-            first: 0,
+            first: Some(0),
         },
         4 => Layer {
             start: 268,
             count: 1,
-            named: false,
-            first: 0,
+            first: None,
         },
         _ => Layer {
             start: 0,
             count: 0,
-            named: false,
-            first: 0,
+            first: None,
         },
     }
 }
@@ -78,13 +68,13 @@ fn layer_with(place: usize) -> usize
     requires { place < 269 }
     ensures { Has result place }
 {
-    let mut layer = 0;
-    let mut row = layer_of(layer);
-    while row.start + row.count <= place {
-        layer += 1;
-        row = layer_of(layer);
+    for layer in 0..PACKET_DATA {
+        let row = layer_of(layer);
+        if place < row.start + row.count {
+            return layer;
+        }
     }
-    layer
+    PACKET_DATA
 }
 
 // The place at an index of the table.
@@ -94,14 +84,12 @@ pub(crate) fn place_at(index: usize) -> Place
 {
     let layer = layer_with(index);
     let row = layer_of(layer);
-    if !row.named {
-        return Place {
+    // A `match` in place of `map`: what the sum needs is known here, and not in a closure.
+    match row.first {
+        Some(first) => Place {
             layer,
-            third: Third::Missing,
-        };
-    }
-    Place {
-        layer,
-        third: Third::Given(row.first + (index - row.start)),
+            third: Some(first + (index - row.start)),
+        },
+        None => Place { layer, third: None },
     }
 }

@@ -1,17 +1,18 @@
 // The text of the read form: the places off the default, rising, each on a line.
 ghost use Rattle.std.specs.Prelude.{◌≡◌, ◌+◌, ◌≤◌, ◌<◌, length};
 ghost use Rattle.bits.specs.Inner.{Laid};
+ghost use Rattle.text.specs.Decimal.{item};
 ghost use Rattle.terminals.specs.Layers.{places};
-ghost use Rattle.terminals.specs.Reading.{item, place_text, line_text, lines_text, text_of};
+ghost use Rattle.terminals.specs.Reading.{place_text, line_text, lines_text, text_of};
 
 use crate::layers;
-use crate::layers::{PLACES, Place, Third};
+use crate::layers::Place;
 use crate::profiles::BOTH;
 
 // Bytes of `+CTSP: `.
 pub(crate) const LEAD: usize = 7;
 
-// Writes a number and what stands after it; returns the place after both.
+// Writes a number and what stands after it; returns the place after both. Not in `text`, since a public function asks for no room.
 fn write_item(out: &mut [u8], at: usize, n: usize, word: &[u8]) -> usize
     requires { at + length (item n word.now) ≤ length out.old }
     ensures { Laid out.old at (item n word.now) out.new result }
@@ -21,11 +22,11 @@ fn write_item(out: &mut [u8], at: usize, n: usize, word: &[u8]) -> usize
 }
 
 // Writes a layer and a third field, and ends the line.
-fn write_place(out: &mut [u8], at: usize, layer: usize, third: Third) -> usize
+fn write_place(out: &mut [u8], at: usize, layer: usize, third: Option<usize>) -> usize
     requires { at + length (place_text layer third) ≤ length out.old }
     ensures { Laid out.old at (place_text layer third) out.new result }
 {
-    let Third::Given(value) = third else {
+    let Some(value) = third else {
         return write_item(out, at, layer, b"\r\n");
     };
     let value_at = write_item(out, at, layer, b",");
@@ -40,9 +41,8 @@ fn write_line(out: &mut [u8], at: usize, profile: u8, place: Place) -> usize
     if profile == BOTH {
         return at;
     }
-    let third = place.third;
     let layer_at = write_item(out, at, profile as usize, b",");
-    write_place(out, layer_at, place.layer, third)
+    write_place(out, layer_at, place.layer, place.third)
 }
 
 // Writes the lines of all places.
@@ -51,11 +51,8 @@ fn write_lines(table: &[u8], out: &mut [u8], start: usize) -> usize
     ensures { Laid out.old start (lines_text places table.now) out.new result }
 {
     let mut at = start;
-    let mut index = 0;
-    while index < PLACES {
-        let place = layers::place_at(index);
-        at = write_line(out, at, table[index], place);
-        index += 1;
+    for (index, profile) in table.iter().enumerate() {
+        at = write_line(out, at, *profile, layers::place_at(index));
     }
     at
 }
@@ -67,11 +64,10 @@ fn line_length(profile: u8, place: Place) -> usize
     if profile == BOTH {
         return 0;
     }
-    let third = place.third;
     let start = text::digits_of(profile as usize) + 1 + text::digits_of(place.layer) + 2;
-    match third {
-        Third::Given(value) => start + 1 + text::digits_of(value),
-        Third::Missing => start,
+    match place.third {
+        Some(value) => start + 1 + text::digits_of(value),
+        None => start,
     }
 }
 
@@ -81,11 +77,8 @@ pub(crate) fn lines_length(table: &[u8]) -> usize
     ensures { (result ≡ length (lines_text places table.now)) × (result ≤ 17216) }
 {
     let mut size = 0;
-    let mut index = 0;
-    while index < PLACES {
-        let place = layers::place_at(index);
-        size += line_length(table[index], place);
-        index += 1;
+    for (index, profile) in table.iter().enumerate() {
+        size += line_length(*profile, layers::place_at(index));
     }
     size
 }

@@ -12,7 +12,7 @@ use lib.Dec.{ltb}
 use Rattle.bits.specs.Bits.{pick}
 use Rattle.text.specs.Decimal.{digit, digits, decimal}
 use Rattle.text.specs.Field.{is_digit, run, number_from, number_of, field_of, field_at}
-use Rattle.text.specs.declared.Field.TheVariants.{Number}
+use Rattle.std.specs.Prelude.{Some}
 use Rattle.text.proofs.Decimals.{within}
 
 -- bytes that are digits, one or more, and say a number
@@ -54,7 +54,7 @@ says-digits (suc k) n h = go (ltb n 10) refl (says-more n _ (says-digits k (n / 
 
 -- a number of at most nine digits, with something behind it that does not begin with a digit
 pub field-decimal : (n widest : ℕ) (before rest : List ℕ) → n < 10 ^ 9 → length (decimal n) ≤ widest → run rest ≡ 0
-    → field_at (before ++ (decimal n ++ rest)) (length before) widest ≡ Number n (length before + length (decimal n))
+    → field_at (before ++ (decimal n ++ rest)) (length before) widest ≡ Some (n, length before + length (decimal n))
 unfolding field_at field_of decimal
 field-decimal n widest before rest h w e =
     let at = length before in

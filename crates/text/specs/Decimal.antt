@@ -14,3 +14,7 @@ digits (suc k) n = pick (ltb n 10) (digit n ∷ []) (digits k (n / 10) ++ (digit
 -- all digits: a number of 64 bits has at most 20
 unfoldable pub decimal : ℕ → List ℕ
 decimal n = digits 20 n
+
+-- a number and what stands after it
+unfoldable pub item : ℕ → List ℕ → List ℕ
+item n word = decimal n ++ word

@@ -1,9 +1,8 @@
 -- Examples that antt computes.
-use Rattle.std.specs.Prelude.{◌≡◌, refl, [], ◌∷◌}
+use Rattle.std.specs.Prelude.{◌≡◌, refl, [], ◌∷◌, Some, None}
 use Rattle.text.specs.Laying.{end_at, laid_at}
 use Rattle.text.specs.Decimal.{digits, decimal}
 use Rattle.text.specs.Field.{is_digit, run, number_from, field_of, field_at}
-use Rattle.text.specs.declared.Field.TheVariants.{Number, None}
 
 decimal-0 : decimal 0 ≡ 48 ∷ []
 unfolding decimal digits
@@ -39,12 +38,12 @@ unfolding end_at
 no_room-end = refl
 
 -- `002,` is 2, with its comma at place 3
-leading_zeros : field_at (48 ∷ 48 ∷ 50 ∷ 44 ∷ []) 0 3 ≡ Number 2 3
+leading_zeros : field_at (48 ∷ 48 ∷ 50 ∷ 44 ∷ []) 0 3 ≡ Some (2, 3)
 unfolding field_at field_of run is_digit number_from
 leading_zeros = refl
 
 -- `,16` from its second byte on, to the end
-to_the_end : field_at (44 ∷ 49 ∷ 54 ∷ []) 1 8 ≡ Number 16 3
+to_the_end : field_at (44 ∷ 49 ∷ 54 ∷ []) 1 8 ≡ Some (16, 3)
 unfolding field_at field_of run is_digit number_from
 to_the_end = refl
 

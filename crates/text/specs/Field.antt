@@ -1,8 +1,6 @@
 -- Decimal fields: which bytes are one, and which number it says. Leading zeros are digits like others.
-use Rattle.std.specs.Prelude.{Bool, ◌&&◌, List, [], ◌∷◌, ℕ, suc, ◌+◌, ◌-◌, ◌*◌, take, drop, leb}
+use Rattle.std.specs.Prelude.{Bool, ◌&&◌, List, [], ◌∷◌, Option, Some, None, ℕ, suc, ◌+◌, ◌-◌, ◌*◌, take, drop, leb}
 use Rattle.bits.specs.Bits.{pick, guard}
-use Rattle.text.specs.declared.Field.{Field}
-use Rattle.text.specs.declared.Field.TheVariants.{Number, None}
 
 -- `0` to `9` are 48 to 57
 unfoldable pub is_digit : ℕ → Bool
@@ -22,10 +20,10 @@ number_from n (b ∷ s) = number_from (n * 10 + (b - 48)) s
 abbrev pub number_of : List ℕ → ℕ
 number_of s = number_from 0 s
 
--- the field of these digits from a place on: 1 to `widest` of them, and no more than nine
-unfoldable pub field_of : List ℕ → ℕ → ℕ → ℕ → Field
-field_of s at n widest = guard (leb 1 n && (leb n widest && leb n 9)) None (Number (number_of (take n (drop at s))) (at + n))
+-- the field of these digits from a place on, as its number and the place after it: 1 to `widest` of them, and no more than nine
+unfoldable pub field_of : List ℕ → ℕ → ℕ → ℕ → Option (ℕ × ℕ)
+field_of s at n widest = guard (leb 1 n && (leb n widest && leb n 9)) None (Some (number_of (take n (drop at s)), at + n))
 
 -- the field that begins at a place: all digits from there on
-unfoldable pub field_at : List ℕ → ℕ → ℕ → Field
+unfoldable pub field_at : List ℕ → ℕ → ℕ → Option (ℕ × ℕ)
 field_at s at widest = field_of s at (run (drop at s)) widest

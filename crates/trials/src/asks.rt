@@ -1,255 +1,164 @@
 // The lines that ask something of the archive.
+use crate::answer::{Decision, Refusal};
 use crate::held::Held;
-use crate::show::Answer;
-use crate::{input, show};
-use bits::BitCount;
+use crate::input::Words;
+use crate::lent::{FULL_PLACE, LONG, Lent};
+use crate::show::Hex;
+use crate::{answer, show};
 use std::io;
 use std::io::Write;
 
 pub(crate) fn ask<W: Write>(out: &mut W, line: &[u8], held: &Held) -> io::Result<()> {
-    let archive = input::first(&held.bytes, held.length);
-    match input::letter(line) {
-        b'r' => give(out, line, archive),
-        b'v' => verify(out, archive),
-        b'd' => decide(out, line, archive),
-        b'p' => print(out, line, &held.bytes),
+    let archive = held.archive();
+    match line.first() {
+        Some(b'r') => give(out, line, archive),
+        Some(b'v') => verify(out, archive),
+        Some(b'd') => decide(out, Words::after("decide ", line), archive),
+        Some(b'p') => print(out, Words::after("print ", line), &held.bytes),
         _ => Ok(()),
     }
 }
 
 // A held PDU: as it is, as a DEFINE, or as a DEFINE EXTERNAL.
 fn give<W: Write>(out: &mut W, line: &[u8], archive: &[u8]) -> io::Result<()> {
-    match input::letter_at(line, 2) {
-        b's' => restore(out, line, archive),
-        b'l' => match input::letter_at(line, 6) {
-            b'_' => reload_external(out, line, archive),
-            _ => reload(out, line, archive),
-        },
+    match (line.get(2), line.get(6)) {
+        (Some(b's'), _) => restore(out, Words::after("restore ", line), archive),
+        (Some(b'l'), Some(b'_')) => reload_external(
+            out,
+            Words::after("reload_external ", line),
+            archive,
+        ),
+        (Some(b'l'), _) => reload(out, Words::after("reload ", line), archive),
         _ => Ok(()),
     }
 }
 
-fn restore<W: Write>(out: &mut W, line: &[u8], archive: &[u8]) -> io::Result<()> {
-    let network = input::number_at(line, 8);
-    let ssi = input::number_at(line, network.next);
-    let part = input::number_at(line, ssi.next);
-    let room = input::number_at(line, part.next);
-    restore_to(
-        out,
-        archive,
-        network.value,
-        ssi.value,
-        part.value,
-        room.value as usize,
-    )
-}
-
-fn restore_to<W: Write>(
-    out: &mut W,
-    archive: &[u8],
-    network: u32,
-    ssi: u32,
-    part: u32,
-    room: usize,
-) -> io::Result<()> {
-    let mut lent = show::full();
-    let mut count: usize = 0;
-    let mut day: u32 = 0;
-    let mut entry = show::FULL_PLACE;
-    let mut place = show::FULL_PLACE;
-    let end = bits::least(room, 70000);
+fn restore<W: Write>(out: &mut W, mut words: Words, archive: &[u8]) -> io::Result<()> {
+    let [network, ssi, part, room] = words.numbers::<4>();
+    let mut lent = Lent::<LONG>::full();
+    let mut day = 0;
     let number = boc::boc_restore(
         archive,
         network,
         ssi,
         part,
-        &mut lent[0..end],
-        &mut count,
+        &mut lent.bytes[..LONG.min(room as usize)],
+        &mut lent.size,
         &mut day,
-        &mut entry,
-        &mut place,
+        &mut lent.entry,
+        &mut lent.place,
     );
-    if number == 0 {
-        show::labelled(out, "bits ", count as u64)?;
-        show::labelled(out, " day ", day as u64)?;
+    match lent.told(number) {
+        Ok(()) => write!(out, "bits {} day {day} {}", lent.size, Hex(lent.pdu()))?,
+        Err(refusal) => write!(out, "{refusal}")?,
     }
-    let answer = Answer {
-        number,
-        entry,
-        place,
-    };
-    pdu_or_refusal(out, answer, BitCount(count), &lent)
+    show::rest(out, &lent.bytes, lent.pdu().len())
 }
 
-// Network, SSI, part, definition type, delivery, acknowledgement and room stand in this order.
-fn reload<W: Write>(out: &mut W, line: &[u8], archive: &[u8]) -> io::Result<()> {
-    let mut asked = [0u32; 7];
-    input::numbers_at(line, 7, &mut asked);
-    reload_to(out, false, archive, asked)
+fn reload<W: Write>(out: &mut W, mut words: Words, archive: &[u8]) -> io::Result<()> {
+    let [
+        network,
+        ssi,
+        part,
+        definition,
+        delivery,
+        acknowledgement,
+        room,
+    ] = words.numbers::<7>();
+    let mut lent = Lent::<LONG>::full();
+    let number = boc::boc_reload(
+        archive,
+        network,
+        ssi,
+        part,
+        definition,
+        delivery,
+        acknowledgement,
+        &mut lent.bytes[..LONG.min(room as usize)],
+        &mut lent.size,
+        &mut lent.entry,
+        &mut lent.place,
+    );
+    reloaded(out, &lent, number)
 }
 
-// The same without the part, which is that of numbers.
-fn reload_external<W: Write>(out: &mut W, line: &[u8], archive: &[u8]) -> io::Result<()> {
-    let mut asked = [0u32; 6];
-    input::numbers_at(line, 16, &mut asked);
-    let with_part = [
-        asked[0], asked[1], 2, asked[2], asked[3], asked[4], asked[5],
-    ];
-    reload_to(out, true, archive, with_part)
+fn reload_external<W: Write>(out: &mut W, mut words: Words, archive: &[u8]) -> io::Result<()> {
+    let [network, ssi, definition, delivery, acknowledgement, room] = words.numbers::<6>();
+    let mut lent = Lent::<LONG>::full();
+    let number = boc::boc_reload_external(
+        archive,
+        network,
+        ssi,
+        definition,
+        delivery,
+        acknowledgement,
+        &mut lent.bytes[..LONG.min(room as usize)],
+        &mut lent.size,
+        &mut lent.entry,
+        &mut lent.place,
+    );
+    reloaded(out, &lent, number)
 }
 
-fn reload_to<W: Write>(
-    out: &mut W,
-    external: bool,
-    archive: &[u8],
-    asked: [u32; 7],
-) -> io::Result<()> {
-    let mut lent = show::full();
-    let mut count: usize = 0;
-    let mut entry = show::FULL_PLACE;
-    let mut place = show::FULL_PLACE;
-    let end = bits::least(asked[6] as usize, 70000);
-    let number = if external {
-        boc::boc_reload_external(
-            archive,
-            asked[0],
-            asked[1],
-            asked[3],
-            asked[4],
-            asked[5],
-            &mut lent[0..end],
-            &mut count,
-            &mut entry,
-            &mut place,
-        )
-    } else {
-        boc::boc_reload(
-            archive,
-            asked[0],
-            asked[1],
-            asked[2],
-            asked[3],
-            asked[4],
-            asked[5],
-            &mut lent[0..end],
-            &mut count,
-            &mut entry,
-            &mut place,
-        )
-    };
-    if number == 0 {
-        show::labelled(out, "bits ", count as u64)?;
+// Prints the PDU that was written, or the refusal.
+fn reloaded<W: Write>(out: &mut W, lent: &Lent<LONG>, number: u32) -> io::Result<()> {
+    match lent.told(number) {
+        Ok(()) => write!(out, "bits {} {}", lent.size, Hex(lent.pdu()))?,
+        Err(refusal) => write!(out, "{refusal}")?,
     }
-    let answer = Answer {
-        number,
-        entry,
-        place,
-    };
-    pdu_or_refusal(out, answer, BitCount(count), &lent)
-}
-
-// Prints the bytes of a PDU that was written, or the refusal.
-fn pdu_or_refusal<W: Write>(
-    out: &mut W,
-    answer: Answer,
-    n: BitCount,
-    lent: &[u8],
-) -> io::Result<()> {
-    if answer.number == 0 {
-        out.write_all(b" ")?;
-        show::span(out, lent, 0, n.bytes())?;
-    } else {
-        show::refused(out, answer)?;
-    }
-    show::rest(out, lent, n.bytes())
+    show::rest(out, &lent.bytes, lent.pdu().len())
 }
 
 fn verify<W: Write>(out: &mut W, archive: &[u8]) -> io::Result<()> {
-    let mut lent = show::full();
-    let mut size: usize = 0;
-    let mut entry = show::FULL_PLACE;
-    let mut place = show::FULL_PLACE;
-    let number = boc::boc_contents(archive, &mut lent, &mut size, &mut entry, &mut place);
-    let answer = Answer {
-        number,
-        entry,
-        place,
-    };
-    show::written(out, answer, size, &lent)
+    let mut lent = Lent::<LONG>::full();
+    let number = boc::boc_contents(
+        archive,
+        &mut lent.bytes,
+        &mut lent.size,
+        &mut lent.entry,
+        &mut lent.place,
+    );
+    lent.print(out, lent.told(number))
 }
 
-// What an engine tells: its answer, and the decision.
-#[derive(Clone, Copy)]
-pub struct Told {
-    pub number: u32,
-    pub entry: usize,
-    pub place: usize,
-    pub verdict: u32,
+// What an engine answers to a request.
+fn decided<F: FnOnce(&[u8], &[u32], &mut u32, &mut usize, &mut usize) -> u32>(
+    engine: F,
+    archive: &[u8],
+    request: &[u32],
+) -> Result<Decision, Refusal>
+    requires { F.IsAlwaysCallable engine }
+{
+    let mut decision = 0;
+    let mut entry = FULL_PLACE;
+    let mut place = FULL_PLACE;
+    let number = engine(archive, request, &mut decision, &mut entry, &mut place);
+    answer::told(number, entry, place)?;
+    Ok(Decision::from(decision))
 }
 
-fn by_record(archive: &[u8], words: &[u32; 34]) -> Told {
-    let mut verdict: u32 = 0;
-    let mut entry = show::FULL_PLACE;
-    let mut place = show::FULL_PLACE;
-    let number = boc::boc_decide(archive, words, &mut verdict, &mut entry, &mut place);
-    Told {
-        number,
-        entry,
-        place,
-        verdict,
+fn tell<W: Write>(out: &mut W, answer: Result<Decision, Refusal>) -> io::Result<()> {
+    match answer {
+        Ok(decision) => write!(out, "{decision}"),
+        Err(refusal) => write!(out, "{refusal}"),
     }
 }
 
-fn in_place(archive: &[u8], words: &[u32; 34]) -> Told {
-    let mut verdict: u32 = 0;
-    let mut entry = show::FULL_PLACE;
-    let mut place = show::FULL_PLACE;
-    let number = boc::boc_decide_in_place(archive, words, &mut verdict, &mut entry, &mut place);
-    Told {
-        number,
-        entry,
-        place,
-        verdict,
-    }
-}
-
-fn differ(one: Told, other: Told) -> bool {
-    if one.number != other.number {
-        return true;
-    }
-    if one.entry != other.entry {
-        return true;
-    }
-    if one.place != other.place {
-        return true;
-    }
-    one.verdict != other.verdict
-}
-
-fn tell<W: Write>(out: &mut W, told: Told) -> io::Result<()> {
-    let answer = Answer {
-        number: told.number,
-        entry: told.entry,
-        place: told.place,
-    };
-    show::decision(out, answer, told.verdict)
-}
-
-fn decide<W: Write>(out: &mut W, line: &[u8], archive: &[u8]) -> io::Result<()> {
-    let mut words = [0u32; 34];
-    input::numbers_at(line, 7, &mut words);
-    let told = by_record(archive, &words);
-    let again = in_place(archive, &words);
-    tell(out, told)?;
-    if differ(told, again) {
-        out.write_all(b", in place ")?;
-        tell(out, again)?;
+fn decide<W: Write>(out: &mut W, mut words: Words, archive: &[u8]) -> io::Result<()> {
+    let request = words.numbers::<34>();
+    let by_record = decided(boc::boc_decide, archive, &request);
+    let in_place = decided(boc::boc_decide_in_place, archive, &request);
+    tell(out, by_record)?;
+    if in_place != by_record {
+        write!(out, ", in place ")?;
+        tell(out, in_place)?;
     }
     Ok(())
 }
 
-fn print<W: Write>(out: &mut W, line: &[u8], bytes: &[u8]) -> io::Result<()> {
-    let from = input::number_at(line, 6);
-    let to = input::number_at(line, from.next);
-    show::span(out, bytes, from.value as usize, to.value as usize)
+fn print<W: Write>(out: &mut W, mut words: Words, bytes: &[u8]) -> io::Result<()> {
+    let [from, to] = words.numbers::<2>();
+    let end = bytes.len().min(to as usize);
+    let part = bytes.get(from as usize..end).unwrap_or(&[]);
+    write!(out, "{}", Hex(part))
 }

@@ -1,64 +1,38 @@
 // A PDU read and a record written, on buffers that are full of one byte before.
-use crate::show;
-use crate::show::Answer;
-use bits::BitCount;
+use crate::answer::{NOWHERE, Refusal};
+use crate::lent::{FULL_PLACE, FULL_WORD, Lent};
+use crate::{answer, show};
 use std::io;
 use std::io::Write;
 
-const FULL_WORD: u32 = 0xa5a5a5a5;
-
-// The answer, and the record.
-#[derive(Clone, Copy)]
-pub struct Reading {
-    pub answer: Answer,
-    pub words: [u32; 520],
-}
-
-// Reads the PDU of n bits in the first `count` bytes.
+// Reads a PDU of so many bits: its record. Prints what a refusal changed of the record.
 pub(crate) fn read<W: Write>(
     out: &mut W,
-    bytes: &[u8; 520],
-    count: usize,
-    n: usize,
-) -> io::Result<Reading> {
-    let mut words = [FULL_WORD; 520];
-    let mut place = show::FULL_PLACE;
-    let end = bits::least(count, 520);
-    let number = boc::boc_read(&bytes[0..end], n, &mut words, &mut place);
-    let answer = Answer {
-        number,
-        entry: show::NOWHERE,
-        place,
-    };
-    if number == 0 {
-        return Ok(Reading { answer, words });
+    pdu: &[u8],
+    bits: usize,
+) -> io::Result<Result<[u32; 520], Refusal>> {
+    let mut record = [FULL_WORD; 520];
+    let mut place = FULL_PLACE;
+    let number = boc::boc_read(pdu, bits, &mut record, &mut place);
+    let answer = answer::told(number, NOWHERE, place);
+    if answer.is_err() {
+        show::words(out, &record, FULL_WORD)?;
     }
-    show::words(out, &words, FULL_WORD)?;
-    Ok(Reading {
-        answer,
-        words: [0u32; 520],
-    })
+    Ok(answer.map(|()| record))
 }
 
-// The refusal number, 0 for none, and the PDU.
-#[derive(Clone, Copy)]
-pub struct Writing {
-    pub number: u32,
-    pub bits: BitCount,
-    pub bytes: [u8; 512],
-}
-
-// Writes a record to the first `room` bytes of a buffer, and tells whether a byte behind what was written has changed.
-pub(crate) fn write<W: Write>(out: &mut W, words: &[u32; 520], room: usize) -> io::Result<Writing> {
-    let mut bytes = [show::FULL_BYTE; 512];
-    let mut n: usize = 0;
-    let end = bits::least(room, 512);
-    let number = boc::boc_write(words, &mut bytes[0..end], &mut n);
-    let bits = BitCount(n);
-    show::rest(out, &bytes, bits.bytes())?;
-    Ok(Writing {
-        number,
-        bits,
-        bytes,
-    })
+// Writes a record to a buffer of so many bytes: its PDU. Tells whether a byte behind what was written has changed.
+pub(crate) fn write<W: Write>(
+    out: &mut W,
+    record: &[u32; 520],
+    room: u32,
+) -> io::Result<Result<Lent<512>, Refusal>> {
+    let mut lent = Lent::full();
+    let number = boc::boc_write(
+        record,
+        &mut lent.bytes[..512.min(room as usize)],
+        &mut lent.size,
+    );
+    show::rest(out, &lent.bytes, lent.pdu().len())?;
+    Ok(answer::told(number, NOWHERE, NOWHERE).map(|()| lent))
 }

@@ -1,84 +1,75 @@
 // Numbers and bytes of a line.
+ghost use Rattle.std.specs.Prelude.{◌-◌, ◌<◌, ◌≤◌, length};
 
-// The letter or digit by which a line is known, 0 for an empty line.
-pub(crate) fn letter(line: &[u8]) -> u8 {
-    letter_at(line, 0)
-}
+use std::array;
 
-// The letter at a place of a line, 0 behind its end.
-pub(crate) fn letter_at(line: &[u8], at: usize) -> u8 {
-    if at < line.len() { line[at] } else { 0 }
-}
-
-// A decimal number, and where the word after it begins.
+// What is still to be read of a line.
 #[derive(Clone, Copy)]
-pub struct Word {
-    pub value: u32,
-    pub next: usize,
+pub struct Words<'a> {
+    pub rest: &'a [u8],
 }
 
-// The decimal number at a place of a line: 0 where there is none.
-pub(crate) fn number_at(s: &[u8], at: usize) -> Word {
-    let mut value: u32 = 0;
-    for i in at..s.len() {
-        let digit = digit(s[i]);
-        if 9 < digit {
-            return Word { value, next: i + 1 };
-        }
-        value = and_digit(value, digit);
+impl<'a> Words<'a> {
+    // All of a line.
+    pub(crate) fn of(line: &'a [u8]) -> Words<'a> {
+        Words { rest: line }
     }
-    let next = at.max(s.len());
-    Word { value, next }
-}
 
-// Puts the decimal numbers from a place on in words, as many as there are words.
-pub(crate) fn numbers_at(s: &[u8], from: usize, words: &mut [u32]) {
-    let mut at = from;
-    for word in words.iter_mut() {
-        let number = number_at(s, at);
-        *word = number.value;
-        at = number.next;
+    // What a line has behind its first word, which is known by some of its letters: the others may be any.
+    pub(crate) fn after(word: &str, line: &'a [u8]) -> Words<'a> {
+        Words {
+            rest: line.get(word.len()..).unwrap_or(&[]),
+        }
+    }
+
+    // The decimal number that comes next, with the character that ends it: 0 where there is none.
+    pub(crate) fn number(&mut self) -> u32
+        ensures { length self.new.rest.now ≤ length self.old.rest.now - 1 }
+    {
+        let s = self.rest;
+        let end = s
+            .iter()
+            .position(|c| !c.is_ascii_digit())
+            .unwrap_or(s.len());
+        self.rest = s.get(end + 1..).unwrap_or(&[]);
+        s[..end]
+            .iter()
+            .fold(0, |value, digit| and_digit(value, *digit))
+    }
+
+    // The decimal numbers that come next.
+    pub(crate) fn numbers<const N: usize>(&mut self) -> [u32; N] {
+        array::from_fn(|_| self.number())
+    }
+
+    // Puts the bytes that the hexadecimal digits of the rest spell in a buffer, as many as it holds, and gives their number.
+    pub(crate) fn bytes(&self, out: &mut [u8]) -> usize
+        ensures { result ≤ length out.new }
+    {
+        let (pairs, _) = self.rest.as_chunks::<2>();
+        for (place, [high, low]) in out.iter_mut().zip(pairs) {
+            *place = digit(*high) * 16 + digit(*low);
+        }
+        pairs.len().min(out.len())
     }
 }
 
 // A number with one digit more, as far as 32 bits go.
-fn and_digit(value: u32, digit: u8) -> u32 {
-    if 429496728 < value {
-        return 4294967295;
+fn and_digit(value: u32, c: u8) -> u32 {
+    if value < u32::MAX / 10 {
+        value * 10 + digit(c) as u32
+    } else {
+        u32::MAX
     }
-    value * 10 + (digit % 16) as u32
 }
 
-// The value of a hexadecimal digit, 16 for any other character.
-fn digit(c: u8) -> u8 {
+// The value of a hexadecimal digit, 0 for any other character.
+fn digit(c: u8) -> u8
+    ensures { result < 16 }
+{
     match c {
-        b'0'..=b'9' => c - 48,
-        b'a'..=b'f' => c - 87,
-        _ => 16,
+        b'0'..=b'9' => c - b'0',
+        b'a'..=b'f' => c - b'a' + 10,
+        _ => 0,
     }
-}
-
-// Puts the bytes that the hexadecimal digits from a place on spell in a buffer, and gives their number.
-pub(crate) fn bytes_at(s: &[u8], from: usize, out: &mut [u8]) -> usize {
-    if s.len() < from {
-        return 0;
-    }
-    let spelt = &s[from..];
-    for (k, place) in out.iter_mut().enumerate() {
-        if spelt.len() / 2 <= k {
-            break;
-        }
-        *place = byte(spelt[2 * k], spelt[2 * k + 1]);
-    }
-    bits::least(spelt.len() / 2, out.len())
-}
-
-fn byte(high: u8, low: u8) -> u8 {
-    digit(high) % 16 * 16 + digit(low) % 16
-}
-
-// The first bytes, so many of them.
-pub(crate) fn first(s: &[u8], count: usize) -> &[u8] {
-    let end = bits::least(count, s.len());
-    &s[0..end]
 }

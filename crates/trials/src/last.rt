@@ -1,142 +1,156 @@
 // The PDU given last and its record, and cases that differ from them.
-use crate::calls::Writing;
-use crate::{calls, input, show};
+use crate::answer::Refusal;
+use crate::input::Words;
+use crate::show::Hex;
+use crate::{calls, show};
 use bits::BitCount;
 use std::io;
 use std::io::Write;
 
 // The PDU given last, and its record.
-#[derive(Clone, Copy)]
+#[derive(Drop)]
 pub struct Last {
     pub bits: usize,
     pub bytes: [u8; 520],
-    pub words: [u32; 520],
+    pub record: [u32; 520],
 }
 
-pub(crate) fn nothing() -> Last {
-    Last {
-        bits: 0,
-        bytes: [0u8; 520],
-        words: [0u32; 520],
-    }
-}
-
-pub(crate) fn pdu<W: Write>(out: &mut W, line: &[u8]) -> io::Result<Last> {
-    let length = input::number_at(line, 0);
-    let bits = length.value as usize;
-    let mut bytes = [0u8; 520];
-    let count = input::bytes_at(line, length.next, &mut bytes);
-    let reading = calls::read(out, &bytes, count, bits)?;
-    let answer = reading.answer;
-    let words = reading.words;
-    if answer.number == 0 {
-        out.write_all(b"read")?;
-        show::words(out, &words, 0)?;
-        let writing = calls::write(out, &words, 512)?;
-        tell(out, &writing)?;
-    } else {
-        show::refused(out, answer)?;
-    }
-    Ok(Last { bits, bytes, words })
-}
-
-fn tell<W: Write>(out: &mut W, w: &Writing) -> io::Result<()> {
-    if w.number != 0 {
-        return show::labelled(out, " refused ", w.number as u64);
-    }
-    let n = w.bits;
-    show::labelled(out, " written ", n.0 as u64)?;
-    out.write_all(b" ")?;
-    show::span(out, &w.bytes, 0, n.bytes())
-}
-
-// Runs a line about what differs from the PDU given last.
-pub(crate) fn differ<W: Write>(out: &mut W, line: &[u8], last: &Last) -> io::Result<()> {
-    match input::letter(line) {
-        b't' => every(out, b't', line, 9, last),
-        b'f' => every(out, b'f', line, 6, last),
-        b'a' => every(out, b'a', line, 7, last),
-        b's' => every(out, b's', line, 6, last),
-        b'w' => write(out, line, last),
-        _ => Ok(()),
-    }
-}
-
-// The record with the changes of a line, written.
-fn write<W: Write>(out: &mut W, line: &[u8], last: &Last) -> io::Result<()> {
-    let room = input::number_at(line, 6);
-    let mut words = last.words;
-    change(&mut words, line, room.next);
-    let writing = calls::write(out, &words, room.value as usize)?;
-    tell(out, &writing)
-}
-
-fn change(words: &mut [u32], line: &[u8], from: usize) {
-    let mut at = from;
-    while at < line.len() {
-        let index = input::number_at(line, at);
-        let value = input::number_at(line, index.next);
-        set(words, index.value as usize, value.value);
-        let next = value.next;
-        if next <= at {
-            return;
+impl Last {
+    pub(crate) fn nothing() -> Last {
+        Last {
+            bits: 0,
+            bytes: [0; 520],
+            record: [0; 520],
         }
-        at = next;
+    }
+
+    // Runs a line that gives a PDU.
+    pub(crate) fn replace<W: Write>(&mut self, out: &mut W, line: &[u8]) -> io::Result<()> {
+        *self = Last::nothing();
+        let mut words = Words::of(line);
+        self.bits = words.number() as usize;
+        let count = words.bytes(&mut self.bytes);
+        match calls::read(out, &self.bytes[..count], self.bits)? {
+            Ok(record) => {
+                self.record = record;
+                write!(out, "read")?;
+                show::words(out, &record, 0)?;
+                written(out, &record, 512)
+            }
+            Err(refusal) => write!(out, "{refusal}"),
+        }
+    }
+
+    // Runs a line about what differs from the PDU given last.
+    pub(crate) fn differ<W: Write>(&self, out: &mut W, line: &[u8]) -> io::Result<()> {
+        match line.first() {
+            Some(b't') => self.truncate(out, Words::after("truncate ", line)),
+            Some(b'f') => self.field(out, Words::after("field ", line)),
+            Some(b'a') => self.across(out, Words::after("across ", line)),
+            Some(b's') => self.sweep(out, Words::after("sweep ", line)),
+            Some(b'w') => self.write(out, Words::after("write ", line)),
+            _ => Ok(()),
+        }
+    }
+
+    fn truncate<W: Write>(&self, out: &mut W, mut words: Words) -> io::Result<()> {
+        every(out, words.number(), |out, i| {
+            self.with_element(out, i as usize, i as usize, 8 - i % 8, 0)
+        })
+    }
+
+    fn field<W: Write>(&self, out: &mut W, mut words: Words) -> io::Result<()> {
+        let [count, at, width] = words.numbers::<3>();
+        every(out, count, |out, i| {
+            self.with_element(out, self.bits, at as usize, width, i)
+        })
+    }
+
+    fn across<W: Write>(&self, out: &mut W, mut words: Words) -> io::Result<()> {
+        let [count, width, value] = words.numbers::<3>();
+        every(out, count, |out, i| {
+            self.with_element(out, self.bits, i as usize, width, value)
+        })
+    }
+
+    fn sweep<W: Write>(&self, out: &mut W, mut words: Words) -> io::Result<()> {
+        let [count, value] = words.numbers::<2>();
+        every(out, count, |out, i| self.with_word(out, i, value))
+    }
+
+    // The record with the changes of a line, written.
+    fn write<W: Write>(&self, out: &mut W, mut words: Words) -> io::Result<()> {
+        let room = words.number();
+        let mut record = self.record;
+        while !words.rest.is_empty() {
+            let index = words.number();
+            let value = words.number();
+            set(&mut record, index, value);
+        }
+        written(out, &record, room)
+    }
+
+    // The answer to the first bits of the PDU with an element in its place.
+    fn with_element<W: Write>(
+        &self,
+        out: &mut W,
+        bits: usize,
+        at: usize,
+        width: u32,
+        value: u32,
+    ) -> io::Result<u32> {
+        let mut bytes = self.bytes;
+        bits::put(&mut bytes, at, width as usize, value as u64);
+        let count = BitCount(bits).bytes();
+        Ok(number(calls::read(out, &bytes[..count.min(520)], bits)?))
+    }
+
+    // The answer to the record with one word changed.
+    fn with_word<W: Write>(&self, out: &mut W, index: u32, value: u32) -> io::Result<u32> {
+        let mut record = self.record;
+        set(&mut record, index, value);
+        Ok(number(calls::write(out, &record, 512)?))
     }
 }
 
-fn set(words: &mut [u32], i: usize, value: u32) {
-    if i < words.len() {
-        words[i] = value;
+// Writes a record to a buffer of so many bytes, and prints its PDU.
+fn written<W: Write>(out: &mut W, record: &[u32; 520], room: u32) -> io::Result<()> {
+    match calls::write(out, record, room)? {
+        Ok(lent) => write!(out, " written {} {}", lent.size, Hex(lent.pdu())),
+        Err(refusal) => write!(out, " {refusal}"),
+    }
+}
+
+// Gives a word another value, if there is such a word.
+fn set(record: &mut [u32; 520], index: u32, value: u32) {
+    if let Some(word) = record.get_mut(index as usize) {
+        *word = value;
     }
 }
 
 // Prints the answers of many cases, each where it is another than the one before.
-fn every<W: Write>(out: &mut W, kind: u8, line: &[u8], at: usize, last: &Last) -> io::Result<()> {
-    let count = input::number_at(line, at);
-    let first = input::number_at(line, count.next);
-    let second = input::number_at(line, first.next);
-    let mut before: u32 = 4294967295;
-    for i in 0..count.value {
-        let answer = answer(out, kind, i, first.value, second.value, last)?;
-        if before != answer {
-            show::pair(out, i as u64, answer as u64)?;
+fn every<W: Write, F: Fn(&mut W, u32) -> io::Result<u32>>(
+    out: &mut W,
+    count: u32,
+    answer: F,
+) -> io::Result<()>
+    requires { F.IsAlwaysCallable answer }
+{
+    let mut before = None;
+    for i in 0..count {
+        let number = answer(out, i)?;
+        if before != Some(number) {
+            write!(out, " {i}:{number}")?;
         }
-        before = answer;
+        before = Some(number);
     }
     Ok(())
 }
 
-fn answer<W: Write>(out: &mut W, kind: u8, i: u32, a: u32, b: u32, last: &Last) -> io::Result<u32> {
-    match kind {
-        b't' => with_element(out, last, i as usize, i as usize, (8 - i % 8) as usize, 0),
-        b'f' => with_element(out, last, last.bits, a as usize, b as usize, i),
-        b'a' => with_element(out, last, last.bits, i as usize, a as usize, b),
-        _ => with_word(out, last, i as usize, a),
+// The refusal number of an answer, 0 for none.
+fn number<T: Drop>(answer: Result<T, Refusal>) -> u32 {
+    match answer {
+        Ok(_) => 0,
+        Err(refusal) => refusal.number,
     }
-}
-
-// The answer to n bits of the PDU with an element in its place.
-fn with_element<W: Write>(
-    out: &mut W,
-    last: &Last,
-    n: usize,
-    at: usize,
-    width: usize,
-    value: u32,
-) -> io::Result<u32> {
-    let mut bytes = last.bytes;
-    bits::put(&mut bytes, at, width, value as u64);
-    let length = BitCount(n);
-    let reading = calls::read(out, &bytes, length.bytes(), n)?;
-    let answer = reading.answer;
-    Ok(answer.number)
-}
-
-// The answer to the record with one word changed.
-fn with_word<W: Write>(out: &mut W, last: &Last, i: usize, value: u32) -> io::Result<u32> {
-    let mut words = last.words;
-    set(&mut words, i, value);
-    let writing = calls::write(out, &words, 512)?;
-    Ok(writing.number)
 }

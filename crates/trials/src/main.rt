@@ -31,11 +31,13 @@
 // byte that is not of what was written has another value. A line of any other kind is printed as it is.
 #![tactic(auto)]
 
+mod answer;
 mod asks;
 mod calls;
 mod held;
 mod input;
 mod last;
+mod lent;
 mod show;
 
 use held::Held;
@@ -44,15 +46,15 @@ use std::io;
 use std::io::{BufWriter, Read, Write};
 
 // No more of standard input is run.
-const MOST: u64 = 524288;
+const MOST: usize = 524288;
 
 fn main(rt: HostRuntime) -> io::Result<()> {
     let mut text = Vec::new(rt.alloc());
-    let count = rt.stdin().take(MOST).read_to_end(&mut text)?;
+    let count = rt.stdin().take(MOST as u64).read_to_end(&mut text)?;
     let mut out = BufWriter::new(rt.alloc(), rt.stdout())?;
     run(&mut out, text.as_slice())?;
-    if count == 524288 {
-        out.write_all(b"input too long\n")?;
+    if count == MOST {
+        writeln!(out, "input too long")?;
     }
     out.flush()
 }
@@ -66,29 +68,26 @@ pub struct State {
 
 fn run<W: Write>(out: &mut W, s: &[u8]) -> io::Result<()> {
     let mut state = State {
-        last: last::nothing(),
-        held: held::nothing(),
+        last: Last::nothing(),
+        held: Held::nothing(),
     };
     for ended in s.split_inclusive(|byte| *byte == b'\n') {
         let line = ended.strip_suffix(b"\n").unwrap_or(ended);
         case(out, line, &mut state)?;
-        out.write_all(b"\n")?;
+        writeln!(out)?;
     }
     Ok(())
 }
 
 // Runs one line: one that gives a PDU, gives another archive, asks something of the archive, or changes something of the PDU given last.
 fn case<W: Write>(out: &mut W, line: &[u8], state: &mut State) -> io::Result<()> {
-    match input::letter(line) {
-        b'0'..=b'9' => {
-            state.last = last::pdu(out, line)?;
-            Ok(())
-        }
-        b'e' | b'c' | b'm' | b'o' | b'l' => held::after(out, line, &mut state.held),
-        b'r' | b'v' | b'd' | b'p' => asks::ask(out, line, &state.held),
+    match line.first() {
+        Some(b'0'..=b'9') => state.last.replace(out, line),
+        Some(b'e' | b'c' | b'm' | b'o' | b'l') => state.held.run(out, line),
+        Some(b'r' | b'v' | b'd' | b'p') => asks::ask(out, line, &state.held),
         _ => {
             out.write_all(line)?;
-            last::differ(out, line, &state.last)
+            state.last.differ(out, line)
         }
     }
 }

@@ -15,12 +15,10 @@ use Rattle.bits.proofs.Lists.{take_min}
 use Rattle.bits.proofs.Windows.{window_lt}
 use Rattle.codec.specs.Codec.{Codec}
 use Rattle.codec.specs.Parts.{number, element}
-use Rattle.codec.specs.Reading.{Found, got, and_next, read_at, resume}
-use Rattle.codec.specs.declared.Reached.{Reached}
-use Rattle.codec.specs.declared.Reached.TheVariants.{At}
+use Rattle.codec.specs.Reading.{Found, got, and_next, read_at}
 use Rattle.codec.proofs.Onward.{element-got}
 use Rattle.codec.proofs.Windows.{number_in_window}
-use Rattle.walk.specs.Inner.{pass, steps, passing, Ends, Finds}
+use Rattle.walk.specs.Inner.{Reached, pass, steps, passing, Ends, Finds}
 use Rattle.walk.proofs.Passes.{pass-then, steps-last}
 use Rattle.walk.proofs.Rows.{row-passes}
 
@@ -94,13 +92,12 @@ pub coded-ends : {B C : Type 0} (codec : Codec C) (w : ℕ) (refuse : ℕ → �
     → ((l : List Bool) (at : ℕ) → read_at codec l at ≡ and_next (read_at (element w refuse) l at)
     (λ a p. and_next (read_at (d a) l p) (λ b q. got (g a b) q)))
     → Holds s at w v → refuse v ≡ 0 → Ends (pass (d v)) s (at + w) m end → Ends (pass codec) s at (w + m) end
-unfolding resume
 coded-ends codec w refuse d g {s} {at} {v} shape holds legal r = record {
   after = omega (arith, r.after);
   near = omega (arith, r.near);
   there = λ n few i.
       let l : List Bool = bits_in n s in
-      pass-then codec l (At (record { at = at })) (read_at (element w refuse) l) d g (shape l) (At (record { at = at + w })) v
+      pass-then codec l at (read_at (element w refuse) l at) d g (shape l at)
       (element-got w refuse l at v (at + w) (holds n (omega (arith, r.after))) legal)
       ∙ r.there n few i;
 }

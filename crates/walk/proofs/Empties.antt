@@ -5,11 +5,10 @@ use mathlib.Core.List.{List}
 use Prim.Native.Nat.{ℕ, ◌+◌, ◌/◌, ◌^◌, ◌≤◌}
 use native.Mathlib.Omega.{arith}
 use Rattle.bits.specs.Element.{window_at}
-use Rattle.codec.specs.declared.Reached.{Reached}
 use Rattle.grammar.specs.SiteSheet.{range_type, range_refusal}
 use Rattle.grammar.specs.Grammar.{identity, identities, external, externals}
 use Rattle.grammar.specs.declared.site.ListKind.TheVariants as of
-use Rattle.walk.specs.Inner.{pass, Ends}
+use Rattle.walk.specs.Inner.{Reached, pass, Ends}
 use Rattle.walk.proofs.Aheads.{ends_as, ends-then, ends-empty, Holds, in_window}
 use Rattle.walk.proofs.Sights.{singles_end, list-ends, externals-end}
 

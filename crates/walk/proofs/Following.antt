@@ -3,6 +3,7 @@ use mathlib.Core.Path.{◌≡◌, refl, sym, ap, ◌∙◌, subst}
 use mathlib.Core.Bool.{Bool, true, false, ◌&&◌}
 use mathlib.Core.List.{List}
 use Prim.Native.Nat.{ℕ, ◌+◌, ◌-◌, ◌*◌, ◌/◌, ◌%◌, ◌^◌, ◌≤◌}
+use Rattle.std.specs.Prelude.{Option}
 use native.Mathlib.Omega.{arith}
 use borrow.Author.Tests.{eqb-true}
 use lib.ListN.{length}
@@ -13,8 +14,7 @@ use Rattle.bits.specs.Element.{window_at}
 use Rattle.bits.proofs.Tests.{both, picked}
 use Rattle.codec.specs.Parts.{absent, element, only}
 use Rattle.codec.specs.Places.{places}
-use Rattle.codec.specs.Reading.{got, read_at, resume}
-use Rattle.codec.specs.declared.Reached.TheVariants.{At}
+use Rattle.codec.specs.Reading.{got, read_at}
 use Rattle.codec.proofs.Reading.{read_at-absent}
 use Rattle.codec.proofs.Onward.{element-got}
 use Rattle.codec.proofs.Seen.{seen-legal}
@@ -70,13 +70,13 @@ services-found {s} {p} {width} at k here few is some =
 
 -- ---- what follows the affected users
 
-module _ (t : PduType) (s : List ℕ) (at : ℕ) {f : Figures} (is : f ≡ figures_in t (window_at s at)) (legal : (figures_of t).fault f ≡ 0) where
+module _ (t : Option PduType) (s : List ℕ) (at : ℕ) {f : Figures} (is : f ≡ figures_in t (window_at s at)) (legal : (figures_of t).fault f ≡ 0) where
   -- figures stand in the window at their place
   figures-there : (n : ℕ) → at + width_of t ≤ length (bits_in n s) → read_at (figures_of t) (bits_in n s) at ≡ got f (at + width_of t)
   figures-there n i = rw is (seen-legal (figures_seen s n at t i) (rw is at legal))
 
-  pub figures_find : (form_of t).services ≡ false → Finds (λ l. result_from t l (At (record { at = at }))) s at f.result (at + width_of t)
-  unfolding result_from resume
+  pub figures_find : (form_of t).services ≡ false → Finds (λ l. result_from t l at) s at f.result (at + width_of t)
+  unfolding result_from
   figures_find e = record {
     after = omega arith;
     there = λ n few i. rw (figures-there n i, e, no_services-at, no-lists t f e, no_part-at);
@@ -85,8 +85,8 @@ module _ (t : PduType) (s : List ℕ) (at : ℕ) {f : Figures} (is : f ≡ figur
   -- services follow them in the same window, and then lists
   pub listed_find : {width part m end : ℕ} → (form_of t).services ≡ true → width ≡ services_in (window_at s at / 2 ^ (33 - width_of t) % 2 ^ 24)
       → (width ≡ 0 → ⊥) → part ≡ part_in t f → Ends (pass (part_of part)) s (at + width_of t + width) m end
-      → Finds (λ l. result_from t l (At (record { at = at }))) s at f.result end
-  unfolding result_from resume
+      → Finds (λ l. result_from t l at) s at f.result end
+  unfolding result_from
   listed_find {width} {part} {m} {end} e wide some lists r =
       let listed = services-found at (width_of t) refl (omega (arith, narrow t)) wide some in
       let after = r.after in
@@ -96,28 +96,28 @@ module _ (t : PduType) (s : List ℕ) (at : ℕ) {f : Figures} (is : f ≡ figur
             let l : List Bool = bits_in n s in
             let here : ℕ = at + width_of t in
             rw (figures-there n (omega arith), e, ← lists)
-            (past services l (At (record { at = here })) (At (record { at = here + width })) _ (sym (listed.there n few (omega arith)))
-            ∙ past (part_of part) l (At (record { at = here + width })) (At (record { at = end })) _ (sym (r.there n few i)));
+            (past services l here (here + width) _ (listed.there n few (omega arith))
+            ∙ past (part_of part) l (here + width) end _ (r.there n few i));
       }
 
 -- the affected users before it
-pub behind_finds : (t : PduType) {s : List ℕ} {m p result end : ℕ} → Ends (pass (users_of t)) s 11 m p
-    → Finds (λ l. result_from t l (At (record { at = p }))) s p result end → Finds (result_behind t) s 11 result end
-unfolding result_behind resume
+pub behind_finds : (t : Option PduType) {s : List ℕ} {m p result end : ℕ} → Ends (pass (users_of t)) s 11 m p
+    → Finds (λ l. result_from t l p) s p result end → Finds (result_behind t) s 11 result end
+unfolding result_behind
 behind_finds t {s} {p = p} r f =
     let after = r.after in
     let later = f.after in
     record {
       after = omega arith;
       there = λ n few i.
-          past (users_of t) (bits_in n s) (At (record { at = 11 })) (At (record { at = p })) _ (sym (r.there n few (omega arith)))
+          past (users_of t) (bits_in n s) 11 p _ (r.there n few (omega arith))
           ∙ f.there n few i;
     }
 
 -- SS type and PDU type before that
 pub pdu_finds : {s : List ℕ} {code result end : ℕ} → window_at s 0 / 2 ^ 51 ≡ ss_type → code ≡ window_at s 0 / 2 ^ 46 % 2 ^ 5 → kind_refusal code ≡ 0
     → Finds (result_behind (pdu_type code)) s 11 result end → Finds result_in s 0 result end
-unfolding result_behind resume
+unfolding result_behind
 pdu_finds {s} {code} marked is legal f =
     let after = f.after in
     record {

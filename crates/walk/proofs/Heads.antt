@@ -3,6 +3,7 @@ use mathlib.Core.Path.{◌≡◌, refl, sym, ap, ◌∙◌}
 use mathlib.Core.Bool.{Bool, true, false}
 use mathlib.Core.List.{List, ◌∷◌}
 use Prim.Native.Nat.{ℕ, zero, suc, ◌+◌, ◌/◌, ◌%◌, ◌^◌, ◌≤◌}
+use Rattle.std.specs.Prelude.{Some, None, Option}
 use native.Mathlib.Omega.{arith}
 use borrow.Author.Tests.{eqb-false}
 use lib.ListN.{get_or}
@@ -27,7 +28,7 @@ use Rattle.grammar.specs.declared.record.Identity.{Identity}
 use Rattle.grammar.specs.declared.record.Identities.{Identities}
 use Rattle.grammar.specs.declared.record.Record.{Record}
 use Rattle.grammar.specs.declared.site.ListKind.TheVariants as of
-use Rattle.grammar.specs.declared.site.RangeType.TheVariants.{Empty, Single, FirstAndLast, NoRangeType}
+use Rattle.grammar.specs.declared.site.RangeType.TheVariants.{Empty, Single, FirstAndLast}
 use Rattle.grammar.proofs.Steps.{identity-at, identities-at, no_identities-at}
 use Rattle.walk.specs.Walk.{head_of}
 use Rattle.walk.specs.Inner.{identity_in, head_in}
@@ -41,8 +42,8 @@ some-user : (code : ℕ) → range_refusal of.Users code ≡ 0 → 1 ≤ entries
 unfolding range_refusal row_of range_type
 some-user code = go (eqb code 0) (leb code 8) (eqb code 9) refl
   where
-    go : (a b c : Bool) → eqb code 0 ≡ a → refusal_in of.Users (pick a Empty (pick b (Single code) (pick c FirstAndLast NoRangeType))) ≡ 0
-        → 1 ≤ (row_of_type (pick a Empty (pick b (Single code) (pick c FirstAndLast NoRangeType)))).entries
+    go : (a b c : Bool) → eqb code 0 ≡ a → refusal_in of.Users (pick a (Some Empty) (pick b (Some (Single code)) (pick c (Some FirstAndLast) None))) ≡ 0
+        → 1 ≤ (row_of_type (pick a (Some Empty) (pick b (Some (Single code)) (pick c (Some FirstAndLast) None)))).entries
     go true b c e h = absurd (omega arith)
     go false true c e h = omega (arith, eqb-false code 0 e)
     go false false true e h = omega arith
@@ -130,7 +131,7 @@ module _ (s : List ℕ) (n : ℕ) where
       let x = number_is_lem s n 0 0 6 (element-says 6 (only ss_type) l 0 f).0 refl (omega arith) (omega arith) in
       both_found (read_at (element 5 kind_refusal) l p) _ g (λ kind p' f' g'.
       let y = number_is_lem s n 0 6 5 (element-says 5 kind_refusal l p f').0 x.1 (omega arith) (omega arith) in
-      let t : PduType = pdu_type kind in
+      let t : Option PduType = pdu_type kind in
       both_found (read_at (rest_of t) l p') _ g' (λ rest p'' f'' g''.
       both_found (read_at (users_of t) l p') _ (sym (rest_at l p' t) ∙ f'') (λ affected q f''' g'''.
       let there : p' ≡ 11 = omega (arith, x.1, y.1) in
@@ -144,7 +145,7 @@ module _ (s : List ℕ) (n : ℕ) where
       l = bits_in n s
 
       -- the users are the first of what follows the PDU type
-      first-is : (t : PduType) (a : Identities) (q : ℕ) (rest : Rest) (end : ℕ)
+      first-is : (t : Option PduType) (a : Identities) (q : ℕ) (rest : Rest) (end : ℕ)
           → and_next (read_at (figures_of t) l q) (λ f at. and_next (read_at (services_of t) l at) (λ v at'. and_next (read_at (part_of (part_in t f)) l at')
           (λ i at''. got (a, (f, (v, i))) at''))) ≡ got rest end
           → rest.0 ≡ a

@@ -1,118 +1,93 @@
 -- Passing, one law for each way to build a part. Assumes nothing.
+use Rattle.std.specs.Prelude.{Ok, Err}
 use mathlib.Core.Path.{◌≡◌, refl, sym, ap, ◌∙◌}
-use mathlib.Core.Bool.{Bool}
 use mathlib.Core.List.{List, ◌∷◌}
+use mathlib.Core.Bool.{Bool}
 use Prim.Native.Nat.{ℕ, zero, suc, ◌+◌, ◌-◌, ◌≤◌, ◌<◌}
 use native.Mathlib.Omega.{arith}
 use Rattle.codec.specs.Codec.{Codec}
 use Rattle.codec.specs.Parts.{tested}
 use Rattle.codec.specs.Places.{nil, cons, places}
-use Rattle.codec.specs.Reading.{Found, got, refused, and_next, unless_at, read_at, resume, reached_of}
-use Rattle.codec.specs.declared.Reached.{Reached}
-use Rattle.codec.specs.declared.Reached.TheVariants.{At, Refused}
+use Rattle.codec.specs.Reading.{Found, got, refused, and_next, unless_at, read_at, reached}
+use Rattle.codec.specs.declared.Stop.{Stop}
 use Rattle.codec.proofs.Reading.{read_at-nil, read_at-cons, read_at-tested}
-use Rattle.codec.proofs.Onward.{placed, resume-same, go_on}
-use Rattle.walk.specs.Inner.{pass, steps}
+use Rattle.codec.proofs.Onward.{goes-past}
+use Rattle.walk.specs.Inner.{Reached, pass, steps}
 
 -- ---- where reading stands
 
-reached-placed : {A : Type 0} (q : Reached) (a : A) → reached_of (placed q a) ≡ q
-reached-placed (At c) a = refl
-reached-placed (Refused n p) a = refl
-
-pub resume-got : {A : Type 0} (q : Reached) (a : A) → resume q (λ p. got a p) ≡ placed q a
-unfolding resume
-resume-got (At c) a = refl
-resume-got (Refused n p) a = refl
-
--- a part that was read is passed
-pub pass-read : {A : Type 0} (c : Codec A) (l : List Bool) (r q : Reached) (a : A) → resume r (read_at c l) ≡ placed q a → pass c l r ≡ q
+pub pass-at : {A : Type 0} (c : Codec A) (l : List Bool) (at : ℕ) → pass c l (Ok (record { at = at })) ≡ reached (read_at c l at)
 unfolding pass
-pass-read c l r q a e = ap reached_of e ∙ reached-placed q a
-
-pub pass-at : {A : Type 0} (c : Codec A) (l : List Bool) (at : ℕ) → pass c l (At (record { at = at })) ≡ reached_of (read_at c l at)
-unfolding pass resume
 pass-at c l at = refl
 
--- what follows a part whose value it does not ask for
-pub past : {A B : Type 0} (c : Codec A) (l : List Bool) (r q : Reached) (k : ℕ → Found B) → q ≡ pass c l r
-    → resume r (λ at. and_next (read_at c l at) (λ a p. k p)) ≡ resume q k
-unfolding pass resume
-past {A} {B} c l r q k e = go r ∙ ap (λ (q : Reached). resume q k) (sym e)
-  where
-    found : (o : Found A) → and_next o (λ a p. k p) ≡ resume (reached_of o) k
-    found (got a p) = refl
-    found (refused n p) = refl
+pub pass-stays : {A : Type 0} (c : Codec A) (l : List Bool) (e : Stop) → Err e ≡ pass c l (Err e)
+unfolding pass
+pass-stays c l e = refl
 
-    go : (r : Reached) → resume r (λ at. and_next (read_at c l at) (λ a p. k p)) ≡ resume (reached_of (resume r (read_at c l))) k
-    go (At d) = found (read_at c l d.at)
-    go (Refused n p) = refl
+-- what follows a part whose value it does not ask for
+pub past : {A B : Type 0} (c : Codec A) (l : List Bool) (at end : ℕ) (k : ℕ → Found B)
+    → pass c l (Ok (record { at = at })) ≡ Ok (record { at = end }) → and_next (read_at c l at) (λ a p. k p) ≡ k end
+unfolding pass
+past c l at end k e = goes-past (read_at c l at) k (sym e)
 
 -- what is made of the value
-made : {A B : Type 0} (o : Found A) (f : A → B) → reached_of (and_next o (λ a p. got (f a) p)) ≡ reached_of o
+made : {A B : Type 0} (o : Found A) (f : A → B) → reached (and_next o (λ a p. got (f a) p)) ≡ reached o
 made (got a p) f = refl
 made (refused n p) f = refl
 
-made-resume : {A B : Type 0} (r : Reached) (f : ℕ → Found A) (g : A → B) → reached_of (resume r (λ at. and_next (f at) (λ a p. got (g a) p)))
-    ≡ reached_of (resume r f)
-unfolding resume
-made-resume (At c) f g = made (f c.at) g
-made-resume (Refused n p) f g = refl
-
--- a part whose reading is that of f, and then of one that is made into a value: a was read by f, and reading then stands at q
-pub pass-then : {A B C : Type 0} (c : Codec C) (l : List Bool) (r : Reached) (f : ℕ → Found A) (d : A → Codec B) (g : A → B → C)
-    → ((at : ℕ) → read_at c l at ≡ and_next (f at) (λ a p. and_next (read_at (d a) l p) (λ b q. got (g a b) q)))
-    → (q : Reached) (a : A) → resume r f ≡ placed q a → pass c l r ≡ pass (d a) l q
+-- a part whose reading is that of f, and then of one that is made into a value: a was read by f
+pub pass-then : {A B C : Type 0} (c : Codec C) (l : List Bool) (at : ℕ) (f : Found A) (d : A → Codec B) (g : A → B → C)
+    → read_at c l at ≡ and_next f (λ a p. and_next (read_at (d a) l p) (λ b q. got (g a b) q))
+    → {a : A} {q : ℕ} → f ≡ got a q → pass c l (Ok (record { at = at })) ≡ pass (d a) l (Ok (record { at = q }))
 unfolding pass
-pass-then c l r f d g e q a h =
-    ap reached_of (resume-same r (read_at c l) _ e ∙ go_on r f q a (λ a p. and_next (read_at (d a) l p) (λ b q. got (g a b) q)) h)
-    ∙ made-resume q (read_at (d a) l) (g a)
+pass-then {C = C} c l at f d g e {a} {q} h =
+    ap reached (e ∙ ap (λ o. and_next {B = C} o (λ a p. and_next (read_at (d a) l p) (λ b q. got (g a b) q))) h)
+    ∙ made (read_at (d a) l q) (g a)
 
 -- a part whose reading is that of c, of d, and of what is made of both
 pub pass-both : {A B C : Type 0} (e : Codec C) (c : Codec A) (d : Codec B) (g : A → B → C) (l : List Bool) (r : Reached)
     → ((at : ℕ) → read_at e l at ≡ and_next (read_at c l at) (λ a p. and_next (read_at d l p) (λ b q. got (g a b) q))) → pass e l r ≡ pass d l (pass c l r)
-unfolding pass resume
-pass-both {A} e c d g l (At p) h = ap reached_of (h p.at) ∙ go (read_at c l p.at)
+unfolding pass
+pass-both {A} e c d g l (Ok p) h = ap reached (h p.at) ∙ go (read_at c l p.at)
   where
-    go : (o : Found A) → reached_of (and_next o (λ a p. and_next (read_at d l p) (λ b q. got (g a b) q))) ≡ reached_of (resume (reached_of o) (read_at d l))
+    go : (o : Found A) → reached (and_next o (λ a p. and_next (read_at d l p) (λ b q. got (g a b) q))) ≡ pass d l (reached o)
     go (got a p) = made (read_at d l p) (g a)
     go (refused n p) = refl
-pass-both e c d g l (Refused n p) h = refl
+pass-both e c d g l (Err x) h = refl
 
 -- the same with three parts
 pub pass-three : {A B C D : Type 0} (e : Codec D) (c : Codec A) (d : Codec B) (f : Codec C) (g : A → B → C → D) (l : List Bool) (r : Reached)
     → ((at : ℕ) → read_at e l at ≡ and_next (read_at c l at) (λ a p. and_next (read_at d l p) (λ b q. and_next (read_at f l q) (λ x t. got (g a b x) t))))
     → pass e l r ≡ pass f l (pass d l (pass c l r))
-unfolding pass resume
-pass-three {A} {B} e c d f g l (At p) h = ap reached_of (h p.at) ∙ go (read_at c l p.at)
+unfolding pass
+pass-three {A} {B} e c d f g l (Ok p) h = ap reached (h p.at) ∙ go (read_at c l p.at)
   where
-    then : (o : Found B) (a : A) → reached_of (and_next o (λ b q. and_next (read_at f l q) (λ x t. got (g a b x) t)))
-        ≡ reached_of (resume (reached_of o) (read_at f l))
+    then : (o : Found B) (a : A) → reached (and_next o (λ b q. and_next (read_at f l q) (λ x t. got (g a b x) t))) ≡ pass f l (reached o)
     then (got b q) a = made (read_at f l q) (g a b)
     then (refused n q) a = refl
 
-    go : (o : Found A) → reached_of (and_next o (λ a p. and_next (read_at d l p) (λ b q. and_next (read_at f l q) (λ x t. got (g a b x) t))))
-        ≡ reached_of (resume (reached_of (resume (reached_of o) (read_at d l))) (read_at f l))
+    go : (o : Found A) → reached (and_next o (λ a p. and_next (read_at d l p) (λ b q. and_next (read_at f l q) (λ x t. got (g a b x) t))))
+        ≡ pass f l (pass d l (reached o))
     go (got a p) = then (read_at d l p) a
     go (refused n p) = refl
-pass-three e c d f g l (Refused n p) h = refl
+pass-three e c d f g l (Err x) h = refl
 
 -- a test that never refuses changes nothing
 pub pass-untested : {A : Type 0} (c : Codec A) (refuse into : A → ℕ) (l : List Bool) (r : Reached) → ((a : A) → refuse a ≡ 0)
     → pass (tested c refuse into) l r ≡ pass c l r
-unfolding pass resume
-pass-untested {A} c refuse into l (At p) h = ap reached_of (read_at-tested c refuse into l p.at) ∙ go (read_at c l p.at)
+unfolding pass
+pass-untested {A} c refuse into l (Ok p) h = ap reached (read_at-tested c refuse into l p.at) ∙ go (read_at c l p.at)
   where
-    go : (o : Found A) → reached_of (and_next o (λ a q. unless_at (refuse a) (p.at + into a) (got a q))) ≡ reached_of o
+    go : (o : Found A) → reached (and_next o (λ a q. unless_at (refuse a) (p.at + into a) (got a q))) ≡ reached o
     go (got a q) = rw (h a)
     go (refused n q) = refl
-pass-untested c refuse into l (Refused n p) h = refl
+pass-untested c refuse into l (Err x) h = refl
 
 -- what reads nothing passes nothing
 pub pass-nothing : {A : Type 0} (z : Codec A) (x : A) (l : List Bool) → ((at : ℕ) → read_at z l at ≡ got x at) → (r : Reached) → pass z l r ≡ r
-unfolding pass resume
-pass-nothing z x l none (At p) = ap reached_of (none p.at)
-pass-nothing z x l none (Refused n p) = refl
+unfolding pass
+pass-nothing z x l none (Ok p) = ap reached (none p.at)
+pass-nothing z x l none (Err e) = refl
 
 -- ---- places
 
@@ -125,6 +100,11 @@ pub steps_next : (f : Reached → Reached) (k : ℕ) (r : Reached) → 0 < k →
 unfolding steps
 steps_next f zero r h = absurd (omega arith)
 steps_next f (suc k) r h = let e : suc k - 1 ≡ k = omega arith in rw e
+
+pub steps-stay : (f : Reached → Reached) (k : ℕ) (e : Stop) → ((e : Stop) → Err e ≡ f (Err e)) → steps f k (Err e) ≡ Err e
+unfolding steps
+steps-stay f zero e h = refl
+steps-stay f (suc k) e h = ap (steps f k) (sym (h e)) ∙ steps-stay f k e h
 
 pub steps-none : (f : Reached → Reached) (k : ℕ) (r : Reached) → k ≡ 0 → steps f k r ≡ r
 unfolding steps

@@ -1,4 +1,5 @@
 -- Elements in a row: their numbers are those of one number, and they pass if each does. Assumes nothing.
+use Rattle.std.specs.Prelude.{Ok}
 use mathlib.Core.Path.{◌≡◌, refl, sym, ap, ap₂, ◌∙◌}
 use mathlib.Core.Bool.{Bool, true, ◌&&◌}
 use mathlib.Core.List.{List}
@@ -15,12 +16,10 @@ use Rattle.bits.proofs.Tests.{both, both⁻¹}
 use Rattle.bits.proofs.Lists.{length_part}
 use Rattle.bits.proofs.Numbers.{value_append, value-take-fits}
 use Rattle.codec.specs.Parts.{number, element}
-use Rattle.codec.specs.Reading.{Found, got, read_at, reached_of}
-use Rattle.codec.specs.declared.Reached.{Reached}
-use Rattle.codec.specs.declared.Reached.TheVariants.{At}
+use Rattle.codec.specs.Reading.{Found, got, read_at, reached}
 use Rattle.codec.proofs.Onward.{element-got}
 use Rattle.grammar.specs.SiteSheet.{digit_refusal, all_digits}
-use Rattle.walk.specs.Inner.{pass, steps, passing}
+use Rattle.walk.specs.Inner.{Reached, pass, steps, passing}
 use Rattle.walk.proofs.Numbers.{number-there, number-says}
 use Rattle.walk.proofs.Passes.{pass-at, steps-last}
 
@@ -71,27 +70,27 @@ module _ (refuse : ℕ → ℕ) (w : ℕ) where
   module _ (some : 1 ≤ w) (l : List Bool) (at : ℕ) where
     -- the elements of a number
     row : (k : ℕ) {v q : ℕ} → read_at (number (w * suc k)) l at ≡ got v q → passing refuse w (suc k) v ≡ true
-        → steps (pass (element w refuse) l) (suc k) (At (record { at = at })) ≡ At (record { at = q })
+        → steps (pass (element w refuse) l) (suc k) (Ok (record { at = at })) ≡ Ok (record { at = q })
     unfolding steps
     row zero {v} {q} e h =
         let one : w * 1 ≡ w = mul-one w in
         let f : read_at (number w) l at ≡ got v q = rw one at e in
         let small : v < 2 ^ w = rw (number-says w l at some f).1 (value-take-fits w w (drop at l) (omega arith)) in
         let z : v % 2 ^ w ≡ v = mod-eq_of_lt small in
-        pass-at (element w refuse) l at ∙ ap reached_of (element-got w refuse l at v q f (rw z at (last-legal 0 v h).0))
+        pass-at (element w refuse) l at ∙ ap reached (element-got w refuse l at v q f (rw z at (last-legal 0 v h).0))
     row (suc k) {v} {q} e h =
         let m : w * suc (suc k) ≡ w * suc k + w = mul-suc w (suc k) in
         let f : read_at (number (w * suc k + w)) l at ≡ got v q = rw m at e in
         let many : 1 ≤ w * suc k = omega (arith, mul-suc w k) in
         let parts = run_splits (w * suc k) w l at many some f in
         let legal = last-legal (suc k) v h in
-        steps-last (pass (element w refuse) l) (suc k) (At (record { at = at }))
+        steps-last (pass (element w refuse) l) (suc k) (Ok (record { at = at }))
         ∙ ap (pass (element w refuse) l) (row k parts.0 legal.1)
         ∙ pass-at (element w refuse) l (at + w * suc k)
-        ∙ ap reached_of (element-got w refuse l (at + w * suc k) (v % 2 ^ w) q parts.1 legal.0)
+        ∙ ap reached (element-got w refuse l (at + w * suc k) (v % 2 ^ w) q parts.1 legal.0)
 
     -- tested with more
     pub row-passes : (k m : ℕ) → 1 ≤ k → k ≤ m → {v q : ℕ} → read_at (number (w * k)) l at ≡ got v q → passing refuse w m v ≡ true
-        → steps (pass (element w refuse) l) k (At (record { at = at })) ≡ At (record { at = q })
+        → steps (pass (element w refuse) l) k (Ok (record { at = at })) ≡ Ok (record { at = q })
     row-passes zero m h few e t = absurd (omega arith)
     row-passes (suc k) m h few {v} e t = row k e (fewer (suc k) m v few t)

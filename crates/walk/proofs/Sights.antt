@@ -17,8 +17,7 @@ use Rattle.bits.proofs.Numbers.{value-take-fits}
 use Rattle.bits.proofs.Windows.{window-part}
 use Rattle.codec.specs.Parts.{absent, element}
 use Rattle.codec.specs.Places.{places}
-use Rattle.codec.specs.Reading.{got, read_at, reached_of}
-use Rattle.codec.specs.declared.Reached.{Reached}
+use Rattle.codec.specs.Reading.{got, read_at, reached}
 use Rattle.codec.proofs.Reading.{read_at-absent}
 use Rattle.grammar.specs.SiteSheet.{entries_of, range_refusal, digit_refusal, all_digits, length_refusal, between}
 use Rattle.grammar.specs.Grammar.{identity, no_identity, zero_identity, ends_refusal, identities, external, no_external}
@@ -30,7 +29,7 @@ use Rattle.grammar.specs.declared.site.ListKind.TheVariants as of
 use Rattle.grammar.proofs.Codes.{entries_of_le, single, not-single, above-nine, not-nine}
 use Rattle.grammar.proofs.Steps.{no_identity-at, no_external-at, identities-at, external-at, externals-at}
 use Rattle.grammar.proofs.Windows as window
-use Rattle.walk.specs.Inner.{pass, steps, range, coded, identity_in, Ends}
+use Rattle.walk.specs.Inner.{Reached, pass, steps, range, coded, identity_in, Ends}
 use Rattle.walk.proofs.Passes.{pass-at, pass-untested, pass-places, steps-count}
 use Rattle.walk.proofs.Ranges.{range-by-place}
 use Rattle.walk.proofs.Rows.{all-passing, steps_add}
@@ -66,7 +65,7 @@ identity-ends {s} {at} {b} is =
       there = λ n few h.
           let room = length-take n (bits s) in
           pass-at identity (bits_in n s) at
-          ∙ ap reached_of (identity_window s n at b (window-part s at 24 1 (omega arith) (omega (arith, length-bits s)) ∙ sym is) h);
+          ∙ ap reached (identity_window s n at b (window-part s at 24 1 (omega arith) (omega (arith, length-bits s)) ∙ sym is) h);
     }
 
 -- ---- a list of identities
@@ -84,7 +83,7 @@ range-ends {s} {at} {p} {a} {b} ea ep eb agree =
           let l : List Bool = bits_in n s in
           let first : read_at identity l at ≡ got a p = identity_window s n at a.present (sym pa) (omega arith) ∙ rw (ep, ea) in
           let second : read_at identity l p ≡ got b (p + 25 + 24 * b.present) = identity_window s n p b.present (sym pb) h ∙ rw eb in
-          pass-at range l at ∙ ap reached_of (range-by-place l at) ∙ rw (first, second, agree);
+          pass-at range l at ∙ ap reached (range-by-place l at) ∙ rw (first, second, agree);
     }
 
 -- single entries

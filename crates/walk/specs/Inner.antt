@@ -1,15 +1,15 @@
 -- What the walk's own functions say: where a part of a PDU leaves reading, and the answer where the last part ends.
-use Rattle.std.specs.Prelude.{◌≡◌, Bool, true, ◌&&◌, List, ℕ, zero, suc, ◌+◌, ◌-◌, ◌*◌, ◌/◌, ◌%◌, ◌^◌, ◌≤◌, length, ltb, eqb}
+use Rattle.std.specs.Prelude.{◌≡◌, Bool, true, ◌&&◌, List, ℕ, zero, suc, ◌+◌, ◌-◌, ◌*◌, ◌/◌, ◌%◌, ◌^◌, ◌≤◌, length, ltb, eqb, Some, Option, Result, Ok, Err}
 use Rattle.bits.specs.Bits.{pick}
 use Rattle.bits.specs.Frame.{bits_in}
 use Rattle.bits.specs.Element.{window_at}
+use Rattle.bits.specs.declared.Cursor.{Cursor}
 use Rattle.codec.specs.Codec.{Codec}
-use Rattle.codec.specs.Parts.{tested}
+use Rattle.codec.specs.Parts.{element, tested}
 use Rattle.codec.specs.Places.{places}
-use Rattle.codec.specs.Reading.{Found, got, and_next, read_at, resume, reached_of}
-use Rattle.codec.specs.declared.Reached.{Reached}
-use Rattle.codec.specs.declared.Reached.TheVariants as reached
-use Rattle.grammar.specs.SiteSheet.{entries_of, count_refusal, service_refusal, pdu_type, defined_part}
+use Rattle.codec.specs.Reading.{Found, got, and_next, read_at, reached}
+use Rattle.codec.specs.declared.Stop.{Stop}
+use Rattle.grammar.specs.SiteSheet.{entries_of, count_refusal, service_refusal, definition_refusal, pdu_type, defined_part}
 use Rattle.grammar.specs.Grammar.{identity, no_identity, zero_identity, range_ends, second_end, part_of, pdu}
 use Rattle.grammar.specs.Rows.{form_of, part_in, figures_of, users_of, services_of}
 use Rattle.grammar.specs.declared.site.PduType.{PduType}
@@ -17,13 +17,22 @@ use Rattle.grammar.specs.declared.record.Identity.{Identity}
 use Rattle.grammar.specs.declared.record.Figures.{Figures}
 use Rattle.walk.specs.Walk.{refusing}
 use Rattle.walk.specs.declared.Head.{Head}
-use Rattle.walk.specs.declared.BitPlace.TheVariants as place
-use Rattle.walk.specs.declared.Walked.{Walked}
-use Rattle.walk.specs.declared.Walked.TheVariants.{Accepted}
+use Rattle.walk.specs.declared.Refusal.{Refusal}
+use Rattle.walk.specs.declared.exact.Pdu.{Pdu}
+use Rattle.walk.specs.declared.exact.Steering.{Steering}
+
+-- a PDU's own bits
+abbrev pub bits_of : Pdu → List Bool
+bits_of pdu = bits_in pdu.length.0 pdu.bytes.now
+
+-- where reading stands: at a cursor, or stopped
+abbrev pub Reached : Type 0
+Reached = Result Cursor Stop
 
 -- the part c of the bits l, passed from where reading stands
 unfoldable pub pass : {A : Type 0} → Codec A → List Bool → Reached → Reached
-pass c l start = reached_of (resume start (read_at c l))
+pass c l (Ok at) = reached (read_at c l at.at)
+pass c l (Err e) = Err e
 
 -- so many passes
 unfoldable pub steps : (Reached → Reached) → ℕ → Reached → Reached
@@ -45,7 +54,7 @@ unfoldable pub identity_in : ℕ → Identity
 identity_in v = record { ssi = v / 2 ^ 33; present = v / 2 ^ 32 % 2; extension = pick (eqb (v / 2 ^ 32 % 2) 1) (v / 2 ^ 8 % 2 ^ 24) 0 }
 
 -- the type of the PDU
-abbrev pub type_in : List ℕ → PduType
+abbrev pub type_in : List ℕ → Option PduType
 type_in s = pdu_type (window_at s 0 / 2 ^ 46 % 2 ^ 5)
 
 unfoldable pub head_in : List ℕ → ℕ → Head
@@ -56,29 +65,33 @@ head_in s result = record {
   result = result;
 }
 
--- the answer where reading stands after the last element: 5 if bits are left
-unfoldable pub ended_is : List ℕ → ℕ → Reached → ℕ → Walked
-ended_is s n (reached.At c) result = pick (ltb c.at n) (refusing 5 (place.At c.at)) (Accepted (head_in s result))
-ended_is s n (reached.Refused k p) result = refusing k (place.At p)
+-- the answer where reading ends, with the interrogation result: 5 if bits are left
+unfoldable pub ended_is : List ℕ → ℕ → Result (ℕ × Cursor) Stop → Result Head Refusal
+ended_is s n (Ok (result, end)) = pick (ltb end.at n) (refusing 5 (Some end.at)) (Ok (head_in s result))
+ended_is s n (Err e) = refusing e.number (Some e.at)
 
 -- ---- the figures, and the interrogation result among them
 
--- figures read from where reading stands, and what they steer: the interrogation result, and the part whose lists follow
-unfoldable pub steered_from : PduType → List Bool → Reached → Found (ℕ × ℕ)
-steered_from t l start = resume start (λ at. and_next (read_at (figures_of t) l at) (λ f p. got (f.result, part_in t f) p))
+-- figures read at a place, and what they steer: the interrogation result, and the part whose lists follow
+unfoldable pub steered_from : Option PduType → List Bool → ℕ → Found Steering
+steered_from t l at = and_next (read_at (figures_of t) l at) (λ f p. got (record { result = f.result; part = part_in t f }) p)
 
--- the same for those of a definition of a part
-unfoldable pub defined_from : Codec Figures → ℕ → List Bool → Reached → Found (ℕ × ℕ)
-defined_from c part l start = resume start (λ at. and_next (read_at c l at) (λ f p. got (f.result, defined_part part f.definition) p))
+-- a definition type read at a place, and what it steers
+unfoldable pub defined_by : ℕ → List Bool → ℕ → Found Steering
+defined_by part l at = and_next (read_at (element 2 definition_refusal) l at) (λ d p. got (record { result = 0; part = defined_part part d }) p)
 
--- what follows the affected users, read from where reading stands, and the interrogation result in it
-unfoldable pub result_from : PduType → List Bool → Reached → Found ℕ
-result_from t l start = resume start (λ at. and_next (read_at (figures_of t) l at) (λ f p. and_next (read_at (services_of t) l p) (λ s q.
-    and_next (read_at (part_of (part_in t f)) l q) (λ lists end. got f.result end))))
+-- the same for the figures of a definition of a part
+unfoldable pub defined_from : Codec Figures → ℕ → List Bool → ℕ → Found Steering
+defined_from c part l at = and_next (read_at c l at) (λ f p. got (record { result = f.result; part = defined_part part f.definition }) p)
+
+-- what follows the affected users, read at a place, and the interrogation result in it
+unfoldable pub result_from : Option PduType → List Bool → ℕ → Found ℕ
+result_from t l at = and_next (read_at (figures_of t) l at) (λ f p. and_next (read_at (services_of t) l p) (λ s q.
+    and_next (read_at (part_of (part_in t f)) l q) (λ lists end. got f.result end)))
 
 -- the same from the affected users on, which begin at bit 11
-unfoldable pub result_behind : PduType → List Bool → Found ℕ
-result_behind t l = and_next (read_at (users_of t) l 11) (λ affected p. result_from t l (reached.At (record { at = p })))
+unfoldable pub result_behind : Option PduType → List Bool → Found ℕ
+result_behind t l = and_next (read_at (users_of t) l 11) (λ affected p. result_from t l p)
 
 -- the interrogation result of the PDU l
 unfoldable pub result_in : List Bool → Found ℕ
@@ -100,7 +113,7 @@ services_in v =
 pub record Ends (part : List Bool → Reached → Reached) (s : List ℕ) (at most end : ℕ) : Type 0 where
   pub after : at ≤ end
   pub near : end ≤ at + most
-  pub there : (n : ℕ) → n ≤ 4096 → end ≤ length (bits_in n s) → part (bits_in n s) (reached.At (record { at = at })) ≡ reached.At (record { at = end })
+  pub there : (n : ℕ) → n ≤ 4096 → end ≤ length (bits_in n s) → part (bits_in n s) (Ok (record { at = at })) ≡ Ok (record { at = end })
 
 -- the same where the interrogation result is found
 pub record Finds (found : List Bool → Found ℕ) (s : List ℕ) (at result end : ℕ) : Type 0 where

@@ -7,7 +7,6 @@ ghost use Rattle.grammar.specs.SiteSheet.{service_refusal};
 ghost use Rattle.grammar.specs.Grammar.{identity, identities, external, externals, part_of};
 ghost use Rattle.grammar.specs.Rows.{form_of, users_if};
 ghost use Rattle.grammar.specs.declared.site.ListKind.TheVariants as of;
-ghost use Rattle.codec.specs.declared.Reached.TheVariants as reached;
 ghost use Rattle.walk.specs.Inner.{pass, steps, range, coded, passing, services_in, result_from, result_behind, result_in, Ends, Finds};
 
 use bits::DigitCount;
@@ -24,10 +23,8 @@ fn mixed_ahead(s: &[u8], start: usize, count: u32) -> usize
     ensures { Ends (λ l. steps (pass identity l) count) s.now start 392 result }
 {
     let mut at = start;
-    let mut done = 0u32;
-    while done < count {
+    for _ in 0..count {
         at = at + 25 + 24 * bits::bit_at(s, at + 24);
-        done += 1;
     }
     at
 }
@@ -44,11 +41,9 @@ fn entries_ahead(s: &[u8], start: usize, count: u32) -> usize
     let width = 25 + 24 * present;
     let mut at = start + width;
     let mut other: usize = 0;
-    let mut done = 1u32;
-    while done < count {
+    for _ in 1..count {
         other += (bits::bit_at(s, at + 24) + present) % 2;
         at += width;
-        done += 1;
     }
     if other != 0 {
         return mixed_ahead(s, start, count);
@@ -129,10 +124,8 @@ fn mixed_numbers_ahead(s: &[u8], start: usize, count: u32) -> usize
     ensures { Ends (λ l. steps (pass external l) count) s.now start 32776 result }
 {
     let mut at = start;
-    let mut done = 0u32;
-    while done < count {
+    for _ in 0..count {
         at = external_ahead(s, at);
-        done += 1;
     }
     at
 }
@@ -147,14 +140,12 @@ fn numbers_ahead(s: &[u8], start: usize, count: u32) -> usize
     }
     let mut at = external_ahead(s, start);
     let width = at - start;
-    let mut done = 1u32;
-    while done < count {
+    for _ in 1..count {
         let end = at + width;
         if external_ahead(s, at) != end {
             return mixed_numbers_ahead(s, start, count);
         }
         at = end;
-        done += 1;
     }
     at
 }
@@ -195,7 +186,8 @@ fn part_ahead(s: &[u8], start: usize, part: u32) -> usize
     start
 }
 
-// The interrogation result, and where the PDU ends if all of it is there and legal.
+// The interrogation result, and where the PDU ends if all of it is there and legal. It is no Option: parts that are refused end beyond, so
+// that nothing is tested from part to part, and the one test of the end sees a refusal too.
 #[derive(Clone, Copy)]
 pub struct Ahead {
     pub result: u32,
@@ -253,9 +245,9 @@ fn users_ahead(s: &[u8], first: u64, users: bool) -> usize
 }
 
 // What follows the affected users: figures and services stand in one window.
-fn rest_ahead(s: &[u8], start: usize, kind: PduType, form: Form) -> Ahead
+fn rest_ahead(s: &[u8], start: usize, kind: Option<PduType>, form: Form) -> Ahead
     requires { (start ≤ 10000) × (form ≡ form_of kind) }
-    ensures { Finds (λ l. result_from kind l (reached.At (record { at = start }))) s.now start result.result result.end }
+    ensures { Finds (λ l. result_from kind l start) s.now start result.result result.end }
 {
     let window = bits::window(s, start);
     let f = figures::figures_in(kind, window);
@@ -281,7 +273,7 @@ fn rest_ahead(s: &[u8], start: usize, kind: PduType, form: Form) -> Ahead
 }
 
 // What follows SS type and PDU type.
-fn behind_type(s: &[u8], first: u64, kind: PduType) -> Ahead
+fn behind_type(s: &[u8], first: u64, kind: Option<PduType>) -> Ahead
     requires { first ≡ window_at s.now 0 }
     ensures { Finds (result_behind kind) s.now 11 result.result result.end }
 {
@@ -300,7 +292,7 @@ pub(crate) fn pdu_ahead(s: &[u8]) -> Ahead
     }
     let code = ((first >> 46u32) % 32) as u32;
     if code == 12 {
-        return behind_type(s, first, PduType::InterrogateAck);
+        return behind_type(s, first, Some(PduType::InterrogateAck));
     }
     if site::kind_refusal(code) != 0 {
         return beyond(0);

@@ -1,354 +1,314 @@
-// The exact walk, part by part: each function goes on from where reading stands, and gives the place after its part,
-// or the refusal number and place of the element at fault.
-ghost use Rattle.std.specs.Prelude.{◌≡◌};
-ghost use Rattle.bits.specs.Frame.{bits_in};
-ghost use Rattle.codec.specs.Parts.{element};
-ghost use Rattle.codec.specs.Reading.{resume, read_at};
-ghost use Rattle.codec.proofs.Onward.{placed};
+// The exact walk, element by element, left to right: each function goes on from a cursor and gives the one behind its part,
+// and the first refusal ends it, with its number and the bit place of the element at fault.
+ghost use Rattle.std.specs.Prelude.{◌≡◌, ◌≤◌, ℕ, Ok, Err, Some};
+ghost use Rattle.bits.specs.declared.Cursor.{Cursor};
+ghost use Rattle.codec.specs.Parts.{number, element};
+ghost use Rattle.codec.specs.Reading.{read_at, said, reached};
+ghost use Rattle.codec.specs.declared.Stop.{Stop};
 ghost use Rattle.grammar.specs.SiteSheet.{digit_refusal, service_refusal, between, reserved};
 ghost use Rattle.grammar.specs.Grammar.{identity, identities, external, externals, services, part_of, definition, user_definition};
 ghost use Rattle.grammar.specs.Rows.{users_if, services_if};
 ghost use Rattle.grammar.specs.declared.site.PduType.TheVariants as type;
-ghost use Rattle.walk.specs.Inner.{pass, steps, range, defined_from, steered_from, result_in};
+ghost use Rattle.walk.specs.Inner.{Reached, bits_of, pass, steps, range, defined_by, defined_from, steered_from, result_in};
 
 use bits::{BitCount, Cursor};
-use codec::{NumberRead, Reached};
+use codec::Stop;
 use grammar::record::Identity;
 use grammar::site::{ListKind, PduType};
 use grammar::{figures, site};
 
-// An identity, and where reading then stands; it says nothing beside a refusal.
+// A PDU: the bytes that hold it, and its length.
 #[derive(Clone, Copy)]
-pub struct IdentityRead {
-    pub reached: Reached,
-    pub value: Identity,
+pub(crate) struct Pdu<'a> {
+    pub(crate) bytes: &'a [u8],
+    pub(crate) length: BitCount,
 }
 
-fn identity_of(s: &[u8], n: BitCount, start: Reached) -> IdentityRead
-    ensures { resume start (read_at identity (bits_in n.0 s.now)) ≡ placed result.reached result.value }
-{
-    let ssi = codec::number(s, n, start, 24);
-    let after_ssi = ssi.reached;
-    let present = codec::number(s, n, after_ssi, 1);
-    let after_present = present.reached;
-    if present.value == 1 {
-        let extension = codec::number(s, n, after_present, 24);
-        let end = extension.reached;
-        return IdentityRead {
-            reached: end,
-            value: Identity {
-                ssi: ssi.value,
-                present: 1,
-                extension: extension.value,
-            },
-        };
-    }
-    IdentityRead {
-        reached: after_present,
-        value: Identity {
-            ssi: ssi.value,
-            present: present.value,
-            extension: 0,
-        },
-    }
-}
-
-// So many single entries.
-fn pass_entries(s: &[u8], n: BitCount, start: Reached, count: u32) -> Reached
-    ensures { result ≡ steps (pass identity (bits_in n.0 s.now)) count start }
-{
-    let mut at = start;
-    let mut left = count;
-    while 0 < left {
-        let entry = identity_of(s, n, at);
-        at = entry.reached;
-        left -= 1;
-    }
-    at
-}
-
-// The two ends of a range; 4, at the second, if they disagree or are reversed.
-fn pass_range(s: &[u8], n: BitCount, start: Reached) -> Reached
-    ensures { result ≡ pass range (bits_in n.0 s.now) start }
-{
-    let first = identity_of(s, n, start);
-    let second = first.reached;
-    let last = identity_of(s, n, second);
-    let end = last.reached;
-    let a = first.value;
-    let b = last.value;
-    let both = NumberRead {
-        reached: end,
-        value: 0,
-    };
-    let ends = codec::tested(second, both, site::ends_refusal(a, b));
-    ends.reached
-}
-
-// A range type and its identities, by the kind of list.
-fn pass_identities(s: &[u8], n: BitCount, start: Reached, list: ListKind) -> Reached
-    ensures { result ≡ pass (identities list) (bits_in n.0 s.now) start }
-{
-    let read = codec::number(s, n, start, 4);
-    let code = codec::tested(start, read, site::range_refusal(list, read.value));
-    let after = code.reached;
-    if code.value == 9 {
-        return pass_range(s, n, after);
-    }
-    let row = site::row_of(code.value);
-    pass_entries(s, n, after, row.entries)
-}
-
-fn service_list(s: &[u8], n: BitCount, start: Reached, count: u32) -> Reached
-    ensures { result ≡ steps (pass (element 3 service_refusal) (bits_in n.0 s.now)) count start }
-{
-    let mut at = start;
-    let mut left = count;
-    while 0 < left {
-        let read = codec::number(s, n, at, 3);
-        let service = codec::tested(at, read, site::service_refusal(read.value));
-        at = service.reached;
-        left -= 1;
-    }
-    at
-}
-
-// The number of services and the services.
-fn pass_services(s: &[u8], n: BitCount, start: Reached) -> Reached
-    ensures { result ≡ pass services (bits_in n.0 s.now) start }
-{
-    let read = codec::number(s, n, start, 3);
-    let count = codec::tested(start, read, site::between_refusal(1, 7, read.value));
-    let after = count.reached;
-    service_list(s, n, after, count.value)
-}
-
-fn digit_list(s: &[u8], n: BitCount, start: Reached, count: u32) -> Reached
-    ensures { result ≡ steps (pass (element 4 digit_refusal) (bits_in n.0 s.now)) count start }
-{
-    let mut at = start;
-    let mut left = count;
-    while 0 < left {
-        let read = codec::number(s, n, at, 4);
-        let digit = codec::tested(at, read, site::digit_refusal(read.value));
-        at = digit.reached;
-        left -= 1;
-    }
-    at
-}
-
-// An external number: its length and its digits.
-fn pass_external(s: &[u8], n: BitCount, start: Reached) -> Reached
-    ensures { result ≡ pass external (bits_in n.0 s.now) start }
-{
-    let read = codec::number(s, n, start, 5);
-    let length = codec::tested(start, read, site::between_refusal(1, 24, read.value));
-    let after = length.reached;
-    digit_list(s, n, after, length.value)
-}
-
-fn number_list(s: &[u8], n: BitCount, start: Reached, count: u32) -> Reached
-    ensures { result ≡ steps (pass external (bits_in n.0 s.now)) count start }
-{
-    let mut at = start;
-    let mut left = count;
-    while 0 < left {
-        at = pass_external(s, n, at);
-        left -= 1;
-    }
-    at
-}
-
-// A range type and its external numbers.
-fn pass_externals(s: &[u8], n: BitCount, start: Reached) -> Reached
-    ensures { result ≡ pass externals (bits_in n.0 s.now) start }
-{
-    let read = codec::number(s, n, start, 4);
-    let code = codec::tested(
-        start,
-        read,
-        site::range_refusal(ListKind::Numbers, read.value),
-    );
-    let after = code.reached;
-    let row = site::row_of(code.value);
-    number_list(s, n, after, row.entries)
-}
-
-// The lists of a part.
-fn pass_part(s: &[u8], n: BitCount, start: Reached, part: u32) -> Reached
-    ensures { result ≡ pass (part_of part) (bits_in n.0 s.now) start }
-{
-    if part == 1 {
-        let groups = pass_identities(s, n, start, ListKind::Identities);
-        let restricted = pass_identities(s, n, groups, ListKind::Identities);
-        return pass_identities(s, n, restricted, ListKind::Identities);
-    }
-    if part == 2 {
-        let groups = pass_identities(s, n, start, ListKind::Identities);
-        let numbers = pass_externals(s, n, groups);
-        return pass_externals(s, n, numbers);
-    }
-    start
-}
-
-// The affected users, where the PDU has them.
-fn pass_users(s: &[u8], n: BitCount, start: Reached, users: bool) -> Reached
-    ensures { result ≡ pass (users_if users) (bits_in n.0 s.now) start }
-{
-    if users {
-        return pass_identities(s, n, start, ListKind::Users);
-    }
-    start
-}
-
-// Services, where the PDU has them.
-fn pass_served(s: &[u8], n: BitCount, start: Reached, served: bool) -> Reached
-    ensures { result ≡ pass (services_if served) (bits_in n.0 s.now) start }
-{
-    if served {
-        return pass_services(s, n, start);
-    }
-    start
-}
-
-// Where reading stands after the figures, and what they steer; it says nothing beside a refusal.
+// What figures steer: the interrogation result, and the part whose lists follow; 0 for none.
 #[derive(Clone, Copy)]
-pub struct Steered {
-    pub reached: Reached,
+pub struct Steering {
     pub result: u32,
     pub part: u32,
 }
 
-// Figures that steer nothing.
-fn unsteered(reached: Reached) -> Steered
-    ensures { result ≡ record { reached = reached; result = 0; part = 0 } }
+const NOTHING: Steering = Steering { result: 0, part: 0 };
+
+// So many parts, one behind the other.
+fn repeated<F: Fn(Cursor) -> Result<Cursor, Stop>>(
+    start: Cursor,
+    count: u32,
+    part: F,
+) -> Result<Cursor, Stop>
+    requires { F.IsAlwaysCallable part }
+    ensures { (step : Reached → Reached) → ((at : Cursor) (r : Reached) → F.post part at r → r ≡ step (Ok at))
+        → ((e : Stop) → Err e ≡ step (Err e)) → result ≡ steps step count (Ok start) }
 {
-    Steered {
-        reached,
-        result: 0,
-        part: 0,
+    let mut at = start;
+    for _ in 0..count {
+        at = part(at)?;
     }
+    Ok(at)
 }
 
-// Delivery, acknowledgement and definition type, by which the lists of a part follow or not.
-fn pass_definition(s: &[u8], n: BitCount, start: Reached, part: u32) -> Steered
-    ensures { defined_from definition part (bits_in n.0 s.now) start ≡ placed result.reached (result.result, result.part) }
-{
-    let delivery = codec::number(s, n, start, 1);
-    let after_delivery = delivery.reached;
-    let read = codec::number(s, n, after_delivery, 1);
-    let acknowledgement = codec::tested(
-        after_delivery,
-        read,
-        site::between_refusal(0, delivery.value, read.value),
-    );
-    let after_acknowledgement = acknowledgement.reached;
-    let type_read = codec::number(s, n, after_acknowledgement, 2);
-    let definition = codec::tested(
-        after_acknowledgement,
-        type_read,
-        site::between_refusal(0, 2, type_read.value),
-    );
-    let end = definition.reached;
-    Steered {
-        reached: end,
-        result: 0,
-        part: site::defined_part(part, definition.value),
+impl<'a> Pdu<'a> {
+    // The number of `width` bits.
+    fn number(self, at: Cursor, width: usize) -> Result<(u32, Cursor), Stop>
+        requires { (1 ≤ width) × (width ≤ 32) }
+        ensures { result ≡ said (read_at (number width) (bits_of self.entry) at.at) }
+    {
+        codec::number(self.bytes, self.length, at, width)
     }
-}
 
-// The same without delivery.
-fn pass_user_definition(s: &[u8], n: BitCount, start: Reached, part: u32) -> Steered
-    ensures { defined_from user_definition part (bits_in n.0 s.now) start ≡ placed result.reached (result.result, result.part) }
-{
-    let acknowledgement = codec::number(s, n, start, 1);
-    let after_acknowledgement = acknowledgement.reached;
-    let read = codec::number(s, n, after_acknowledgement, 2);
-    let definition = codec::tested(
-        after_acknowledgement,
-        read,
-        site::between_refusal(0, 2, read.value),
-    );
-    let end = definition.reached;
-    Steered {
-        reached: end,
-        result: 0,
-        part: site::defined_part(part, definition.value),
+    // The same under a test: refused where it begins, unless that is 0.
+    fn element<F: Fn(u32) -> u32>(
+        self,
+        at: Cursor,
+        width: usize,
+        refusal: F,
+    ) -> Result<(u32, Cursor), Stop>
+        requires callable { F.IsAlwaysCallable refusal }
+        requires wide { (1 ≤ width) × (width ≤ 32) }
+        ensures { (refuse : ℕ → ℕ) → ((v k : ℕ) → F.post refusal v k → k ≡ refuse v)
+            → result ≡ said (read_at (element width refuse) (bits_of self.entry) at.at) }
+    {
+        let (value, next) = self.number(at, width)?;
+        codec::tested(at, refusal(value))?;
+        Ok((value, next))
     }
-}
 
-// Interrogation result and delivery status.
-fn pass_answer(s: &[u8], n: BitCount, start: Reached) -> Steered
-    ensures { steered_from type.InterrogateAck (bits_in n.0 s.now) start ≡ placed result.reached (result.result, result.part) }
-{
-    let read = codec::number(s, n, start, 3);
-    let result = codec::tested(start, read, site::reserved_refusal(5, 5, read.value));
-    let after_result = result.reached;
-    let status = codec::number(s, n, after_result, 2);
-    let end = status.reached;
-    Steered {
-        reached: end,
-        result: result.value,
-        part: result.value,
+    fn identity_of(self, at: Cursor) -> Result<(Identity, Cursor), Stop>
+        ensures { result ≡ said (read_at identity (bits_of self.entry) at.at) }
+    {
+        let (ssi, at_present) = self.number(at, 24)?;
+        let (present, behind) = self.number(at_present, 1)?;
+        if present == 1 {
+            let (extension, end) = self.number(behind, 24)?;
+            return Ok((
+                Identity {
+                    ssi,
+                    present: 1,
+                    extension,
+                },
+                end,
+            ));
+        }
+        Ok((
+            Identity {
+                ssi,
+                present,
+                extension: 0,
+            },
+            behind,
+        ))
     }
-}
 
-// A definition or distribution result: three bits, from low to 5 reserved.
-fn pass_outcome(s: &[u8], n: BitCount, start: Reached, low: u32) -> Reached
-    ensures { result ≡ pass (element 3 (reserved low 5)) (bits_in n.0 s.now) start }
-{
-    let read = codec::number(s, n, start, 3);
-    let outcome = codec::tested(start, read, site::reserved_refusal(low, 5, read.value));
-    outcome.reached
-}
-
-// An interrogation type or a rejection cause: two bits, from low to high.
-fn pass_choice(s: &[u8], n: BitCount, start: Reached, low: u32, high: u32) -> Reached
-    ensures { result ≡ pass (element 2 (between low high)) (bits_in n.0 s.now) start }
-{
-    let read = codec::number(s, n, start, 2);
-    let choice = codec::tested(start, read, site::between_refusal(low, high, read.value));
-    choice.reached
-}
-
-// The figures of a PDU of a type.
-fn pass_figures(s: &[u8], n: BitCount, start: Reached, kind: PduType) -> Steered
-    ensures { steered_from kind (bits_in n.0 s.now) start ≡ placed result.reached (result.result, result.part) }
-{
-    match kind {
-        PduType::Define => pass_definition(s, n, start, 1),
-        PduType::DefineAck => unsteered(pass_outcome(s, n, start, 5)),
-        PduType::DefineExternal => pass_definition(s, n, start, 2),
-        PduType::DefineUser => pass_user_definition(s, n, start, 1),
-        PduType::DefineUserAck => unsteered(pass_outcome(s, n, start, 2)),
-        PduType::DefineExternalUser => pass_user_definition(s, n, start, 1),
-        PduType::Interrogate => unsteered(pass_choice(s, n, start, 1, 3)),
-        PduType::InterrogateAck => pass_answer(s, n, start),
-        PduType::CallBarred => unsteered(pass_choice(s, n, start, 0, 2)),
-        PduType::NoPduType => unsteered(start),
+    // The two ends of a range; 4, at the second, if they disagree or are reversed.
+    fn pass_range(self, at: Cursor) -> Result<Cursor, Stop>
+        ensures { result ≡ reached (read_at range (bits_of self.entry) at.at) }
+    {
+        let (first, second) = self.identity_of(at)?;
+        let (last, end) = self.identity_of(second)?;
+        codec::tested(second, site::ends_refusal(first, last))?;
+        Ok(end)
     }
-}
 
-// The whole of a PDU, and its interrogation result, 0 where it has none.
-pub(crate) fn pass_pdu(s: &[u8], n: BitCount) -> NumberRead
-    ensures { result_in (bits_in n.0 s.now) ≡ placed result.reached result.value }
-{
-    let start = Reached::At(Cursor { at: 0 });
-    let ss_read = codec::number(s, n, start, 6);
-    let ss_type = codec::tested(start, ss_read, site::ss_refusal(ss_read.value));
-    let after_ss = ss_type.reached;
-    let kind_read = codec::number(s, n, after_ss, 5);
-    let code = codec::tested(after_ss, kind_read, site::kind_refusal(kind_read.value));
-    let after_kind = code.reached;
-    let kind = site::pdu_type(code.value);
-    let form = figures::form_of(kind);
-    let users = pass_users(s, n, after_kind, form.users);
-    let steered = pass_figures(s, n, users, kind);
-    let after_figures = steered.reached;
-    let lists = pass_served(s, n, after_figures, form.services);
-    let end = pass_part(s, n, lists, steered.part);
-    NumberRead {
-        reached: end,
-        value: steered.result,
+    // A range type and its identities, by the kind of list.
+    fn pass_identities(self, at: Cursor, list: ListKind) -> Result<Cursor, Stop>
+        ensures { result ≡ reached (read_at (identities list) (bits_of self.entry) at.at) }
+    {
+        let (code, entries) = self.element(at, 4, |code| site::range_refusal(list, code))?;
+        if code == 9 {
+            return self.pass_range(entries);
+        }
+        repeated(
+            entries,
+            site::row_of(code).entries,
+            |at| self.pass_identity(at),
+        )
+    }
+
+    fn pass_identity(self, at: Cursor) -> Result<Cursor, Stop>
+        ensures { result ≡ reached (read_at identity (bits_of self.entry) at.at) }
+    {
+        let (_, next) = self.identity_of(at)?;
+        Ok(next)
+    }
+
+    // The number of services and the services.
+    fn pass_services(self, at: Cursor) -> Result<Cursor, Stop>
+        ensures { result ≡ reached (read_at services (bits_of self.entry) at.at) }
+    {
+        let (count, list) = self.element(at, 3, |count| site::between_refusal(1, 7, count))?;
+        repeated(list, count, |at| self.pass_service(at))
+    }
+
+    fn pass_service(self, at: Cursor) -> Result<Cursor, Stop>
+        ensures { result ≡ reached (read_at (element 3 service_refusal) (bits_of self.entry) at.at) }
+    {
+        let (_, next) = self.element(at, 3, site::service_refusal)?;
+        Ok(next)
+    }
+
+    // An external number: its length and its digits.
+    fn pass_external(self, at: Cursor) -> Result<Cursor, Stop>
+        ensures { result ≡ reached (read_at external (bits_of self.entry) at.at) }
+    {
+        let (count, digits) = self.element(at, 5, |count| site::between_refusal(1, 24, count))?;
+        repeated(digits, count, |at| self.pass_digit(at))
+    }
+
+    fn pass_digit(self, at: Cursor) -> Result<Cursor, Stop>
+        ensures { result ≡ reached (read_at (element 4 digit_refusal) (bits_of self.entry) at.at) }
+    {
+        let (_, next) = self.element(at, 4, site::digit_refusal)?;
+        Ok(next)
+    }
+
+    // A range type and its external numbers.
+    fn pass_externals(self, at: Cursor) -> Result<Cursor, Stop>
+        ensures { result ≡ reached (read_at externals (bits_of self.entry) at.at) }
+    {
+        let (code, numbers) = self.element(at, 4, |code| {
+            site::range_refusal(ListKind::Numbers, code)
+        })?;
+        repeated(
+            numbers,
+            site::row_of(code).entries,
+            |at| self.pass_external(at),
+        )
+    }
+
+    // The lists of a part.
+    fn pass_part(self, at: Cursor, part: u32) -> Result<Cursor, Stop>
+        ensures { result ≡ reached (read_at (part_of part) (bits_of self.entry) at.at) }
+    {
+        if part == 1 {
+            let restricted = self.pass_identities(at, ListKind::Identities)?;
+            let exempted = self.pass_identities(restricted, ListKind::Identities)?;
+            return self.pass_identities(exempted, ListKind::Identities);
+        }
+        if part == 2 {
+            let restricted = self.pass_identities(at, ListKind::Identities)?;
+            let exempted = self.pass_externals(restricted)?;
+            return self.pass_externals(exempted);
+        }
+        Ok(at)
+    }
+
+    // The affected users, where the PDU has them.
+    fn pass_users(self, at: Cursor, users: bool) -> Result<Cursor, Stop>
+        ensures { result ≡ reached (read_at (users_if users) (bits_of self.entry) at.at) }
+    {
+        if users {
+            return self.pass_identities(at, ListKind::Users);
+        }
+        Ok(at)
+    }
+
+    // Services, where the PDU has them.
+    fn pass_served(self, at: Cursor, served: bool) -> Result<Cursor, Stop>
+        ensures { result ≡ reached (read_at (services_if served) (bits_of self.entry) at.at) }
+    {
+        if served {
+            return self.pass_services(at);
+        }
+        Ok(at)
+    }
+
+    // A definition type, by which the lists of a part follow or not.
+    fn pass_defined(self, at: Cursor, part: u32) -> Result<(Steering, Cursor), Stop>
+        ensures { result ≡ said (defined_by part (bits_of self.entry) at.at) }
+    {
+        let (definition, end) = self.element(at, 2, |definition| {
+            site::between_refusal(0, 2, definition)
+        })?;
+        let steering = Steering {
+            result: 0,
+            part: site::defined_part(part, definition),
+        };
+        Ok((steering, end))
+    }
+
+    // Delivery, acknowledgement and definition type.
+    fn pass_definition(self, at: Cursor, part: u32) -> Result<(Steering, Cursor), Stop>
+        ensures { result ≡ said (defined_from definition part (bits_of self.entry) at.at) }
+    {
+        let (delivery, asked) = self.number(at, 1)?;
+        let (_, kind) = self.element(asked, 1, |acknowledgement| {
+            site::between_refusal(0, delivery, acknowledgement)
+        })?;
+        self.pass_defined(kind, part)
+    }
+
+    // The same without delivery.
+    fn pass_user_definition(self, at: Cursor, part: u32) -> Result<(Steering, Cursor), Stop>
+        ensures { result ≡ said (defined_from user_definition part (bits_of self.entry) at.at) }
+    {
+        let (_, kind) = self.number(at, 1)?;
+        self.pass_defined(kind, part)
+    }
+
+    // Interrogation result and delivery status.
+    fn pass_answer(self, at: Cursor) -> Result<(Steering, Cursor), Stop>
+        ensures { result ≡ said (steered_from (Some type.InterrogateAck) (bits_of self.entry) at.at) }
+    {
+        let (answer, status) = self.element(at, 3, |answer| site::reserved_refusal(5, 5, answer))?;
+        let (_, end) = self.number(status, 2)?;
+        let steering = Steering {
+            result: answer,
+            part: answer,
+        };
+        Ok((steering, end))
+    }
+
+    // A definition or distribution result: three bits, from low to 5 reserved.
+    fn pass_outcome(self, at: Cursor, low: u32) -> Result<Cursor, Stop>
+        ensures { result ≡ reached (read_at (element 3 (reserved low 5)) (bits_of self.entry) at.at) }
+    {
+        let (_, next) = self.element(at, 3, |outcome| site::reserved_refusal(low, 5, outcome))?;
+        Ok(next)
+    }
+
+    // An interrogation type or a rejection cause: two bits, from low to high.
+    fn pass_choice(self, at: Cursor, low: u32, high: u32) -> Result<Cursor, Stop>
+        ensures { result ≡ reached (read_at (element 2 (between low high)) (bits_of self.entry) at.at) }
+    {
+        let (_, next) = self.element(at, 2, |choice| site::between_refusal(low, high, choice))?;
+        Ok(next)
+    }
+
+    // The figures of a PDU of a type.
+    fn pass_figures(self, at: Cursor, kind: Option<PduType>) -> Result<(Steering, Cursor), Stop>
+        ensures { result ≡ said (steered_from kind (bits_of self.entry) at.at) }
+    {
+        let Some(kind) = kind else {
+            return Ok((NOTHING, at));
+        };
+        match kind {
+            PduType::Define => self.pass_definition(at, 1),
+            PduType::DefineAck => Ok((NOTHING, self.pass_outcome(at, 5)?)),
+            PduType::DefineExternal => self.pass_definition(at, 2),
+            PduType::DefineUser => self.pass_user_definition(at, 1),
+            PduType::DefineUserAck => Ok((NOTHING, self.pass_outcome(at, 2)?)),
+            PduType::DefineExternalUser => self.pass_user_definition(at, 1),
+            PduType::Interrogate => Ok((NOTHING, self.pass_choice(at, 1, 3)?)),
+            PduType::InterrogateAck => self.pass_answer(at),
+            PduType::CallBarred => Ok((NOTHING, self.pass_choice(at, 0, 2)?)),
+        }
+    }
+
+    // The whole of the PDU, and its interrogation result, 0 where it has none.
+    pub(crate) fn pass_pdu(self) -> Result<(u32, Cursor), Stop>
+        ensures { result ≡ said (result_in (bits_of self.entry)) }
+    {
+        let (_, at_kind) = self.element(Cursor { at: 0 }, 6, site::ss_refusal)?;
+        let (code, at_users) = self.element(at_kind, 5, site::kind_refusal)?;
+        let kind = site::pdu_type(code);
+        let form = figures::form_of(kind);
+        let at_figures = self.pass_users(at_users, form.users)?;
+        let (steering, at_services) = self.pass_figures(at_figures, kind)?;
+        let at_lists = self.pass_served(at_services, form.services)?;
+        let end = self.pass_part(at_lists, steering.part)?;
+        Ok((steering.result, end))
     }
 }

@@ -8,25 +8,19 @@ ghost use Rattle.walk.specs.Walk.{walk_is};
 ghost use Rattle.walk.specs.Inner.{identity_in, head_in, ended_is, result_in, Finds};
 
 use ahead::Ahead;
-use bits::BitCount;
-use codec::Reached;
+use bits::{BitCount, Cursor};
+use codec::Stop;
 use grammar::record::Identity;
 use grammar::{figures, site};
 
 mod ahead;
 mod exact;
 
-// Where in a PDU a refusal stands.
-#[derive(Clone, Copy)]
-pub enum BitPlace {
-    At(usize),
-    Nowhere,
-}
-
+// A refusal's number, and the bit place in the PDU where it stands, if it has one.
 #[derive(Clone, Copy)]
 pub struct Refusal {
     pub number: u32,
-    pub place: BitPlace,
+    pub place: Option<usize>,
 }
 
 // What steers the reading of a PDU: PDU type, range type of the affected users, the first of them, interrogation result; zero where it has none.
@@ -38,20 +32,14 @@ pub struct Head {
     pub result: u32,
 }
 
-#[derive(Clone, Copy)]
-pub enum Walked {
-    Accepted(Head),
-    Refused(Refusal),
-}
-
 // Walks the PDU of n bits in s: refusal 1 first, then element by element, 5 last.
-pub fn walk(s: &[u8], n: BitCount) -> Walked
+pub fn walk(s: &[u8], n: BitCount) -> Result<Head, Refusal>
     ensures { result ≡ walk_is s.now n.0 }
 {
     if !bits::is_framed(s, n) {
-        return Walked::Refused(Refusal {
+        return Err(Refusal {
             number: 1,
-            place: BitPlace::Nowhere,
+            place: None,
         });
     }
     if s.len() < 8 {
@@ -61,43 +49,45 @@ pub fn walk(s: &[u8], n: BitCount) -> Walked
 }
 
 // The head, where the walk ahead ends with the PDU; or the exact walk's answer.
-fn sighted(s: &[u8], n: BitCount, seen: Ahead) -> Walked
+fn sighted(s: &[u8], n: BitCount, seen: Ahead) -> Result<Head, Refusal>
     requires { (framed s.now n.0 ≡ true) × Finds result_in s.now 0 seen.result seen.end }
     ensures { result ≡ walk_is s.now n.0 }
 {
     if seen.end == n.0 {
-        return Walked::Accepted(head_in(s, seen.result));
+        return Ok(head_in(s, seen.result));
     }
     exactly(s, n)
 }
 
 // The exact walk's answer.
-fn exactly(s: &[u8], n: BitCount) -> Walked
+fn exactly(s: &[u8], n: BitCount) -> Result<Head, Refusal>
     requires { framed s.now n.0 ≡ true }
     ensures { result ≡ walk_is s.now n.0 }
 {
-    let read = exact::pass_pdu(s, n);
-    let end = read.reached;
-    ended(s, n, end, read.value)
+    let pdu = exact::Pdu {
+        bytes: s,
+        length: n,
+    };
+    ended(s, n, pdu.pass_pdu())
 }
 
-// The answer where reading stands after the last element: 5 if bits are left.
-fn ended(s: &[u8], n: BitCount, end: Reached, res: u32) -> Walked
-    ensures { result ≡ ended_is s.now n.0 end res }
+// The answer where reading ends: 5 if bits are left.
+fn ended(s: &[u8], n: BitCount, read: Result<(u32, Cursor), Stop>) -> Result<Head, Refusal>
+    ensures { result ≡ ended_is s.now n.0 read }
 {
-    match end {
-        Reached::Refused(number, at) => Walked::Refused(Refusal {
-            number,
-            place: BitPlace::At(at),
+    match read {
+        Err(stop) => Err(Refusal {
+            number: stop.number,
+            place: Some(stop.at),
         }),
-        Reached::At(c) => {
-            if c.at < n.0 {
-                return Walked::Refused(Refusal {
+        Ok((res, end)) => {
+            if end.at < n.0 {
+                return Err(Refusal {
                     number: 5,
-                    place: BitPlace::At(c.at),
+                    place: Some(end.at),
                 });
             }
-            Walked::Accepted(head_in(s, res))
+            Ok(head_in(s, res))
         }
     }
 }

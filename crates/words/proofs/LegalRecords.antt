@@ -3,6 +3,7 @@ use mathlib.Core.Path.{◌≡◌, subst}
 use mathlib.Core.Bool.{Bool, true, false}
 use mathlib.Core.List.{List, [], ◌∷◌}
 use Prim.Native.Nat.{ℕ, zero, suc, ◌<◌}
+use Rattle.std.specs.Prelude.{Option}
 use native.Mathlib.Omega.{arith}
 use lib.ListN.{length}
 use lib.Dec.{eqb}
@@ -156,7 +157,7 @@ all-services-sized true s h = services-sized s h
 all-services-sized false s h = no_services-sized s h
 
 -- by its row
-row_small : (t : PduType) (q : Rest) → Legal (rowed t) q → SmallRest q
+row_small : (t : Option PduType) (q : Rest) → Legal (rowed t) q → SmallRest q
 row_small t q h =
     let u = legal-seq _ _ _ h in
     let s = legal-seq _ _ _ (legal-seq _ _ _ u.1).1 in

@@ -2,10 +2,11 @@
 use mathlib.Core.Path.{◌≡◌, refl, sym, ap, ◌∙◌}
 use mathlib.Core.List.{List, [], ◌∷◌, ◌++◌, append_assoc, append-nil}
 use Prim.Native.Nat.{ℕ, ◌+◌, ◌*◌, ◌≤◌, ◌<◌}
+use native.Mathlib.Nat.{mul-le-mul_left}
 use native.Mathlib.Omega.{arith}
 use native.Mathlib.Numerals.{add-one}
-use lib.ListN.{length, get_or, take, set, drop_of_length-le}
-use lib.Seq.{take_all, take-suc}
+use lib.ListN.{length, get_or, take, drop, set, drop_of_length-le}
+use lib.Seq.{take_all, take-suc, drop-drop}
 use Rattle.bits.proofs.Laying as laying
 use Rattle.words.specs.RecordWords.{in_turn}
 use Rattle.words.specs.Inner.{Put}
@@ -13,6 +14,20 @@ use Rattle.words.specs.Inner.{Put}
 -- one word
 pub word-put : (out : List ℕ) (at x : ℕ) → at < length out → Put out at (x ∷ []) 1 (set out at x) (at + 1)
 word-put out at x h = record { laid = laying.one out at x h; ends = refl }
+
+-- words copied into a part, which has k places
+pub part-put : (out s part : List ℕ) (at k n : ℕ) → part ≡ s → length s ≡ n → k ≡ n
+    → Put out at s n (take at out ++ (part ++ drop k (drop at out))) (at + n)
+part-put out s part at k n copied long room =
+    let end : at + k ≡ at + length s = omega arith in
+    record {
+      laid = record {
+        ends = omega arith;
+        same = ap (λ (t : List ℕ). take at out ++ (t ++ drop k (drop at out))) copied
+            ∙ ap (λ (t : List ℕ). take at out ++ (s ++ t)) (drop-drop k at out ∙ ap (λ (j : ℕ). drop j out) end);
+      };
+      ends = refl;
+    }
 
 -- one part after the other
 pub then : {out out' out'' s t : List ℕ} {at m end j k : ℕ} → at ≤ length out → Put out at s j out' m → Put out' m t k out'' end
@@ -44,6 +59,10 @@ pub record Turned {A : Type 0} (f : A → List ℕ) (xs : List A) (n count : ℕ
   pub within : i ≤ count
   pub put : Put out at (in_turn f (take i xs)) (n * i) out' next
   pub long : length out' ≡ length out
+
+-- so many have room, so one more of fewer has
+pub room_more : (at n i count room : ℕ) → i < count → at + n * count ≤ room → at + n * i + n ≤ room
+room_more at n i count room h k = omega (arith, mul-le-mul_left n h)
 
 module _ {A : Type 0} {f : A → List ℕ} {xs : List A} {n count : ℕ} {out : List ℕ} {at : ℕ} where
   pub turned_none : Turned f xs n count out at 0 out at

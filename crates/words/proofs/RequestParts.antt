@@ -7,13 +7,13 @@ use native.Mathlib.Omega.{arith}
 use borrow.Author.Tests.{eqb-true}
 use lib.ListN.{length}
 use lib.Dec.{eqb}
+use Rattle.std.proofs.Common.{Option, Some, None}
 use Rattle.bits.specs.Bits.{pick}
 use Rattle.bits.proofs.Tests.{both}
 use Rattle.rules.specs.Request.{digits_used}
 use Rattle.rules.specs.declared.request.Destination.{Destination}
 use Rattle.rules.specs.declared.request.Destination.TheVariants.{Identity, Number}
-use Rattle.rules.specs.declared.request.Group.{Group}
-use Rattle.rules.specs.declared.request.Group.TheVariants.{Of, NoGroup}
+use Rattle.rules.specs.declared.request.User.{User}
 use Rattle.words.specs.Places.{given_at}
 use Rattle.words.specs.RecordWords.{word, narrow}
 use Rattle.words.specs.RequestWords.{are_destination, are_group, destination_from, group_from, destination_words, group_words}
@@ -25,10 +25,10 @@ unfolding destination_words
 destination-long (Identity u) = refl
 destination-long (Number n) = refl
 
-pub group-long : (g : Group) → length (group_words g) ≡ 3
+pub group-long : (g : Option User) → length (group_words g) ≡ 3
 unfolding group_words
-group-long (Of u) = refl
-group-long NoGroup = refl
+group-long (Some u) = refl
+group-long None = refl
 
 module _ (network ssi service : ℕ) (rest : List ℕ) where
   pub destination-back : (d : Destination) → digits_used d < 256 → destination_from (network ∷ ssi ∷ service ∷ destination_words d ++ rest) ≡ d
@@ -42,29 +42,29 @@ module _ (network ssi service : ℕ) (rest : List ℕ) where
   are-destination (Number n) = refl
 
 -- the group of three words, and whether they are one's
-abbrev pub group_of : ℕ → ℕ → ℕ → Group
-group_of given network ssi = pick (eqb given 1) (Of (record { network = network; ssi = ssi })) NoGroup
+abbrev pub group_of : ℕ → ℕ → ℕ → Option User
+group_of given network ssi = pick (eqb given 1) (Some (record { network = network; ssi = ssi })) None
 
 abbrev pub is_group : ℕ → ℕ → ℕ → Bool
 is_group given network ssi = eqb given 1 || eqb given 0 && (eqb network 0 && eqb ssi 0)
 
 -- words whose last three are the group's
-module _ (w : List ℕ) (g : Group) (e : (k : ℕ) → word w (given_at + k) ≡ word (group_words g) k) where
+module _ (w : List ℕ) (g : Option User) (e : (k : ℕ) → word w (given_at + k) ≡ word (group_words g) k) where
   pub group-back : group_from w ≡ g
   unfolding group_words group_from
   group-back = (λ i. group_of (e 0 i) (e 1 i) (e 2 i)) ∙ go g
     where
-      go : (g : Group) → group_of (word (group_words g) 0) (word (group_words g) 1) (word (group_words g) 2) ≡ g
-      go (Of u) = refl
-      go NoGroup = refl
+      go : (g : Option User) → group_of (word (group_words g) 0) (word (group_words g) 1) (word (group_words g) 2) ≡ g
+      go (Some u) = refl
+      go None = refl
 
   pub are-group : are_group w ≡ true
   unfolding group_words are_group
   are-group = (λ i. is_group (e 0 i) (e 1 i) (e 2 i)) ∙ go g
     where
-      go : (g : Group) → is_group (word (group_words g) 0) (word (group_words g) 1) (word (group_words g) 2) ≡ true
-      go (Of u) = refl
-      go NoGroup = refl
+      go : (g : Option User) → is_group (word (group_words g) 0) (word (group_words g) 1) (word (group_words g) 2) ≡ true
+      go (Some u) = refl
+      go None = refl
 
 -- ---- from words and to them again
 
@@ -97,7 +97,7 @@ unfolding group_words
 group-forth given network ssi = go (eqb given 1) refl
   where
     go : (p : Bool) → eqb given 1 ≡ p → (p || eqb given 0 && (eqb network 0 && eqb ssi 0)) ≡ true
-        → group_words (pick p (Of (record { network = network; ssi = ssi })) NoGroup) ≡ given ∷ network ∷ ssi ∷ []
+        → group_words (pick p (Some (record { network = network; ssi = ssi })) None) ≡ given ∷ network ∷ ssi ∷ []
     go true k e = let one : given ≡ 1 = eqb-true given 1 k in λ i. sym one i ∷ network ∷ ssi ∷ []
     go false k e =
         let none = both (eqb given 0) (eqb network 0 && eqb ssi 0) e in

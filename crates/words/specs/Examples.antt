@@ -1,5 +1,5 @@
 -- Worked cases that antt computes: the words of requests and records, and words that are neither.
-use Rattle.std.specs.Prelude.{◌≡◌, refl, false, List, [], ◌∷◌, ◌++◌, map, ℕ, zero, suc, ◌+◌, ◌-◌, ◌*◌, min, replicate}
+use Rattle.std.specs.Prelude.{◌≡◌, refl, false, List, [], ◌∷◌, ◌++◌, map, ℕ, zero, suc, ◌+◌, ◌-◌, ◌*◌, min, replicate, Option, Some, None}
 use Rattle.grammar.specs.declared.record.Identity.{Identity}
 use Rattle.grammar.specs.declared.record.Identities.{Identities}
 use Rattle.grammar.specs.declared.record.Number.{Number}
@@ -10,8 +10,7 @@ use Rattle.grammar.specs.ProfileRecords.{A}
 use Rattle.rules.specs.ProfileCalls.{speech, group500}
 use Rattle.rules.specs.declared.request.Destination.{Destination}
 use Rattle.rules.specs.declared.request.Destination.TheVariants as to
-use Rattle.rules.specs.declared.request.Group.{Group}
-use Rattle.rules.specs.declared.request.Group.TheVariants.{Of, NoGroup}
+use Rattle.rules.specs.declared.request.User.{User}
 use Rattle.rules.specs.declared.request.Request.{Request}
 use Rattle.words.specs.Places.{affected_at, asked_at, result_at, status_at, services_at, lists_at, delivery_at, acknowledgement_at, definition_at}
 use Rattle.words.specs.Places.{defined_at, distributed_at, cause_at, record_width, service_at, kind_at, identity_at}
@@ -39,11 +38,11 @@ request-places = refl
 abbrev p1 : List ℕ
 p1 = 1 ∷ 5 ∷ 1 ∷ 1 ∷ 1 ∷ 100 ∷ 0 ∷ replicate 24 0 ++ (0 ∷ 0 ∷ 0 ∷ [])
 
-p1_words : request_words (speech 1 100 NoGroup) ≡ p1
+p1_words : request_words (speech 1 100 None) ≡ p1
 unfolding requests
 p1_words = refl
 
-p1_request : request_from p1 ≡ speech 1 100 NoGroup
+p1_request : request_from p1 ≡ speech 1 100 None
 unfolding requests
 p1_request = refl
 
@@ -59,17 +58,17 @@ unfolding requests
 to112 = refl
 
 -- A request in which each word has a value of its own, its place and 100, but for kind, whether a group is given, and unused words
-abbrev asked : Destination → Group → Request
+abbrev asked : Destination → Option User → Request
 asked d g = record { user = record { network = 100; ssi = 101 }; service = 102; destination = d; digits = counted 107 24; group = g }
 
 abbrev to_identity : Request
-to_identity = asked (to.Identity (record { network = 104; ssi = 105 })) (Of (record { network = 132; ssi = 133 }))
+to_identity = asked (to.Identity (record { network = 104; ssi = 105 })) (Some (record { network = 132; ssi = 133 }))
 
 abbrev identity_places : List ℕ
 identity_places = 100 ∷ 101 ∷ 102 ∷ 1 ∷ 104 ∷ 105 ∷ 0 ∷ counted 107 24 ++ (1 ∷ 132 ∷ 133 ∷ [])
 
 abbrev to_number : Request
-to_number = asked (to.Number (record { 0 = 106 })) NoGroup
+to_number = asked (to.Number (record { 0 = 106 })) None
 
 abbrev number_places : List ℕ
 number_places = 100 ∷ 101 ∷ 102 ∷ 2 ∷ 0 ∷ 0 ∷ 106 ∷ counted 107 24 ++ (0 ∷ 0 ∷ 0 ∷ [])

@@ -1,9 +1,9 @@
 -- A record as words of 32 bits, in this order: PDU type; affected users; interrogation type, result, delivery status;
 -- number of services and 7 services; groups, restricted, exceptions; restricted numbers and exceptions to them;
 -- delivery to affected users, acknowledgement from them, definition type; definition result, distribution result, rejection cause.
-use Rattle.std.specs.Prelude.{ℕ, zero, suc, min, Bool, true, false, List, [], ◌∷◌, ◌++◌, length, take, drop, get_or, eqb}
+use Rattle.std.specs.Prelude.{ℕ, zero, suc, min, Bool, List, [], ◌∷◌, ◌++◌, length, take, drop, get_or, eqb, Option, Some, None}
 use Rattle.bits.specs.Bits.{pick}
-use Rattle.grammar.specs.Zero.{zero_figures, zero_record}
+use Rattle.grammar.specs.Zero.{zero_figures}
 use Rattle.grammar.specs.declared.record.Identity.{Identity}
 use Rattle.grammar.specs.declared.record.Identities.{Identities}
 use Rattle.grammar.specs.declared.record.Number.{Number}
@@ -15,7 +15,6 @@ use Rattle.grammar.specs.declared.record.Record.{Record}
 use Rattle.words.specs.Places.{list_places, digit_places, service_places, identity_width, number_width, restricted_at, exceptions_at, numbers_at}
 use Rattle.words.specs.Places.{excepted_at, affected_at, asked_at, result_at, status_at, services_at, lists_at, delivery_at, acknowledgement_at, definition_at}
 use Rattle.words.specs.Places.{defined_at, distributed_at, cause_at, record_width}
-use Rattle.words.specs.declared.record.GivenRecord.{GivenRecord}
 
 -- ---- to words
 
@@ -125,8 +124,8 @@ are_record words = eqb words record_width
 unfoldable pub put_record : Record → List ℕ → List ℕ
 put_record r words = pick (are_record (length words)) (record_words r) words
 
-unfoldable pub given_record : List ℕ → GivenRecord
-given_record words = pick (are_record (length words)) (record { given = true; found = record_from words }) (record { given = false; found = zero_record })
+unfoldable pub given_record : List ℕ → Option Record
+given_record words = pick (are_record (length words)) (Some (record_from words)) None
 
 -- the figures of as many words as a record has, otherwise zeros
 unfoldable pub given_figures : List ℕ → Figures

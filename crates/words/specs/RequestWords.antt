@@ -1,16 +1,13 @@
 -- A request as words of 32 bits, in this order: the user's network and SSI; service; kind of destination (1 identity, 2 number), network,
 -- SSI, length, 24 digits; group given (0 or 1), its network and SSI. Words that the request does not use are zero.
-use Rattle.std.specs.Prelude.{ℕ, ◌+◌, List, [], ◌∷◌, ◌++◌, Bool, true, false, ◌&&◌, ◌||◌, length, take, drop, replicate, eqb}
+use Rattle.std.specs.Prelude.{ℕ, ◌+◌, List, [], ◌∷◌, ◌++◌, Bool, ◌&&◌, ◌||◌, length, take, drop, eqb, Option, Some, None}
 use Rattle.bits.specs.Bits.{pick}
 use Rattle.rules.specs.declared.request.User.{User}
 use Rattle.rules.specs.declared.request.Destination.{Destination}
 use Rattle.rules.specs.declared.request.Destination.TheVariants.{Identity, Number}
-use Rattle.rules.specs.declared.request.Group.{Group}
-use Rattle.rules.specs.declared.request.Group.TheVariants.{Of, NoGroup}
 use Rattle.rules.specs.declared.request.Request.{Request}
 use Rattle.words.specs.Places.{digit_places, service_at, kind_at, identity_at, length_at, digits_at, given_at, group_at, request_width}
 use Rattle.words.specs.RecordWords.{word, narrow, narrowed}
-use Rattle.words.specs.declared.request.GivenRequest.{GivenRequest}
 
 -- ---- from words
 
@@ -32,8 +29,8 @@ user_from w at = record { network = word w at; ssi = word w (at + 1) }
 unfoldable pub destination_from : List ℕ → Destination
 destination_from w = pick (eqb (word w kind_at) 1) (Identity (user_from w identity_at)) (Number (record { 0 = narrow (word w length_at) }))
 
-unfoldable pub group_from : List ℕ → Group
-group_from w = pick (eqb (word w given_at) 1) (Of (user_from w group_at)) NoGroup
+unfoldable pub group_from : List ℕ → Option User
+group_from w = pick (eqb (word w given_at) 1) (Some (user_from w group_at)) None
 
 unfoldable pub request_from : List ℕ → Request
 request_from w = record {
@@ -48,20 +45,8 @@ request_from w = record {
 abbrev pub is_request : List ℕ → Bool
 is_request words = eqb (length words) request_width && are_request words
 
-abbrev pub no_request : GivenRequest
-no_request = record {
-  given = false;
-  asked = record {
-    user = record { network = 0; ssi = 0 };
-    service = 0;
-    destination = Identity (record { network = 0; ssi = 0 });
-    digits = replicate digit_places 0;
-    group = NoGroup;
-  };
-}
-
-unfoldable pub given_request : List ℕ → GivenRequest
-given_request words = pick (is_request words) (record { given = true; asked = request_from words }) no_request
+unfoldable pub given_request : List ℕ → Option Request
+given_request words = pick (is_request words) (Some (request_from words)) None
 
 -- ---- to words
 
@@ -72,9 +57,9 @@ unfoldable pub destination_words : Destination → List ℕ
 destination_words (Identity u) = 1 ∷ user_words u ++ (0 ∷ [])
 destination_words (Number length) = 2 ∷ 0 ∷ 0 ∷ length.0 ∷ []
 
-unfoldable pub group_words : Group → List ℕ
-group_words (Of u) = 1 ∷ user_words u
-group_words NoGroup = 0 ∷ 0 ∷ 0 ∷ []
+unfoldable pub group_words : Option User → List ℕ
+group_words (Some u) = 1 ∷ user_words u
+group_words None = 0 ∷ 0 ∷ 0 ∷ []
 
 unfoldable pub request_words : Request → List ℕ
 request_words q = user_words q.user ++ (q.service ∷ destination_words q.destination ++ (q.digits ++ group_words q.group))

@@ -3,11 +3,12 @@
 ghost use Rattle.std.specs.Prelude.{◌≡◌, ◌∷◌, [], ◌+◌, ◌≤◌, ◌<◌, length, take, drop};
 ghost use Rattle.words.specs.Places.{digit_places, identity_width, identities_width, number_width, numbers_width, services_width, lists_width, record_width};
 ghost use Rattle.words.specs.Inner.{Put};
-ghost use Rattle.words.specs.RecordWords.{identity_words, identities_words, number_words, numbers_words, services_words, lists_words, record_words, narrow, narrowed, identity_from, identities_from, number_from, numbers_from, services_from, lists_from, figures_from, record_from, given_record, given_figures, put_record};
+ghost use Rattle.words.specs.RecordWords.{word, identity_words, identities_words, number_words, numbers_words, services_words, lists_words, record_words, narrow, narrowed, identity_from, identities_from, number_from, numbers_from, services_from, lists_from, figures_from, record_from, given_record, given_figures, put_record};
 
+use crate::entries::{Spelt, each_from, put_each};
 use bits::DigitCount;
 use grammar::record::{Figures, Identities, Identity, Lists, Number, Numbers, Record, Services};
-use grammar::zero::{zero_figures, zero_record};
+use grammar::zero::zero_figures;
 
 // ---- how many words each part has, and where it begins: after those before it
 
@@ -68,11 +69,71 @@ const REJECTION_CAUSE: usize = DISTRIBUTION_RESULT + 1;
 
 pub const RECORD_WORDS: usize = REJECTION_CAUSE + 1;
 
-// Whether words are a record's, and that record. Beside other words all of it is zero.
-#[derive(Clone, Copy)]
-pub struct GivenRecord {
-    pub given: bool,
-    pub found: Record,
+// ---- the entries of a list, and the digits of a number
+
+// SSI, extension present, extension.
+impl Spelt for Identity {
+    const WIDTH: usize = IDENTITY_WORDS;
+
+    ghost WIDTH = { identity_width };
+
+    ghost spelt = { identity_words };
+
+    ghost meant = { identity_from };
+
+    fn put(self, words: &mut [u32], at: usize) -> usize {
+        put_three(words, at, self.ssi, self.present, self.extension)
+    }
+
+    fn read(words: &[u32], at: usize) -> Identity {
+        Identity {
+            ssi: words[at],
+            present: words[at + 1],
+            extension: words[at + 2],
+        }
+    }
+}
+
+// The length and the digits.
+impl Spelt for Number {
+    const WIDTH: usize = NUMBER_WORDS;
+
+    ghost WIDTH = { number_width };
+
+    ghost spelt = { number_words };
+
+    ghost meant = { number_from };
+
+    fn put(self, words: &mut [u32], at: usize) -> usize {
+        let first = put_word(words, at, self.length.0 as u32);
+        put_each(words, first, &self.digits)
+    }
+
+    fn read(words: &[u32], at: usize) -> Number {
+        Number {
+            length: DigitCount(narrow_word(words[at])),
+            digits: digits_from(words, at + 1),
+        }
+    }
+}
+
+// A digit: a word that is no digit is one neither as a byte.
+impl Spelt for u8 {
+    const WIDTH: usize = 1;
+
+    ghost WIDTH = { 1 };
+
+    ghost spelt = { λ b. b ∷ [] };
+
+    ghost meant = { λ w. narrow (word w 0) };
+
+    fn put(self, words: &mut [u32], at: usize) -> usize {
+        put_word(words, at, self as u32)
+    }
+
+    fn read(words: &[u32], at: usize) -> u8 {
+        narrow_word(words[at])
+    }
 }
 
 // ---- to words; each writer returns the place after what it writes
@@ -89,72 +150,35 @@ fn put_three(words: &mut [u32], at: usize, first: u32, second: u32, third: u32) 
     requires { at + 3 ≤ length words.old }
     ensures { Put words.old at (first ∷ second ∷ third ∷ []) 3 words.new result }
 {
-    let second_at = put_word(words, at, first);
-    let third_at = put_word(words, second_at, second);
-    put_word(words, third_at, third)
-}
-
-fn put_identity(words: &mut [u32], at: usize, e: Identity) -> usize
-    requires { at + identity_width ≤ length words.old }
-    ensures { Put words.old at (identity_words e) identity_width words.new result }
-{
-    put_three(words, at, e.ssi, e.present, e.extension)
+    let end = at + 3;
+    words[at..end].copy_from_slice(&[first, second, third]);
+    end
 }
 
 fn put_identities(words: &mut [u32], at: usize, list: Identities) -> usize
     requires { at + identities_width ≤ length words.old }
     ensures { Put words.old at (identities_words list) identities_width words.new result }
 {
-    let entries = list.entries;
-    let mut next = put_word(words, at, list.code);
-    let mut i: usize = 0;
-    while i < LIST_PLACES {
-        next = put_identity(words, next, entries[i]);
-        i += 1;
-    }
-    next
-}
-
-fn put_number(words: &mut [u32], at: usize, e: Number) -> usize
-    requires { at + number_width ≤ length words.old }
-    ensures { Put words.old at (number_words e) number_width words.new result }
-{
-    let digits = e.digits;
-    let mut next = put_word(words, at, e.length.0 as u32);
-    let mut i: usize = 0;
-    while i < DIGIT_PLACES {
-        next = put_word(words, next, digits[i] as u32);
-        i += 1;
-    }
-    next
+    let first = put_word(words, at, list.code);
+    put_each(words, first, &list.entries)
 }
 
 fn put_numbers(words: &mut [u32], at: usize, list: Numbers) -> usize
     requires { at + numbers_width ≤ length words.old }
     ensures { Put words.old at (numbers_words list) numbers_width words.new result }
 {
-    let entries = list.entries;
-    let mut next = put_word(words, at, list.code);
-    let mut i: usize = 0;
-    while i < LIST_PLACES {
-        next = put_number(words, next, entries[i]);
-        i += 1;
-    }
-    next
+    let first = put_word(words, at, list.code);
+    put_each(words, first, &list.entries)
 }
 
 fn put_services(words: &mut [u32], at: usize, services: Services) -> usize
     requires { at + services_width ≤ length words.old }
     ensures { Put words.old at (services_words services) services_width words.new result }
 {
-    let list = services.list;
-    let mut next = put_word(words, at, services.count);
-    let mut i: usize = 0;
-    while i < SERVICE_PLACES {
-        next = put_word(words, next, list[i]);
-        i += 1;
-    }
-    next
+    let first = put_word(words, at, services.count);
+    let end = first + SERVICE_PLACES;
+    words[first..end].copy_from_slice(&services.list);
+    end
 }
 
 fn put_lists(words: &mut [u32], at: usize, lists: Lists) -> usize
@@ -223,21 +247,7 @@ pub fn put_record(words: &mut [u32], found: Record)
 pub(crate) fn narrow_word(word: u32) -> u8
     ensures { result ≡ narrow word }
 {
-    if 255 < word {
-        return 255;
-    }
-    word as u8
-}
-
-fn identity_from(words: &[u32], at: usize) -> Identity
-    requires { at + identity_width ≤ length words.now }
-    ensures { result ≡ identity_from (drop at words.now) }
-{
-    Identity {
-        ssi: words[at],
-        present: words[at + 1],
-        extension: words[at + 2],
-    }
+    u8::try_from(word).unwrap_or(255)
 }
 
 fn identities_from(words: &[u32], at: usize) -> Identities
@@ -249,17 +259,11 @@ fn identities_from(words: &[u32], at: usize) -> Identities
         present: 0,
         extension: 0,
     };
-    let mut held = [none; 8];
-    let mut from = at + 1;
-    let mut i: usize = 0;
-    while i < LIST_PLACES {
-        held[i] = identity_from(words, from);
-        from += IDENTITY_WORDS;
-        i += 1;
-    }
+    let mut entries = [none; LIST_PLACES];
+    each_from(words, at + 1, &mut entries);
     Identities {
         code: words[at],
-        entries: held,
+        entries,
     }
 }
 
@@ -268,23 +272,9 @@ pub(crate) fn digits_from(words: &[u32], at: usize) -> [u8; 24]
     requires { at + digit_places ≤ length words.now }
     ensures { result ≡ narrowed (take digit_places (drop at words.now)) }
 {
-    let mut held = [0u8; 24];
-    let mut i: usize = 0;
-    while i < DIGIT_PLACES {
-        held[i] = narrow_word(words[at + i]);
-        i += 1;
-    }
-    held
-}
-
-fn number_from(words: &[u32], at: usize) -> Number
-    requires { at + number_width ≤ length words.now }
-    ensures { result ≡ number_from (drop at words.now) }
-{
-    Number {
-        length: DigitCount(narrow_word(words[at])),
-        digits: digits_from(words, at + 1),
-    }
+    let mut digits = [0u8; DIGIT_PLACES];
+    each_from(words, at, &mut digits);
+    digits
 }
 
 fn numbers_from(words: &[u32], at: usize) -> Numbers
@@ -293,19 +283,13 @@ fn numbers_from(words: &[u32], at: usize) -> Numbers
 {
     let none = Number {
         length: DigitCount(0),
-        digits: [0u8; 24],
+        digits: [0u8; DIGIT_PLACES],
     };
-    let mut held = [none; 8];
-    let mut from = at + 1;
-    let mut i: usize = 0;
-    while i < LIST_PLACES {
-        held[i] = number_from(words, from);
-        from += NUMBER_WORDS;
-        i += 1;
-    }
+    let mut entries = [none; LIST_PLACES];
+    each_from(words, at + 1, &mut entries);
     Numbers {
         code: words[at],
-        entries: held,
+        entries,
     }
 }
 
@@ -313,16 +297,12 @@ fn services_from(words: &[u32], at: usize) -> Services
     requires { at + services_width ≤ length words.now }
     ensures { result ≡ services_from (drop at words.now) }
 {
-    let mut held = [0u32; 7];
     let first = at + 1;
-    let mut i: usize = 0;
-    while i < SERVICE_PLACES {
-        held[i] = words[first + i];
-        i += 1;
-    }
+    let mut list = [0u32; SERVICE_PLACES];
+    list.copy_from_slice(&words[first..first + SERVICE_PLACES]);
     Services {
         count: words[at],
-        list: held,
+        list,
     }
 }
 
@@ -369,20 +349,14 @@ fn fields_from(words: &[u32]) -> Record
     }
 }
 
-// The record of as many words as one has.
-pub fn record_from(words: &[u32]) -> GivenRecord
+// The record of as many words as one has; none of another number of words.
+pub fn record_from(words: &[u32]) -> Option<Record>
     ensures { result ≡ given_record words.now }
 {
     if words.len() != RECORD_WORDS {
-        return GivenRecord {
-            given: false,
-            found: zero_record(),
-        };
+        return None;
     }
-    GivenRecord {
-        given: true,
-        found: fields_from(words),
-    }
+    Some(fields_from(words))
 }
 
 // The figures of as many words as a record has, otherwise zeros.

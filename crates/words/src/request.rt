@@ -1,11 +1,11 @@
 // A request as words: user network, SSI; service; kind of destination, network, SSI, length, 24 digits; group given, network, SSI.
 ghost use Rattle.std.specs.Prelude.{◌≡◌, length};
 ghost use Rattle.words.specs.Places.{request_width};
-ghost use Rattle.words.specs.RequestWords.{are_destination, are_group, are_request, destination_from, group_from, request_from, no_request, given_request};
+ghost use Rattle.words.specs.RequestWords.{are_destination, are_group, are_request, destination_from, group_from, request_from, given_request};
 
 use crate::record::{DIGIT_PLACES, digits_from, narrow_word};
 use bits::DigitCount;
-use rules::request::{Destination, Group, Request, User};
+use rules::request::{Destination, Request, User};
 
 // Where each word stands, and how many they are.
 const USER_NETWORK: usize = 0;
@@ -31,13 +31,6 @@ const GROUP_NETWORK: usize = GROUP_GIVEN + 1;
 const GROUP_SSI: usize = GROUP_NETWORK + 1;
 
 const REQUEST_WORDS: usize = GROUP_SSI + 1;
-
-// Whether words are a request's, and that request. Beside other words all of it is zero.
-#[derive(Clone, Copy)]
-pub struct GivenRequest {
-    pub given: bool,
-    pub asked: Request,
-}
 
 // The destination is an identity (1) without a length, or a number (2) without network and SSI.
 fn are_destination(words: &[u32]) -> bool
@@ -97,17 +90,17 @@ fn destination_from(words: &[u32]) -> Destination
     Destination::Number(DigitCount(narrow_word(words[LENGTH])))
 }
 
-fn group_from(words: &[u32]) -> Group
+fn group_from(words: &[u32]) -> Option<User>
     requires { length words.now ≡ request_width }
     ensures { result ≡ group_from words.now }
 {
     if words[GROUP_GIVEN] == 1 {
-        return Group::Of(User {
+        return Some(User {
             network: words[GROUP_NETWORK],
             ssi: words[GROUP_SSI],
         });
     }
-    Group::NoGroup
+    None
 }
 
 fn fields_from(words: &[u32]) -> Request
@@ -127,34 +120,15 @@ fn fields_from(words: &[u32]) -> Request
     }
 }
 
-fn no_request() -> GivenRequest
-    ensures { result ≡ no_request }
-{
-    let none = User { network: 0, ssi: 0 };
-    GivenRequest {
-        given: false,
-        asked: Request {
-            user: none,
-            service: 0,
-            destination: Destination::Identity(none),
-            digits: [0u8; 24],
-            group: Group::NoGroup,
-        },
-    }
-}
-
-// The request of words that are one's.
-pub fn request_from(words: &[u32]) -> GivenRequest
+// The request of words that are one's; none of other words.
+pub fn request_from(words: &[u32]) -> Option<Request>
     ensures { result ≡ given_request words.now }
 {
     if words.len() != REQUEST_WORDS {
-        return no_request();
+        return None;
     }
     if !are_request(words) {
-        return no_request();
+        return None;
     }
-    GivenRequest {
-        given: true,
-        asked: fields_from(words),
-    }
+    Some(fields_from(words))
 }

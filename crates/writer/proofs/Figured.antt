@@ -3,6 +3,7 @@ use mathlib.Core.Path.{◌≡◌, sym, ap, ap₂, ◌∙◌}
 use mathlib.Core.Bool.{true, false}
 use mathlib.Core.List.{List, ◌++◌, append-nil}
 use Prim.Native.Nat.{ℕ, ◌+◌, ◌-◌, ◌/◌, ◌%◌, ◌^◌, ◌≤◌}
+use Rattle.std.specs.Prelude.{Option}
 use native.Mathlib.Omega.{arith}
 use lib.ListN.{drop}
 use lib.Seq.{drop_at}
@@ -28,7 +29,7 @@ low_bits w k x h =
     ∙ drop_at (bits_of (k - w) (y / 2 ^ w)) (bits_of w y) (k - w) (length-bits_of (k - w) (y / 2 ^ w)) in
     sym (last (x % 2 ^ k)) ∙ ap (drop (k - w)) (bits_of_mod k x) ∙ last x
 
-module _ (t : PduType) (w : List ℕ) {width run : ℕ} (wide : width ≡ width_of t) (is : run ≡ run_of t (figures_from w)) where
+module _ (t : Option PduType) (w : List ℕ) {width run : ℕ} (wide : width ≡ width_of t) (is : run ≡ run_of t (figures_from w)) where
   printed : (figures_of t).print (figures_from w) ≡ bits_of width run
   printed = figures-print t (figures_from w) ∙ ap₂ bits_of (sym wide) (sym is)
 

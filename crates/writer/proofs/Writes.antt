@@ -1,12 +1,13 @@
 -- Writing by cases: which refusal is given, and when there is none. Assumes nothing.
-use mathlib.Core.Path.{◌≡◌, refl}
+use mathlib.Core.Path.{◌≡◌, refl, ap}
 use mathlib.Core.List.{List}
-use mathlib.Core.Bool.{true, false, ◌&&◌, and-false}
+use mathlib.Core.Bool.{Bool, true, false, ◌&&◌, and-false}
 use Prim.Native.Nat.{ℕ, zero, suc, ◌≤◌}
 use native.Mathlib.Omega.{arith}
 use borrow.Author.Tests.{leb-true, eq-eqb}
 use lib.ListN.{length}
 use lib.Dec.{leb}
+use Rattle.std.specs.Prelude.{Result, Ok, Err}
 use Rattle.bits.specs.Bits.{pick}
 use Rattle.bits.specs.Frame.{bytes_for}
 use Rattle.bits.proofs.Tests.{never, both, picked}
@@ -20,7 +21,6 @@ use Rattle.words.specs.Sized.{SizedRecord}
 use Rattle.words.proofs.RecordInverse.{record-long, record-back}
 use Rattle.writer.specs.Write.{record_refusal, length_of, write_refusal, written, write_is, out_is, write_words_is, write_words_out}
 use Rattle.grammar.specs.declared.record.Record.{Record}
-use Rattle.writer.specs.declared.Written.TheVariants.{Bits, Refused}
 
 not-zero : (v : ℕ) → (v ≡ 0 → ⊥) → is_zero v ≡ false
 not-zero zero h = absurd (h refl)
@@ -57,25 +57,30 @@ module _ (r : Record) (room : ℕ) where
 
 -- ---- the answer of a refusal number
 
-pub written-first : (bits m n : ℕ) → (m ≡ 0 → ⊥) → written bits (first m n) ≡ Refused m
+pub written-first : (bits m n : ℕ) → (m ≡ 0 → ⊥) → written bits (first m n) ≡ Err m
 written-first bits zero n h = absurd (h refl)
 written-first bits (suc m) n h = refl
 
-pub written-some : (bits n : ℕ) → (n ≡ 0 → ⊥) → written bits n ≡ Refused n
-written-some bits zero h = absurd (h refl)
-written-some bits (suc n) h = refl
-
-pub refused-some : (bits n : ℕ) {k : ℕ} → written bits n ≡ Refused k → is_zero n ≡ false
+pub refused-some : (bits n : ℕ) {k : ℕ} → written bits n ≡ Err k → is_zero n ≡ false
 refused-some bits zero e = never cc
 refused-some bits (suc n) e = refl
 
-pub bits_none : (bits n : ℕ) {k : BitCount} → written bits n ≡ Bits k → n ≡ 0
+pub bits_none : (bits n : ℕ) {k : BitCount} → written bits n ≡ Ok k → n ≡ 0
 bits_none bits zero e = refl
 bits_none bits (suc n) e = never cc
 
-pub bits-length : (bits n : ℕ) {k : BitCount} → written bits n ≡ Bits k → k.0 ≡ bits
+pub bits-length : (bits n : ℕ) {k : BitCount} → written bits n ≡ Ok k → k.0 ≡ bits
 bits-length bits zero e = cc
 bits-length bits (suc n) e = never cc
+
+-- for want of room, and where there is room
+pub room-refused : (bits : ℕ) (fits : Bool) {k : ℕ} → pick {A = Result Unit ℕ} fits (Ok tt) (Err 8) ≡ Err k → written bits (pick fits 0 8) ≡ Err k
+room-refused bits true e = never cc
+room-refused bits false e = let n : 8 ≡ _ = cc e in ap (λ (k : ℕ). Err k) n
+
+pub room-there : (bits : ℕ) (fits : Bool) → pick {A = Result Unit ℕ} fits (Ok tt) (Err 8) ≡ Ok tt → written bits (pick fits 0 8) ≡ Ok (record { 0 = bits })
+room-there bits true e = refl
+room-there bits false e = never cc
 
 -- ---- a record by its words
 

@@ -1,6 +1,7 @@
 -- Writing worked out by antt: profile A and the INTERROGATE of document 01's P13 and P14, the order of refusals, DEFINE, and words.
-use Rattle.std.specs.Prelude.{◌≡◌, refl, List, [], ◌∷◌, ◌++◌, ℕ, replicate}
+use Rattle.std.specs.Prelude.{◌≡◌, refl, List, [], ◌∷◌, ◌++◌, ℕ, replicate, Result, Ok, Err}
 use Rattle.bits.specs.Frame.{bytes_of, pack}
+use Rattle.bits.specs.declared.BitCount.{BitCount}
 use Rattle.grammar.specs.Grammar.{grammar, zero_identity}
 use Rattle.grammar.specs.Figures.{of_interrogation, of_definition}
 use Rattle.grammar.specs.Zero.{zero_identities, zero_numbers, zero_services, zero_lists}
@@ -10,8 +11,6 @@ use Rattle.grammar.specs.declared.record.Numbers.{Numbers}
 use Rattle.grammar.specs.declared.record.Record.{Record}
 use Rattle.words.specs.RecordWords.{records}
 use Rattle.writer.specs.Write.{record_refusal, write_refusal, write_is, out_is, write_words_is}
-use Rattle.writer.specs.declared.Written.{Written}
-use Rattle.writer.specs.declared.Written.TheVariants.{Bits, Refused}
 
 -- `unfolding writing` opens all of it
 unfoldable writing : Unit {0}
@@ -28,12 +27,12 @@ asking-bytes : out_is asking (replicate 6 0xff) ≡ 0x49 ∷ 0x62 ∷ 0x00 ∷ 0
 unfolding writing
 asking-bytes = refl
 
-a-length : write_is A (replicate 18 0) ≡ Bits (record { 0 = 138 })
+a-length : write_is A (replicate 18 0) ≡ Ok (record { 0 = 138 })
 unfolding writing
 a-length = refl
 
 -- 8 where the buffer is a byte short
-short : write_is A (replicate 17 0) ≡ Refused 8
+short : write_is A (replicate 17 0) ≡ Err 8
 unfolding writing
 short = refl
 
@@ -48,18 +47,18 @@ reversed excepted = record {
 }
 
 -- 4, before 8
-ends : write_is (reversed zero_numbers) [] ≡ Refused 4
+ends : write_is (reversed zero_numbers) [] ≡ Err 4
 unfolding writing
 ends = refl
 
 -- what must be zero and is not gives 3, before the 4 of an earlier element
-stray : write_is (reversed (record { code = 1; entries = zero_numbers.entries })) [] ≡ Refused 3
+stray : write_is (reversed (record { code = 1; entries = zero_numbers.entries })) [] ≡ Err 3
 unfolding writing
 stray = refl
 
 -- ---- the order of refusals, in 100 bytes
 
-abbrev answer : Record → Written
+abbrev answer : Record → Result BitCount ℕ
 answer r = write_is r (replicate 100 0)
 
 -- PDU types that have no PDU, and one wider than its element: 3; a CALL BARRED has no affected users: 3
@@ -72,12 +71,12 @@ typed kind = record {
   lists = zero_lists;
 }
 
-types : (answer (typed 11) ≡ Bits (record { 0 = 42 }))
-    × (answer (typed 0) ≡ Refused 3)
-    × (answer (typed 4) ≡ Refused 3)
-    × (answer (typed 13) ≡ Refused 3)
-    × (answer (typed 31) ≡ Refused 3)
-    × (answer (typed 43) ≡ Refused 3)
+types : (answer (typed 11) ≡ Ok (record { 0 = 42 }))
+    × (answer (typed 0) ≡ Err 3)
+    × (answer (typed 4) ≡ Err 3)
+    × (answer (typed 13) ≡ Err 3)
+    × (answer (typed 31) ≡ Err 3)
+    × (answer (typed 43) ≡ Err 3)
 unfolding writing
 types = (refl, refl, refl, refl, refl, refl)
 
@@ -95,18 +94,18 @@ abbrev pair : ℕ → ℕ → ℕ → Identities
 pair code first last = record { code = code; entries = user first ∷ user last ∷ replicate 6 zero_identity }
 
 -- users 200 to 199 before the reserved result 5, or service 4: 4; a range type that is refused, before: 3
-first_refusal : (answer (told (pair 9 199 200) 0 0 3) ≡ Bits (record { 0 = 76 }))
-    × (answer (told (pair 9 200 199) 5 0 0) ≡ Refused 4)
-    × (answer (told (pair 9 200 199) 0 0 4) ≡ Refused 4)
-    × (answer (told (pair 9 199 200) 5 0 0) ≡ Refused 3)
-    × (answer (told (pair 9 199 200) 0 0 4) ≡ Refused 3)
+first_refusal : (answer (told (pair 9 199 200) 0 0 3) ≡ Ok (record { 0 = 76 }))
+    × (answer (told (pair 9 200 199) 5 0 0) ≡ Err 4)
+    × (answer (told (pair 9 200 199) 0 0 4) ≡ Err 4)
+    × (answer (told (pair 9 199 200) 5 0 0) ≡ Err 3)
+    × (answer (told (pair 9 199 200) 0 0 4) ≡ Err 3)
 unfolding writing
 first_refusal = (refl, refl, refl, refl, refl)
 
 -- a value wider than its element: an SSI, a delivery status
-too_wide : (answer (told (pair 2 16777215 0) 0 3 0) ≡ Bits (record { 0 = 76 }))
-    × (answer (told (pair 2 16777216 0) 0 0 0) ≡ Refused 3)
-    × (answer (told (pair 2 0 0) 0 4 0) ≡ Refused 3)
+too_wide : (answer (told (pair 2 16777215 0) 0 3 0) ≡ Ok (record { 0 = 76 }))
+    × (answer (told (pair 2 16777216 0) 0 0 0) ≡ Err 3)
+    × (answer (told (pair 2 0 0) 0 4 0) ≡ Err 3)
 unfolding writing
 too_wide = (refl, refl, refl)
 
@@ -121,9 +120,9 @@ defining affected delivery acknowledgement definition groups = record {
 }
 
 -- an addition has its range types though all lists are empty, a removal has none
-define-lengths : (answer (defining (pair 2 5 6) 1 1 0 zero_identities) ≡ Bits (record { 0 = 87 }))
-    × (answer (defining (pair 2 5 6) 1 1 0 (pair 2 8 9)) ≡ Bits (record { 0 = 137 }))
-    × (answer (defining (pair 2 5 6) 1 1 2 zero_identities) ≡ Bits (record { 0 = 75 }))
+define-lengths : (answer (defining (pair 2 5 6) 1 1 0 zero_identities) ≡ Ok (record { 0 = 87 }))
+    × (answer (defining (pair 2 5 6) 1 1 0 (pair 2 8 9)) ≡ Ok (record { 0 = 137 }))
+    × (answer (defining (pair 2 5 6) 1 1 2 zero_identities) ≡ Ok (record { 0 = 75 }))
 unfolding writing
 define-lengths = (refl, refl, refl)
 
@@ -133,16 +132,16 @@ unfolding writing
 define-bytes = refl
 
 -- an acknowledgement without delivery, definition type 3, and a delivery wider than its element: 3
-define-codes : (answer (defining (pair 2 5 6) 0 1 0 zero_identities) ≡ Refused 3)
-    × (answer (defining (pair 2 5 6) 1 1 3 zero_identities) ≡ Refused 3)
-    × (answer (defining (pair 2 5 6) 2 1 0 zero_identities) ≡ Refused 3)
+define-codes : (answer (defining (pair 2 5 6) 0 1 0 zero_identities) ≡ Err 3)
+    × (answer (defining (pair 2 5 6) 1 1 3 zero_identities) ≡ Err 3)
+    × (answer (defining (pair 2 5 6) 2 1 0 zero_identities) ≡ Err 3)
 unfolding writing
 define-codes = (refl, refl, refl)
 
 -- groups under removal: 3, also before the 4 of reversed users; a removal of reversed users without them: 4
-define-removal : (answer (defining (pair 2 5 6) 1 1 2 (pair 2 8 9)) ≡ Refused 3)
-    × (answer (defining (pair 9 6 5) 1 1 2 (pair 2 8 9)) ≡ Refused 3)
-    × (answer (defining (pair 9 6 5) 1 1 2 zero_identities) ≡ Refused 4)
+define-removal : (answer (defining (pair 2 5 6) 1 1 2 (pair 2 8 9)) ≡ Err 3)
+    × (answer (defining (pair 9 6 5) 1 1 2 (pair 2 8 9)) ≡ Err 3)
+    × (answer (defining (pair 9 6 5) 1 1 2 zero_identities) ≡ Err 4)
 unfolding writing
 define-removal = (refl, refl, refl)
 
@@ -158,16 +157,16 @@ abbrev one_number : ℕ → List ℕ
 one_number length =
     12 ∷ 1 ∷ 5 ∷ replicate 23 0 ++ (0 ∷ 2 ∷ 0 ∷ 1 ∷ 1 ∷ replicate 81 0 ++ (1 ∷ length ∷ 1 ∷ replicate 405 0))
 
-from_words : write_words_is (one_number 1) (replicate 9 0) ≡ Bits (record { 0 = 72 })
+from_words : write_words_is (one_number 1) (replicate 9 0) ≡ Ok (record { 0 = 72 })
 unfolding writing records write_words_is
 from_words = refl
 
 -- 257, whose low bits are those of 1, is no length
-wide_word : write_words_is (one_number 257) (replicate 9 0) ≡ Refused 3
+wide_word : write_words_is (one_number 257) (replicate 9 0) ≡ Err 3
 unfolding writing records write_words_is
 wide_word = refl
 
 -- a word too many: 9, before anything else
-word_more : write_words_is (257 ∷ one_number 1) [] ≡ Refused 9
+word_more : write_words_is (257 ∷ one_number 1) [] ≡ Err 9
 unfolding writing records write_words_is
 word_more = refl

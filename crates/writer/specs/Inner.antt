@@ -1,5 +1,5 @@
 -- Writing part by part: what each store needs and what it leaves.
-use Rattle.std.specs.Prelude.{◌≡◌, Bool, List, [], ◌∷◌, ◌++◌, ℕ, ◌+◌, ◌-◌, ◌*◌, ◌≤◌, length, take}
+use Rattle.std.specs.Prelude.{◌≡◌, Bool, List, [], ◌∷◌, ◌++◌, ℕ, ◌+◌, ◌-◌, ◌*◌, ◌≤◌, length, take, Option}
 use Rattle.bits.specs.Bits.{bits, bits_of}
 use Rattle.bits.specs.Lists.{Each}
 use Rattle.codec.specs.Codec.{Codec}
@@ -45,5 +45,5 @@ abbrev pub Ended : List ℕ → ℕ → ℕ → Type 0
 Ended out at last = (k : ℕ) → k ≤ 8 → take at (bits out) ≡ take (at - k) (bits out) ++ bits_of k last
 
 -- what follows the affected users in a PDU of a type
-abbrev pub figured : PduType → Codec (Figures × (Services × Lists))
+abbrev pub figured : Option PduType → Codec (Figures × (Services × Lists))
 figured t = seq (figures_of t) (λ f. seq (services_of t) (λ s. part_of (part_in t f)))

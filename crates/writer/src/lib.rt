@@ -4,7 +4,7 @@
 
 mod put;
 
-ghost use Rattle.std.specs.Prelude.{◌≡◌, ◌++◌, ◌≤◌, length, drop, leb};
+ghost use Rattle.std.specs.Prelude.{◌≡◌, ◌++◌, ◌≤◌, length, drop, leb, Ok, Err};
 ghost use Rattle.bits.specs.Bits.{pick};
 ghost use Rattle.bits.specs.Frame.{bytes_for, pack};
 ghost use Rattle.grammar.specs.Grammar.{pdu};
@@ -20,15 +20,8 @@ use tally::tally_words;
 use words::record;
 use words::record::RECORD_WORDS;
 
-// The length of a PDU that was written, or the number with which its record is refused.
-#[derive(Clone, Copy)]
-pub enum Written {
-    Bits(BitCount),
-    Refused(u32),
-}
-
-// The length in bits, or the refusal number; the bytes of the PDU, and all after them as they were.
-pub fn write(r: Record, out: &mut [u8]) -> Written
+// The length in bits, or the number with which the record is refused; the bytes of the PDU, and all after them as they were.
+pub fn write(r: Record, out: &mut [u8]) -> Result<BitCount, u32>
     ensures { (result ≡ write_is r out.old) × (out.new ≡ out_is r out.old) }
 {
     let mut spelt = [0u32; RECORD_WORDS];
@@ -37,50 +30,48 @@ pub fn write(r: Record, out: &mut [u8]) -> Written
 }
 
 // The same for a record in 520 words; another number of words gives 9.
-pub fn write_words(words: &[u32], out: &mut [u8]) -> Written
+pub fn write_words(words: &[u32], out: &mut [u8]) -> Result<BitCount, u32>
     ensures { (result ≡ write_words_is words.now out.old) × (out.new ≡ write_words_out words.now out.old) }
 {
     if words.len() != RECORD_WORDS {
-        return Written::Refused(9);
+        return Err(9);
     }
-    let answer = checked(words, out.len());
-    let Written::Bits(n) = answer else {
-        return answer;
-    };
+    let n = checked(words, out.len())?;
     fill(out, words, n);
-    answer
+    Ok(n)
 }
 
 // The answer for a buffer of `room` bytes: 3 for a PDU type that we do not read or for what must be zero and is not; then the first fault; then 8.
-fn checked(words: &[u32], room: usize) -> Written
+fn checked(words: &[u32], room: usize) -> Result<BitCount, u32>
     requires { length words.now ≡ 520 }
     ensures { result ≡ written (length_of (record_from words.now)) (write_refusal (record_from words.now) room) }
 {
     let kind = words[0];
     if kind_refusal(kind) != 0 {
-        return Written::Refused(3);
+        return Err(3);
     }
     let sum = tally_words(words);
     if !sum.clean {
-        return Written::Refused(3);
+        return Err(3);
     }
     let length = BitCount(sum.bits);
     let fault = sum.refusal;
-    let short = room_refusal(room, length);
     if fault != 0 {
-        return Written::Refused(fault);
+        return Err(fault);
     }
-    if short != 0 {
-        return Written::Refused(short);
-    }
-    Written::Bits(length)
+    check_room(room, length)?;
+    Ok(length)
 }
 
 // 8 for a buffer that has not the bytes which hold a PDU of this length.
-fn room_refusal(room: usize, length: BitCount) -> u32
-    ensures { result ≡ pick (leb (bytes_for length.0) room) 0 8 }
+fn check_room(room: usize, length: BitCount) -> Result<(), u32>
+    ensures { result ≡ pick (leb (bytes_for length.0) room) (Ok tt) (Err 8) }
 {
-    if length.bytes() <= room { 0 } else { 8 }
+    if length.bytes() <= room {
+        Ok(())
+    } else {
+        Err(8)
+    }
 }
 
 // Straight into the PDU's own bytes: the first of the buffer are lent on, exactly as many as hold it.

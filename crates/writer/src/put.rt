@@ -14,7 +14,7 @@ ghost use Rattle.writer.specs.Inner.{Room, Puts, Small, CodesAfter, RunAfter, En
 
 use bits::DigitCount;
 use grammar::figures::{Form, figures_run, form_of, part_in};
-use grammar::site::{PduType, RangeType, SS_TYPE, pdu_type, range_type};
+use grammar::site::{PduType, SS_TYPE, entries_of, pdu_type};
 use words::record::figures_from;
 
 // Puts a run of up to 57 bits, the low ones of a number, at a place, and gives the next place, as each function below does. Of the bits after it
@@ -39,11 +39,10 @@ fn with_codes(start: u64, words: &[u32], from: usize, count: usize, scale: u64) 
     requires { (start < 256) × (1 ≤ scale) × (scale ≤ 16) × (count ≤ 12) × (from + count ≤ length words.now) }
     ensures { (w : ℕ) → scale ≡ 2 ^ w → CodesAfter w count start (take count (drop from words.now)) result }
 {
+    let codes = &words[from..from + count];
     let mut run = start;
-    let mut i: usize = 0;
-    while i < count {
-        run = run * scale + (words[from + i] as u64) % scale;
-        i += 1;
+    for code in codes {
+        run = run * scale + (*code as u64) % scale;
     }
     run
 }
@@ -68,18 +67,6 @@ fn with_twelve(start: u64, words: &[u32], from: usize) -> u64
     let middle = with_four(0, words, from + 4);
     let low = with_four(0, words, from + 8);
     (high * 65536 + middle) * 65536 + low
-}
-
-// The entries that follow a range type, by its meaning.
-fn entries_of(code: u32) -> usize
-    ensures { result ≡ entries_of code }
-{
-    match range_type(code) {
-        RangeType::Empty => 0,
-        RangeType::Single(count) => count as usize,
-        RangeType::FirstAndLast => 2,
-        RangeType::NoRangeType => 0,
-    }
 }
 
 // ---- identities
@@ -149,12 +136,8 @@ fn put_next_identities(out: &mut [u8], step: Step, words: &[u32], from: usize, n
     ensures { Puts (places identity no_identity 7 n) (entries_from identity_from 3 7 (drop from words.now)) out.old out.new step.at result }
 {
     let mut next = step;
-    let mut place = from;
-    let mut i: usize = 0;
-    while i < n {
-        next = put_next_identity(out, next, words, place);
-        place += 3;
-        i += 1;
+    for i in 0..n {
+        next = put_next_identity(out, next, words, from + 3 * i);
     }
     next.at
 }
@@ -191,14 +174,14 @@ fn put_number(out: &mut [u8], at: usize, words: &[u32], from: usize) -> usize
     ensures { Puts external (number_from (drop from words.now)) out.old out.new at result }
 {
     let count = words[from];
-    let early = bits::least(count as usize, 12);
+    let early = (count as usize).min(12);
     let early_bits = DigitCount(early as u8).bits().0;
     let first = with_twelve(count as u64, words, from + 1) >> (48 - early_bits);
     let middle = put_run(out, at, 5 + early_bits, first);
     if count < 13 {
         return middle;
     }
-    let late = bits::least(count as usize, 24) - 12;
+    let late = (count as usize).min(24) - 12;
     let late_bits = DigitCount(late as u8).bits().0;
     let again = middle % 8;
     let second = with_twelve(first % 256, words, from + 13) >> (48 - late_bits);
@@ -211,12 +194,8 @@ fn put_number_entries(out: &mut [u8], at: usize, words: &[u32], from: usize, n: 
     ensures { Puts (places external no_external 8 n) (entries_from number_from 25 8 (drop from words.now)) out.old out.new at result }
 {
     let mut next = at;
-    let mut place = from;
-    let mut i: usize = 0;
-    while i < n {
-        next = put_number(out, next, words, place);
-        place += 25;
-        i += 1;
+    for i in 0..n {
+        next = put_number(out, next, words, from + 25 * i);
     }
     next
 }
@@ -247,7 +226,7 @@ fn put_services(
     ensures { Puts (seq (number width) (λ x. services)) (lead, services_from (drop from words.now)) out.old out.new at result }
 {
     let count = words[from];
-    let used_bits = 3 * bits::least(count as usize, 7);
+    let used_bits = 3 * (count as usize).min(7);
     let start = (lead * 8 + count % 8) as u64;
     let run = with_codes(start, words, from + 1, 7, 8) >> (21 - used_bits);
     put_run(out, at, width + 3 + used_bits, run)
@@ -303,7 +282,7 @@ fn put_users(out: &mut [u8], at: usize, users: bool, words: &[u32]) -> usize
 }
 
 // What follows the affected users in a PDU of a type; figures and services are one run.
-fn put_figured(out: &mut [u8], at: usize, kind: PduType, form: Form, words: &[u32]) -> usize
+fn put_figured(out: &mut [u8], at: usize, kind: Option<PduType>, form: Form, words: &[u32]) -> usize
     requires { (length words.now ≡ 520) × (form ≡ form_of kind) × Small (record_from words.now).lists × Room (figured kind) (from_record (record_from words.now)).1.1 out.old at }
     ensures { Puts (figured kind) (from_record (record_from words.now)).1.1 out.old out.new at result }
 {

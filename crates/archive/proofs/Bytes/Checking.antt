@@ -1,4 +1,5 @@
 -- The check: what is left of it from an entry on, and what an archive's bytes keep. Assumes nothing.
+use Rattle.std.specs.Prelude.{Result, Ok, Err, Option, ℕ}
 use mathlib.Core.Path.{◌≡◌, refl, sym, ap, ◌∙◌}
 use mathlib.Core.Bool.{Bool, true, false, ◌&&◌}
 use mathlib.Core.List.{List, ◌∷◌}
@@ -10,7 +11,6 @@ use lib.Dec.{ltb, leb, eqb}
 use borrow.Author.Tests.{eqb-true, leb-true, lt-ltb, le-leb, ne_eqb}
 use Rattle.bits.specs.Bits.{guard, Bytes}
 use Rattle.bits.specs.Frame.{bytes_for}
-use Rattle.walk.specs.declared.BitPlace.{BitPlace}
 use Rattle.bits.proofs.Tests.{differ, false-unless, and-false, both, both⁻¹}
 use Rattle.archive.specs.Model.{Held, rank_of, rank, in_range, is_day, header_width, entry_width, sizes, length_of, within_limits}
 use Rattle.archive.specs.Filing.{body_agrees, keeps_rules, well_formed}
@@ -19,11 +19,10 @@ use Rattle.archive.specs.Refusals.{plain}
 use Rattle.archive.specs.Checking.{in_order, has_shape, body_place, bodies_from, check_is}
 use Rattle.archive.specs.Inner.{may_follow, rest_shape, fault_is}
 use Rattle.archive.specs.declared.contents.Entry.{Entry}
-use Rattle.archive.specs.declared.checking.Checked.{Checked}
-use Rattle.archive.specs.declared.checking.Checked.TheVariants.{Archive, Refused}
 use Rattle.archive.proofs.Model.Rules.{archive-formed}
 use Rattle.archive.proofs.Model.Checked.{and_assoc, agrees-ranged}
 use Rattle.archive.proofs.Bytes.Walking.{number3-small, held_from-next, length-held_from}
+use Rattle.archive.specs.declared.refusal.Refusal.{Refusal}
 
 -- ---- entry by entry
 
@@ -70,24 +69,24 @@ shape-none b last zero at off h = ap (λ (k : ℕ). eqb k (length b)) (omega ari
 shape-none b last (suc n) at off h = absurd (not-suc-le-zero h)
 
 -- what is left of the check, from the entry at an index on
-pub rest_is : List ℕ → ℕ → ℕ → ℕ → ℕ → ℕ → ℕ → Checked
-rest_is b home i last n at off = guard (rest_shape b last n at off) (Refused (plain 7)) (bodies_from home i (held_from b n at off))
+pub rest_is : List ℕ → ℕ → ℕ → ℕ → ℕ → ℕ → ℕ → Result (Unit {0}) Refusal
+rest_is b home i last n at off = guard (rest_shape b last n at off) (Err (plain 7)) (bodies_from home i (held_from b n at off))
 
 module _ (b : List ℕ) (home i last n at off : ℕ) where
-  pub rest-shapeless : rest_shape b last n at off ≡ false → rest_is b home i last n at off ≡ Refused (plain 7)
+  pub rest-shapeless : rest_shape b last n at off ≡ false → rest_is b home i last n at off ≡ Err (plain 7)
   unfolding rest_is
   rest-shapeless e = rw e
 
-  pub rest-none : n ≤ 0 → rest_is b home i last n at off ≡ guard (eqb off (length b)) (Refused (plain 7)) Archive
+  pub rest-none : n ≤ 0 → rest_is b home i last n at off ≡ guard (eqb off (length b)) (Err (plain 7)) (Ok tt)
   unfolding rest_is held_from bodies_from
-  rest-none h = rw (shape-none b last n at off h) (ap (λ (c : Checked). guard (eqb off (length b)) (Refused (plain 7)) c) (go n h))
+  rest-none h = rw (shape-none b last n at off h) (ap (λ (c : Result (Unit {0}) Refusal). guard (eqb off (length b)) (Err (plain 7)) c) (go n h))
     where
-      go : (m : ℕ) → m ≤ 0 → bodies_from home i (held_from b m at off) ≡ Archive
+      go : (m : ℕ) → m ≤ 0 → bodies_from home i (held_from b m at off) ≡ Ok tt
       go zero k = refl
       go (suc m) k = absurd (not-suc-le-zero k)
 
   module _ (h : 0 < n) (d : (entry_at b at).day < 65536) (m : may_follow (entry_at b at) last (length b - off) ≡ true) where
-    pub rest-bad : {p : BitPlace} → body_agrees home (held_at b at off) ≡ false → body_place (held_at b at off) ≡ p
+    pub rest-bad : {p : Option ℕ} → body_agrees home (held_at b at off) ≡ false → body_place (held_at b at off) ≡ p
         → rest_is b home i last n at off ≡ fault_is b (entry_at b at).key (n - 1) (at + entry_width) (off + size_at b at) i p
     unfolding rest_is bodies_from fault_is
     rest-bad e f = rw (follows b last n at off h d m, held_from-next b n at off h, e, f)
@@ -122,18 +121,18 @@ module _ (b : List ℕ) where
           let none : in_order 0 (held_in b) && false ≡ false = and-false (in_order 0 (held_in b)) refl in
           and-false (within_limits (count_of b) total) none ∙ sym (and-false (within_limits (count_of b) (length b)) none)
 
-  shapeless : has_shape b ≡ false → check_is b ≡ Refused (plain 7)
+  shapeless : has_shape b ≡ false → check_is b ≡ Err (plain 7)
   unfolding check_is
   shapeless e = rw e
 
-  pub too_short : length b < bodies_at b → check_is b ≡ Refused (plain 7)
+  pub too_short : length b < bodies_at b → check_is b ≡ Err (plain 7)
   too_short h =
       let not-all : eqb total (length b) ≡ false = ne_eqb total (length b) (λ (p : total ≡ length b). omega arith) in
       shapeless
       (shape ∙ and-false (ltb (number3 b 0) 16777216)
       (and-false (within_limits (count_of b) total) (and-false (in_order 0 (held_in b)) not-all)))
 
-  pub over-limits : within_limits (count_of b) (length b) ≡ false → check_is b ≡ Refused (plain 7)
+  pub over-limits : within_limits (count_of b) (length b) ≡ false → check_is b ≡ Err (plain 7)
   over-limits h = shapeless
       (shape ∙ and-false (ltb (number3 b 0) 16777216)
       (as_long ∙ ap (λ (x : Bool). x && (in_order 0 (held_in b) && eqb total (length b))) h))

@@ -11,7 +11,7 @@ use Rattle.archive.specs.Model.{Held, rank, header_width, entry_width, header_by
 use Rattle.archive.specs.Model.{contents_of, bodies_of, bytes_of, body_size, sizes, length_of}
 use Rattle.archive.specs.Reading.{number3, count_of, bodies_at, held_in, reading, is_archive}
 use Rattle.archive.specs.Keeping.{put, with}
-use Rattle.archive.specs.Inner.{seek, next_at, rest_at, Within, front_of, back_of, spliced, spliced_length}
+use Rattle.archive.specs.Inner.{seek, entries_in, next_at, rest_at, Within, front_of, back_of, spliced, spliced_length}
 use Rattle.archive.specs.declared.checking.Place.{Place}
 use Rattle.archive.proofs.Model.Rules.{AllFit, all_fit}
 use Rattle.archive.proofs.Bytes.Walking.{home-is, length-held_from}
@@ -77,7 +77,7 @@ module _ (b : List ℕ) (y : are.Bytes b) (ok : is_archive b ≡ true) (key : �
 
   module _ (h : Held) (is : rank h ≡ key) where
     -- the new count, length and bytes
-    pub new-count : length (put h (held_in b)) + (place_in b key).entries ≡ count_of b + 1
+    pub new-count : length (put h (held_in b)) + entries_in (place_in b key).entry ≡ count_of b + 1
     new-count =
         let l = parts in
         let e : length (put h (held_in b)) ≡ length (s.pre ++ (h ∷ s.post)) = ap length (s.put_is h is) in

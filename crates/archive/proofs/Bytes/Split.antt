@@ -6,10 +6,9 @@ use Prim.Native.Nat.{ℕ, ◌+◌, ◌*◌}
 use native.Mathlib.Omega.{arith}
 use lib.ListN.{length}
 use lib.Dec.{ltb, eqb}
-use Rattle.bits.specs.Frame.{bytes_for}
 use Rattle.archive.specs.Model.{Held, rank, entry_width, entry_bytes, contents_of, bodies_of, body_size, sizes}
 use Rattle.archive.specs.Keeping.{put}
-use Rattle.archive.specs.Inner.{seek}
+use Rattle.archive.specs.Inner.{entries_in, size_in, seek}
 use Rattle.archive.specs.declared.checking.Place.{Place}
 use Rattle.archive.proofs.Model.Rules.{AllFit, no_more, and-fit}
 
@@ -23,8 +22,8 @@ pub record Split (key at off : ℕ) (hs : List Held) (p : Place) : Type 0 where
   pub is : hs ≡ pre ++ (mid ++ post)
   pub at-is : p.at ≡ at + entry_width * length pre
   pub off-is : p.off ≡ off + sizes pre
-  pub entries-is : p.entries ≡ length mid
-  pub bits_is : bytes_for p.bits.0 ≡ sizes mid
+  pub entries-is : entries_in p.entry ≡ length mid
+  pub bits_is : size_in p.entry ≡ sizes mid
   pub put_is : (h : Held) → rank h ≡ key → put h hs ≡ pre ++ (h ∷ post)
 
 pub split : (key at off : ℕ) (hs : List Held) → Split key at off hs (seek key at off hs)

@@ -1,4 +1,5 @@
 -- An accepted capture: the archive with the PDU is well-formed, it is what was written, and it reads so. Assumes nothing.
+use Rattle.std.specs.Prelude.{Result, Ok, Err}
 use mathlib.Core.Path.{◌≡◌, refl, sym, ap, ◌∙◌}
 use mathlib.Core.Bool.{true, ◌&&◌}
 use mathlib.Core.List.{List}
@@ -9,37 +10,33 @@ use lib.Seq.{take_at}
 use lib.Dec.{leb}
 use borrow.Author.Tests.{leb-true, ltb-true}
 use Rattle.bits.proofs.Tests.{never, both, picked}
-use Rattle.reader.specs.Read.{read_is}
-use Rattle.reader.specs.declared.Answer.{Answer}
-use Rattle.reader.specs.declared.Answer.TheVariants as reader
+use Rattle.walk.specs.declared.Refusal as pdu
+use Rattle.reader.specs.Read.{answer_of, found_in, read_is}
 use Rattle.judging.specs.Judge.{may_hold}
 use Rattle.archive.specs.Model.{Archive, is_day, bytes_of, length_of, within_limits}
 use Rattle.archive.specs.Filing.{well_formed}
 use Rattle.archive.specs.Reading.{reading, is_archive}
 use Rattle.archive.specs.Checking.{check_is, if_archive}
-use Rattle.archive.specs.declared.checking.Checked.{Checked}
-use Rattle.archive.specs.declared.checking.Checked.TheVariants as checked
 use Rattle.archive.specs.Keeping.{held_for, captured, if_accepted, placed, capture_is, capture_out}
-use Rattle.archive.specs.declared.Stored.{Stored}
-use Rattle.archive.specs.declared.Stored.TheVariants.{Bytes, Refused}
 use Rattle.archive.proofs.Model.Bodies.{agrees-is, part-is}
 use Rattle.archive.proofs.Model.Rules.{archive-formed, is-formed}
 use Rattle.archive.proofs.Model.Checked.{checked-archive}
 use Rattle.archive.proofs.Bytes.AsWritten.{length-written, read-as_written, passes}
 use Rattle.archive.proofs.Model.Put.{rules-put}
 use Rattle.archive.proofs.Calls.Capture.{offered-agrees, capture-leaves}
+use Rattle.archive.specs.declared.refusal.Refusal.{Refusal}
 
 -- what an accepted capture says
 pub record Taken (b s : List ℕ) (n day room m : ℕ) : Type 0 where
   pub dated : day < 65536
   pub archive : is_archive b ≡ true
-  pub accepted : (read_is s n).answer ≡ reader.Accepted
-  pub may : may_hold (read_is s n).found ≡ true
+  pub accepted : answer_of (read_is s n) ≡ Ok tt
+  pub may : may_hold (found_in (read_is s n)) ≡ true
   pub limits : within_limits (length (captured b s n day).held) (length_of (captured b s n day)) ≡ true
   pub fits : length_of (captured b s n day) ≤ room
   pub size : m ≡ length_of (captured b s n day)
 
-was-placed : (a : Archive) (room m : ℕ) → placed a room ≡ Bytes m
+was-placed : (a : Archive) (room m : ℕ) → placed a room ≡ Ok m
     → (within_limits (length a.held) (length_of a) ≡ true) × (length_of a ≤ room) × (m ≡ length_of a)
 unfolding placed
 was-placed a room m e =
@@ -48,21 +45,21 @@ was-placed a room m e =
     let q = both within (leb (length_of a) room) p.0 in
     (q.0, leb-true (length_of a) room q.1, cc p.1)
 
-if-accepted : (a : Answer) {r : Stored} {m : ℕ} → if_accepted a r ≡ Bytes m → (a ≡ reader.Accepted) × (r ≡ Bytes m)
-if-accepted reader.Accepted e = (refl, e)
-if-accepted (reader.Refused f) e = never cc
+if-accepted : (a : Result Unit pdu.Refusal) {r : Result ℕ Refusal} {m : ℕ} → if_accepted a r ≡ Ok m → (a ≡ Ok tt) × (r ≡ Ok m)
+if-accepted (Ok tt) e = (refl, e)
+if-accepted (Err f) e = never cc
 
-if-archive : (c : Checked) {r : Stored} {m : ℕ} → if_archive c Refused r ≡ Bytes m → (c ≡ checked.Archive) × (r ≡ Bytes m)
-if-archive checked.Archive e = (refl, e)
-if-archive (checked.Refused f) e = never cc
+if-archive : (c : Result (Unit {0}) Refusal) {r : Result ℕ Refusal} {m : ℕ} → if_archive c Err r ≡ Ok m → (c ≡ Ok tt) × (r ≡ Ok m)
+if-archive (Ok _) e = (refl, e)
+if-archive (Err f) e = never cc
 
-pub taken : (b s : List ℕ) (n day room m : ℕ) → capture_is b s n day room ≡ Bytes m → Taken b s n day room m
+pub taken : (b s : List ℕ) (n day room m : ℕ) → capture_is b s n day room ≡ Ok m → Taken b s n day room m
 unfolding capture_is
 taken b s n day room m e =
     let d = picked (is_day day) e (λ x. never cc) in
     let p = if-archive (check_is b) d.1 in
-    let a = if-accepted (read_is s n).answer p.1 in
-    let q = picked (may_hold (read_is s n).found) a.1 (λ x. never cc) in
+    let a = if-accepted (answer_of (read_is s n)) p.1 in
+    let q = picked (may_hold (found_in (read_is s n))) a.1 (λ x. never cc) in
     let r = was-placed (captured b s n day) room m q.1 in
     record {
       dated = ltb-true day 65536 d.0;
@@ -83,7 +80,7 @@ module _ (b s : List ℕ) (n day room m : ℕ) (t : Taken b s n day room m) wher
       let f = archive-formed b t.archive in
       let a = agrees-is home h (offered-agrees home s n day t.accepted t.may) in
       let l = both (leb (length (captured b s n day).held) 512) (leb (length_of (captured b s n day)) 65536) t.limits in
-      let part = part-is (read_is s n).found t.may in
+      let part = part-is (found_in (read_is s n)) t.may in
       is-formed (captured b s n day)
       (record {
         home = f.home;
@@ -99,7 +96,7 @@ module _ (b s : List ℕ) (n day room m : ℕ) (t : Taken b s n day room m) wher
   captured-reads = read-as_written (captured b s n day) captured-formed
 
 -- the written part of the lent buffer is the archive with the PDU
-pub written : (b s : List ℕ) (n day m : ℕ) (out : List ℕ) → capture_is b s n day (length out) ≡ Bytes m
+pub written : (b s : List ℕ) (n day m : ℕ) (out : List ℕ) → capture_is b s n day (length out) ≡ Ok m
     → take m (capture_out b s n day out) ≡ bytes_of (captured b s n day)
 written b s n day m out e =
     let t = taken b s n day (length out) m e in

@@ -1,16 +1,14 @@
 -- What the search finds is what is held for the key, and where its body stands. Assumes nothing.
-use mathlib.Core.Path.{◌≡◌, refl, sym, ◌∙◌, subst}
+use Rattle.std.specs.Prelude.{Result, Ok, Err, Option, None, Some}
+use mathlib.Core.Path.{◌≡◌, refl, sym, ap, ◌∙◌, subst}
 use mathlib.Core.Bool.{Bool, true, false}
 use mathlib.Core.List.{List, [], ◌∷◌}
-use mathlib.Core.Option.{Option, none, some}
 use Prim.Native.Nat.{ℕ, zero, suc, ◌+◌, ◌≤◌}
 use native.Mathlib.Omega.{arith}
 use lib.ListN.{length, take, drop}
 use lib.Dec.{ltb, eqb}
 use borrow.Author.Tests.{ltb-true, ltb-false, ne_eqb}
-use Rattle.bits.specs.Bits.{pick}
 use Rattle.bits.specs.Frame.{bytes_for}
-use Rattle.bits.specs.declared.BitCount.{BitCount}
 use Rattle.bits.proofs.Tests.{never}
 use Rattle.archive.specs.Model.{Held, rank_of, rank, entry_width, body_size, sizes, in_range}
 use Rattle.archive.specs.Filing.{keeps_rules}
@@ -18,13 +16,11 @@ use Rattle.archive.specs.Reading.{held_at, size_at, held_from, bodies_at, held_i
 use Rattle.archive.specs.Restoring.{body_from, fetch_is, lookup}
 use Rattle.archive.specs.Inner.{seek}
 use Rattle.archive.specs.declared.contents.Key.{Key}
-use Rattle.archive.specs.declared.Fetched.{Fetched}
-use Rattle.archive.specs.declared.Fetched.TheVariants.{Body, NotHeld, Refused}
+use Rattle.archive.specs.declared.contents.Entry.{Entry}
+use Rattle.archive.specs.declared.Body.{Body}
 use Rattle.archive.specs.declared.checking.Place.{Place}
 use Rattle.archive.specs.Checking.{check_is}
 use Rattle.archive.specs.declared.refusal.Refusal.{Refusal}
-use Rattle.archive.specs.declared.checking.Checked.{Checked}
-use Rattle.archive.specs.declared.checking.Checked.TheVariants as checked
 use Rattle.archive.proofs.Model.Rules.{Kept, kept}
 use Rattle.archive.proofs.Model.Checked.{archive_checked, checked-archive}
 use Rattle.archive.proofs.Bytes.Checking.{sound}
@@ -32,12 +28,16 @@ use Rattle.archive.proofs.Bytes.Spliced.{place_in}
 
 -- ---- by order or not
 
--- what a place says of its key
-abbrev pub fetched_of : Place → Fetched
-fetched_of p = pick (eqb p.entries 0) NotHeld (Body p.off p.bits p.day)
+-- the body of an entry whose body begins at a place, and what a place says of its key
+abbrev pub body_at : ℕ → Option Entry → Option Body
+body_at off None = None
+body_at off (Some e) = Some (record { off = off; bits = e.bits; day = e.day })
+
+abbrev pub fetched_of : Place → Option Body
+fetched_of p = body_at p.off p.entry
 
 none_above : (home last : ℕ) (key : Key) (off : ℕ) (hs : List Held) → keeps_rules home last hs ≡ true → rank_of key ≤ last
-    → body_from key off hs ≡ NotHeld
+    → body_from key off hs ≡ None
 none_above home last key off [] k h = refl
 none_above home last key off (x ∷ xs) k h =
     let u = kept home last x xs k in
@@ -67,18 +67,17 @@ seek-body home last key at off (x ∷ xs) k = go (ltb (rank x) (rank_of key)) re
 
 -- ---- the body that is found is that of the PDU held
 
-pub record BodyIs (b : List ℕ) (off : ℕ) (n : BitCount) (day : ℕ) (o : Option Held) : Type 0 where
+pub record BodyIs (b : List ℕ) (at : Body) (o : Option Held) : Type 0 where
   pub held : Held
-  pub is : o ≡ some held
-  pub bits : held.entry.bits ≡ n
-  pub day-is : held.entry.day ≡ day
-  pub body : held.body ≡ take (bytes_for n.0) (drop off b)
-  pub inside : off + bytes_for n.0 ≤ length b
+  pub is : o ≡ Some held
+  pub bits : held.entry.bits ≡ at.bits
+  pub day-is : held.entry.day ≡ at.day
+  pub body : held.body ≡ take (bytes_for at.bits.0) (drop at.off b)
+  pub inside : at.off + bytes_for at.bits.0 ≤ length b
 
-abbrev pub Right : List ℕ → Fetched → Option Held → Type 0
-Right b (Body off n day) o = BodyIs b off n day o
-Right b NotHeld o = o ≡ none
-Right b (Refused f) o = ⊥
+abbrev pub Right : List ℕ → Option Body → Option Held → Type 0
+Right b (Some at) o = BodyIs b at o
+Right b None o = o ≡ None
 
 right-from : (b : List ℕ) (key : Key) (n at off : ℕ) → off + sizes (held_from b n at off) ≤ length b
     → Right b (body_from key off (held_from b n at off)) (lookup key (held_from b n at off))
@@ -97,45 +96,45 @@ right-from b key (suc n) at off h =
 -- ---- fetch
 
 module _ (b : List ℕ) (k : Key) where
-  pub fetch-none : {f : Refusal} → check_is b ≡ checked.Refused f → fetch_is b k ≡ Refused f
+  pub fetch-none : {f : Refusal} → check_is b ≡ Err f → fetch_is b k ≡ Err f
   unfolding fetch_is
   fetch-none e = rw e
 
-  pub fetch_out : is_archive b ≡ true → in_range k ≡ false → fetch_is b k ≡ NotHeld
+  pub fetch_out : is_archive b ≡ true → in_range k ≡ false → fetch_is b k ≡ Ok None
   unfolding fetch_is
   fetch_out e f = rw (archive_checked b e, f)
 
-  pub fetch-place : is_archive b ≡ true → in_range k ≡ true → fetch_is b k ≡ fetched_of (place_in b (rank_of k))
+  pub fetch-place : is_archive b ≡ true → in_range k ≡ true → fetch_is b k ≡ Ok (fetched_of (place_in b (rank_of k)))
   unfolding fetch_is place_in reading
-  fetch-place e f = rw (archive_checked b e, f) (seek-body _ 0 k _ (bodies_at b) (held_in b) (sound b e).rules)
+  fetch-place e f = rw (archive_checked b e, f) (ap Ok (seek-body _ 0 k _ (bodies_at b) (held_in b) (sound b e).rules))
 
   -- in an archive it finds what is held for a user and part in range
-  pub fetch-right : is_archive b ≡ true → in_range k ≡ true → Right b (fetch_is b k) (lookup k (reading b).held)
+  pub fetch-right : is_archive b ≡ true → in_range k ≡ true → {o : Option Body} → fetch_is b k ≡ Ok o → Right b o (lookup k (reading b).held)
   unfolding fetch_is reading
-  fetch-right e f = rw (archive_checked b e, f) (right-from b k _ _ (bodies_at b) (omega (arith, (sound b e).whole)))
+  fetch-right e f {o} t =
+      let was = rw (archive_checked b e, f) at t in
+      let found : body_from k (bodies_at b) (held_in b) ≡ o = cc in
+      subst (λ (o : Option Body). Right b o (lookup k (reading b).held)) found (right-from b k _ _ (bodies_at b) (omega (arith, (sound b e).whole)))
 
   -- what it found, of a user and part in range: the refusal of what is no archive, or what an archive holds
   module _ (e : in_range k ≡ true) where
-    right : {f : Fetched} → fetch_is b k ≡ f → is_archive b ≡ true → Right b f (lookup k (reading b).held)
-    right t ok = subst (λ (f : Fetched). Right b f (lookup k (reading b).held)) t (fetch-right ok e)
-
-    pub fetch-damaged : {f : Refusal} → fetch_is b k ≡ Refused f → check_is b ≡ checked.Refused f
+    pub fetch-damaged : {f : Refusal} → fetch_is b k ≡ Err f → check_is b ≡ Err f
+    unfolding fetch_is
     fetch-damaged {f} t = go (check_is b) refl
       where
-        go : (c : Checked) → check_is b ≡ c → check_is b ≡ checked.Refused f
-        go checked.Archive ok = absurd (right t (checked-archive b ok))
-        go (checked.Refused g) bad = let same : Refused g ≡ Refused f = sym (fetch-none bad) ∙ t in bad ∙ cc same
+        go : (c : Result (Unit {0}) Refusal) → check_is b ≡ c → check_is b ≡ Err f
+        go (Ok _) ok = let no = rw ok at t in never cc
+        go (Err g) bad = let same = sym (fetch-none bad) ∙ t in bad ∙ cc same
 
-    found_as : {f : Fetched} → fetch_is b k ≡ f → ((g : Refusal) → f ≡ Refused g → ⊥) → (is_archive b ≡ true) × Right b f (lookup k (reading b).held)
-    found_as {f} t other = go (check_is b) refl
+    found_as : {o : Option Body} → fetch_is b k ≡ Ok o → (is_archive b ≡ true) × Right b o (lookup k (reading b).held)
+    found_as {o} t = go (check_is b) refl
       where
-        go : (c : Checked) → check_is b ≡ c → (is_archive b ≡ true) × Right b f (lookup k (reading b).held)
-        go checked.Archive ok = let a = checked-archive b ok in (a, right t a)
-        go (checked.Refused g) bad = absurd (other g (sym t ∙ fetch-none bad))
+        go : (c : Result (Unit {0}) Refusal) → check_is b ≡ c → (is_archive b ≡ true) × Right b o (lookup k (reading b).held)
+        go (Ok _) ok = let a = checked-archive b ok in (a, fetch-right a e t)
+        go (Err g) bad = let no = sym (fetch-none bad) ∙ t in never cc
 
-    pub fetch-missing : fetch_is b k ≡ NotHeld → (is_archive b ≡ true) × (lookup k (reading b).held ≡ none)
-    fetch-missing t = found_as t (λ g (x : NotHeld ≡ Refused g). never cc)
+    pub fetch-missing : fetch_is b k ≡ Ok None → (is_archive b ≡ true) × (lookup k (reading b).held ≡ None)
+    fetch-missing t = found_as t
 
-    pub fetch-found : {off : ℕ} {n : BitCount} {day : ℕ} → fetch_is b k ≡ Body off n day
-        → (is_archive b ≡ true) × BodyIs b off n day (lookup k (reading b).held)
-    fetch-found {off} {n} {day} t = found_as t (λ g (x : Body off n day ≡ Refused g). never cc)
+    pub fetch-found : {at : Body} → fetch_is b k ≡ Ok (Some at) → (is_archive b ≡ true) × BodyIs b at (lookup k (reading b).held)
+    fetch-found t = found_as t

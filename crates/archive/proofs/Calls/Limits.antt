@@ -1,4 +1,5 @@
 -- The entry count is the number of keys held, the length is header, contents and bodies, and when 8 is given. Assumes nothing.
+use Rattle.std.specs.Prelude.{Result, Ok, Err}
 use mathlib.Core.Path.{◌≡◌, refl, sym, ap, ◌∙◌}
 use mathlib.Core.Bool.{Bool, true, false, not, ◌&&◌, ◌||◌}
 use mathlib.Core.List.{List, [], ◌∷◌}
@@ -8,8 +9,7 @@ use lib.ListN.{length}
 use lib.Dec.{ltb, leb, eqb}
 use borrow.Author.Tests.{leb-true, leb-false, eqb-true, eqb-false, le-leb, lt-leb, le-ltb, lt-ltb}
 use Rattle.bits.specs.Bits.{pick}
-use Rattle.reader.specs.Read.{read_is}
-use Rattle.reader.specs.declared.Answer.TheVariants as reader
+use Rattle.reader.specs.Read.{answer_of, found_in, read_is}
 use Rattle.judging.specs.Judge.{may_hold}
 use Rattle.archive.specs.Model.{Held, rank, Rising, no_key, next-key, header_width, length_of}
 use Rattle.archive.specs.Filing.{keeps_rules}
@@ -17,13 +17,12 @@ use Rattle.archive.specs.Reading.{count_of, bodies_at, held_in, reading, is_arch
 use Rattle.archive.specs.Refusals.{plain}
 use Rattle.archive.specs.Keeping.{put, held_for, captured, placed, capture_is}
 use Rattle.archive.specs.Restoring.{lookup}
-use Rattle.archive.specs.declared.Stored.{Stored}
-use Rattle.archive.specs.declared.Stored.TheVariants.{Bytes, Refused}
 use Rattle.archive.proofs.Model.Rules.{kept, archive-formed}
 use Rattle.archive.proofs.Bytes.Walking.{length-held_from}
 use Rattle.archive.proofs.Bytes.Checking.{sound}
 use Rattle.archive.proofs.Calls.Capture.{as-placed}
 use Rattle.archive.proofs.Model.Put.{is_none, length-put}
+use Rattle.archive.specs.declared.refusal.Refusal.{Refusal}
 
 -- ---- the entry count is the number of keys held
 
@@ -61,16 +60,16 @@ over-not x y = go (leb x y) refl
     go true e = sym (ap not (le-ltb y x (leb-true x y e)))
     go false e = sym (ap not (lt-ltb y x (leb-false x y e)))
 
-either : (p q r : Bool) (x y : Stored) → pick ((not p && not q) && not r) x y ≡ pick (p || (q || r)) y x
+either : (p q r : Bool) (x y : Result ℕ Refusal) → pick ((not p && not q) && not r) x y ≡ pick (p || (q || r)) y x
 either true q r x y = refl
 either false true r x y = refl
 either false false true x y = refl
 either false false false x y = refl
 
-pub eight : (b s : List ℕ) (n day room : ℕ) → day < 65536 → is_archive b ≡ true → (read_is s n).answer ≡ reader.Accepted
-    → may_hold (read_is s n).found ≡ true → let size = length_of (captured b s n day) in
+pub eight : (b s : List ℕ) (n day room : ℕ) → day < 65536 → is_archive b ≡ true → answer_of (read_is s n) ≡ Ok tt
+    → may_hold (found_in (read_is s n)) ≡ true → let size = length_of (captured b s n day) in
     capture_is b s n day room
-    ≡ pick (full_for b (held_for (reading b).home s n day) || (ltb 65536 size || ltb room size)) (Refused (plain 8)) (Bytes size)
+    ≡ pick (full_for b (held_for (reading b).home s n day) || (ltb 65536 size || ltb room size)) (Err (plain 8)) (Ok size)
 unfolding placed captured
 eight b s n day room dated ok a m =
     let h = held_for (reading b).home s n day in
@@ -81,5 +80,5 @@ eight b s n day room dated ok a m =
     ∙ one_too-many (length (reading b).held) (is_none (lookup h.entry.key (reading b).held)) f.few
     in
     as-placed b s n day room dated ok a m
-    ∙ (λ i. pick ((c i && over-not size 65536 i) && over-not size room i) (Bytes size) (Refused (plain 8)))
-    ∙ either (full_for b h) (ltb 65536 size) (ltb room size) (Bytes size) (Refused (plain 8))
+    ∙ (λ i. pick ((c i && over-not size 65536 i) && over-not size room i) (Ok size) (Err (plain 8)))
+    ∙ either (full_for b h) (ltb 65536 size) (ltb room size) (Ok size) (Err (plain 8))

@@ -1,8 +1,8 @@
 -- A PDU put in its place: what is held for each key, how many there are, and that the rules are kept. Assumes nothing.
+use Rattle.std.specs.Prelude.{Option, None, Some}
 use mathlib.Core.Path.{◌≡◌, refl, sym, ap, ◌∙◌}
 use mathlib.Core.Bool.{Bool, true, false}
 use mathlib.Core.List.{List, [], ◌∷◌}
-use mathlib.Core.Option.{Option, none, some}
 use Prim.Native.Nat.{ℕ, suc, ◌≤◌, ◌<◌}
 use native.Mathlib.Omega.{arith}
 use lib.ListN.{length}
@@ -17,15 +17,15 @@ use Rattle.archive.specs.declared.contents.Key.{Key}
 use Rattle.archive.proofs.Model.Rules.{Kept, kept, is-kept}
 
 -- the new one for its key, and the old one for every other key
-pub lookup-put : (key : Key) (h : Held) (hs : List Held) → lookup key (put h hs) ≡ pick (eqb (rank h) (rank_of key)) (some h) (lookup key hs)
+pub lookup-put : (key : Key) (h : Held) (hs : List Held) → lookup key (put h hs) ≡ pick (eqb (rank h) (rank_of key)) (Some h) (lookup key hs)
 lookup-put key h [] = refl
 lookup-put key h (x ∷ xs) = go (ltb (rank x) (rank h)) refl (eqb (rank x) (rank h)) refl (eqb (rank x) (rank_of key)) refl
     (eqb (rank h) (rank_of key)) refl (lookup-put key h xs)
   where
     go : (p : Bool) → ltb (rank x) (rank h) ≡ p → (q : Bool) → eqb (rank x) (rank h) ≡ q → (r : Bool) → eqb (rank x) (rank_of key) ≡ r → (s : Bool)
         → eqb (rank h) (rank_of key) ≡ s
-        → lookup key (put h xs) ≡ pick (eqb (rank h) (rank_of key)) (some h) (lookup key xs)
-        → lookup key (put h (x ∷ xs)) ≡ pick (eqb (rank h) (rank_of key)) (some h) (lookup key (x ∷ xs))
+        → lookup key (put h xs) ≡ pick (eqb (rank h) (rank_of key)) (Some h) (lookup key xs)
+        → lookup key (put h (x ∷ xs)) ≡ pick (eqb (rank h) (rank_of key)) (Some h) (lookup key (x ∷ xs))
     go true hp q hq true hr true hs ih =
         absurd (omega (arith, ltb-true (rank x) (rank h) hp, eqb-true (rank x) (rank_of key) hr, eqb-true (rank h) (rank_of key) hs))
     go true hp q hq true hr false hs ih = rw (hp, hr, hs)
@@ -74,10 +74,10 @@ rules-put home last h (x ∷ xs) d a r k = go (ltb (rank x) (rank h)) refl (eqb 
 
 -- whether nothing is held
 abbrev pub is_none : Option Held → Bool
-is_none none = true
-is_none (some h) = false
+is_none None = true
+is_none (Some h) = false
 
-none_above : (home last : ℕ) (key : Key) (hs : List Held) → keeps_rules home last hs ≡ true → rank_of key ≤ last → lookup key hs ≡ none
+none_above : (home last : ℕ) (key : Key) (hs : List Held) → keeps_rules home last hs ≡ true → rank_of key ≤ last → lookup key hs ≡ None
 none_above home last key [] k h = refl
 none_above home last key (x ∷ xs) k h =
     let u = kept home last x xs k in

@@ -1,14 +1,15 @@
 -- The listing's parts: their lengths, and the lines of the entries as they stand in an archive's bytes. Assumes nothing.
-use mathlib.Core.Path.{◌≡◌, refl, sym, ap}
+use mathlib.Core.Path.{◌≡◌, refl, sym, ap, ◌∙◌}
 use mathlib.Core.List.{List, [], ◌++◌}
-use Prim.Native.Nat.{ℕ, zero, suc, ◌+◌, ◌-◌, ◌≤◌, ◌<◌}
+use Prim.Native.Nat.{ℕ, zero, suc, ◌+◌, ◌-◌, ◌*◌, ◌≤◌, ◌<◌}
 use native.Mathlib.Omega.{arith}
 use native.Mathlib.Nat.{not-suc-le-zero}
 use lib.ListN.{length, length-append}
 use Rattle.archive.specs.Model.{header_width, entry_width}
 use Rattle.archive.specs.Reading.{home_of, count_of, entry_at, size_at, held_from, bodies_at, reading}
 use Rattle.archive.specs.Inner.{lines_from}
-use Rattle.archive.specs.Listing.{home_word, entries_word, decimal, item, two_items, first_line, line, lines, listing}
+use Rattle.text.specs.Decimal.{decimal, item}
+use Rattle.archive.specs.Listing.{home_word, entries_word, two_items, first_line, line, lines, listing}
 use Rattle.archive.specs.declared.contents.Entry.{Entry}
 use Rattle.archive.proofs.Bytes.Walking.{home-is, length-held_from}
 
@@ -40,6 +41,20 @@ pub lines_from-none : (b : List ℕ) (n at : ℕ) → n ≤ 0 → lines_from b n
 unfolding lines_from
 lines_from-none b zero at h = refl
 lines_from-none b (suc n) at h = absurd (not-suc-le-zero h)
+
+-- the same by an entry's index
+module _ (b : List ℕ) (n i : ℕ) where
+  pub lines_from-at : i < n
+      → lines_from b (n - i) (header_width + entry_width * i)
+      ≡ line (entry_at b (header_width + entry_width * i)) ++ lines_from b (n - (i + 1)) (header_width + entry_width * (i + 1))
+  lines_from-at h =
+      let left : n - i - 1 ≡ n - (i + 1) = omega arith in
+      let next : header_width + entry_width * i + entry_width ≡ header_width + entry_width * (i + 1) = omega arith in
+      lines_from-next b (n - i) (header_width + entry_width * i) (omega arith)
+      ∙ (λ j. line (entry_at b (header_width + entry_width * i)) ++ lines_from b (left j) (next j))
+
+  pub lines_from-over : n ≤ i → lines_from b (n - i) (header_width + entry_width * i) ≡ []
+  lines_from-over h = lines_from-none b (n - i) (header_width + entry_width * i) (omega arith)
 
 -- ---- the whole
 

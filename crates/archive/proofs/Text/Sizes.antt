@@ -1,4 +1,5 @@
 -- No listing has more than 23,066 bytes: 26 for the first line, and 45 for each of at most 512 entries. Assumes nothing.
+use Rattle.std.specs.Prelude.{Result, Ok, Err, Option, Some, None, ℕ}
 use mathlib.Core.Path.{◌≡◌, refl, ap}
 use mathlib.Core.Bool.{Bool, true, false}
 use mathlib.Core.List.{List, [], ◌∷◌}
@@ -8,27 +9,23 @@ use lib.ListN.{length, length-append}
 use lib.Dec.{leb}
 use borrow.Author.Tests.{leb-true, le-leb}
 use Rattle.bits.specs.Bits.{pick}
-use Rattle.reader.specs.Read.{read_is}
+use Rattle.reader.specs.Read.{found_in, read_is}
 use Rattle.pdu.proofs.Accepted.{accepted-framed}
 use Rattle.archive.specs.Model.{Held, rank}
 use Rattle.archive.specs.Filing.{keeps_rules}
 use Rattle.archive.specs.Reading.{reading, is_archive}
 use Rattle.archive.specs.Keeping.{over}
 use Rattle.archive.specs.Checking.{check_is, if_archive}
-use Rattle.archive.specs.Listing.{decimal, entry_word, bit_word, line_end, item, first_line, line, lines, listing, refused_line, report_of, fault_text, told_of}
+use Rattle.text.specs.Decimal.{decimal, item}
+use Rattle.archive.specs.Listing.{entry_word, bit_word, line_end, first_line, line, lines, listing, refused_line, report_of, fault_text, told_of}
 use Rattle.archive.specs.Listing.{length_within, report_is, report_out, told_out}
-use Rattle.walk.specs.declared.BitPlace.{BitPlace}
-use Rattle.walk.specs.declared.BitPlace.TheVariants as bit
-use Rattle.archive.specs.declared.refusal.EntryPlace.{EntryPlace}
-use Rattle.archive.specs.declared.refusal.EntryPlace.TheVariants as entry
-use Rattle.archive.specs.declared.checking.Checked.{Checked}
-use Rattle.archive.specs.declared.checking.Checked.TheVariants.{Archive, Refused}
 use Rattle.archive.specs.declared.contents.Key.{Key}
 use Rattle.archive.proofs.Model.Bodies.{Agrees, agrees-says, part-is, key_fits}
 use Rattle.archive.proofs.Model.Rules.{kept, archive-formed}
 use Rattle.archive.proofs.Model.Checked.{checked-archive}
-use Rattle.archive.proofs.Text.Decimal.{within, decimal-size}
+use Rattle.text.proofs.Decimals.{within, decimal-size}
 use Rattle.archive.proofs.Text.Lines.{length-line, length_two, length-first}
+use Rattle.archive.specs.declared.refusal.Refusal.{Refusal}
 
 -- network and SSI have at most 8 digits, the part 1, the bit length 4, the day 5
 line-size : (home : ℕ) (h : Held) → home < 16777216 → Agrees home h → h.entry.day < 65536 → length (line h.entry) ≤ 45
@@ -38,7 +35,7 @@ line-size home h k a d =
     let f = key_fits home h k a in
     let network : e.key.network < 100000000 = omega (arith, f.network) in
     let ssi : e.key.ssi < 100000000 = omega (arith, f.ssi) in
-    let part : e.key.part < 10 = omega (arith, ap (λ (y : Key). y.part) a.key, (part-is (read_is h.body n).found a.may).1) in
+    let part : e.key.part < 10 = omega (arith, ap (λ (y : Key). y.part) a.key, (part-is (found_in (read_is h.body n)) a.may).1) in
     let bits : n < 10000 = omega (arith, (accepted-framed h.body n a.accepted).short) in
     let day : e.day < 100000 = omega arith in
     omega (
@@ -98,24 +95,24 @@ report-size : (b : List ℕ) → length (report_of b) ≤ 23066
 unfolding report_of
 report-size b = go (check_is b) refl
   where
-    go : (c : Checked) → check_is b ≡ c → length (if_archive c (λ f. refused_line) (listing (reading b))) ≤ 23066
-    go Archive e = listing-size b (checked-archive b e)
-    go (Refused f) e = omega arith
+    go : (c : Result (Unit {0}) Refusal) → check_is b ≡ c → length (if_archive c (λ f. refused_line) (listing (reading b))) ≤ 23066
+    go (Ok _) e = listing-size b (checked-archive b e)
+    go (Err f) e = omega arith
 
 -- `entry `, a number, ` bit `, a number, a line end
-fault-size : (e : EntryPlace) (p : BitPlace) → length (fault_text e p) ≤ 52
+fault-size : (e : Option ℕ) (p : Option ℕ) → length (fault_text e p) ≤ 52
 unfolding fault_text item
-fault-size entry.Nowhere p = omega arith
-fault-size (entry.At i) bit.Nowhere = omega (arith, length-append (decimal i) line_end, decimal-size i)
-fault-size (entry.At i) (bit.At p) = omega (arith, length_two entry_word i bit_word p, decimal-size i, decimal-size p)
+fault-size None p = omega arith
+fault-size (Some i) None = omega (arith, length-append (decimal i) line_end, decimal-size i)
+fault-size (Some i) (Some p) = omega (arith, length_two entry_word i bit_word p, decimal-size i, decimal-size p)
 
 told-size : (b : List ℕ) → length (told_of b) ≤ 52
 unfolding told_of
 told-size b = go (check_is b)
   where
-    go : (c : Checked) → length (if_archive c (λ f. fault_text f.entry f.place) []) ≤ 52
-    go Archive = omega arith
-    go (Refused f) = fault-size f.entry f.place
+    go : (c : Result (Unit {0}) Refusal) → length (if_archive c (λ f. fault_text f.entry f.place) []) ≤ 52
+    go (Ok _) = omega arith
+    go (Err f) = fault-size f.entry f.place
 
 -- buffers of 23,066 and of 52 bytes hold every report
 pub report-whole : (b out told : List ℕ) → 23066 ≤ length out → 52 ≤ length told

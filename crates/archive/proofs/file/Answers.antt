@@ -1,4 +1,5 @@
 -- The place that the search finds, and what is laid out around it, are those of the archive with the PDU put in. Assumes nothing.
+use Rattle.std.specs.Prelude.{Ok}
 use mathlib.Core.Path.{◌≡◌, refl, sym, ap, ◌∙◌, subst}
 use mathlib.Core.List.{List}
 use Prim.Native.Nat.{ℕ, ◌+◌, ◌-◌}
@@ -9,8 +10,7 @@ use Rattle.bits.proofs.Tests.{said-no, said-yes}
 use Rattle.archive.specs.Model.{Held, rank, bytes_of, length_of, within_limits}
 use Rattle.archive.specs.Reading.{held_in, reading}
 use Rattle.archive.specs.Keeping.{over, put, with}
-use Rattle.archive.specs.Inner.{Within, spliced, spliced_length}
-use Rattle.archive.specs.declared.Stored.TheVariants.{Bytes}
+use Rattle.archive.specs.Inner.{entries_in, Within, spliced, spliced_length}
 use Rattle.archive.specs.declared.checking.Place.{Place}
 use Rattle.archive.proofs.Bytes.Checking.{sound}
 use Rattle.archive.proofs.Bytes.Copied.{length-spliced, at_front}
@@ -38,12 +38,12 @@ inside c = subst (λ (p : Place). Within p (b-of c)) (sym (found c))
     (within (b-of c) (bytes c) c.requires.0 (rank (h-of c)))
 
 counted : (c : After-count)
-    → c.count.result + 1 ≡ length (put (h-of (goal.at.After-count c).After-find-place) (held_in (b-of (goal.at.After-count c).After-find-place))) + c.find-place.result.entries
+    → c.count.result + 1 ≡ length (put (h-of (goal.at.After-count c).After-find-place) (held_in (b-of (goal.at.After-count c).After-find-place))) + entries_in c.find-place.result.entry
 counted c =
     omega (
       arith,
       c.count.ensures.0,
-      ap (λ (p : Place). p.entries) (found (goal.at.After-count c).After-find-place),
+      ap (λ (p : Place). entries_in p.entry) (found (goal.at.After-count c).After-find-place),
       new-count (b-of (goal.at.After-count c).After-find-place) (bytes (goal.at.After-count c).After-find-place) c.requires.0 (rank (h-of (goal.at.After-count c).After-find-place)) (h-of (goal.at.After-count c).After-find-place) refl,
     )
 
@@ -60,7 +60,7 @@ limits : (c : After-within_limits)
     (length_of (with (reading (b-of (goal.at.After-within_limits c).After-find-place)) (h-of (goal.at.After-within_limits c).After-find-place)))
 unfolding reading
 limits c =
-    let n : c.count.result + 1 - c.find-place.result.entries ≡ length (put (h-of (goal.at.After-within_limits c).After-find-place) (held_in (b-of (goal.at.After-within_limits c).After-find-place))) =
+    let n : c.count.result + 1 - c.entries_of.result ≡ length (put (h-of (goal.at.After-within_limits c).After-find-place) (held_in (b-of (goal.at.After-within_limits c).After-find-place))) =
     omega (arith, counted (goal.at.After-within_limits c).After-count) in
     c.within_limits.ensures ∙ (λ i. within_limits (n i) (sized (goal.at.After-within_limits c).After-spliced_length-size i))
 
@@ -100,18 +100,18 @@ pub returns : goal.returns
 unfolding reading
 returns c =
     let ok = c.requires.0 in
-    let n : c.count.result + 1 - c.find-place.result.entries ≡ length (put (h-of (goal.at.returns c).After-find-place) (held_in (b-of (goal.at.returns c).After-find-place))) = omega (arith, counted (goal.at.returns c).After-count) in
-    let x : List ℕ = spliced (b-of (goal.at.returns c).After-find-place) c.find-place.result (c.count.result + 1 - c.find-place.result.entries) (h-of (goal.at.returns c).After-find-place).entry (h-of (goal.at.returns c).After-find-place).body in
+    let n : c.count.result + 1 - c.entries_of.result ≡ length (put (h-of (goal.at.returns c).After-find-place) (held_in (b-of (goal.at.returns c).After-find-place))) = omega (arith, counted (goal.at.returns c).After-count) in
+    let x : List ℕ = spliced (b-of (goal.at.returns c).After-find-place) c.find-place.result (c.count.result + 1 - c.entries_of.result) (h-of (goal.at.returns c).After-find-place).entry (h-of (goal.at.returns c).After-find-place).body in
     let w = at_front {s = x} c.splice.ensures in
     let e : x ≡ bytes_of (with (reading (b-of (goal.at.returns c).After-find-place)) (h-of (goal.at.returns c).After-find-place)) =
     (λ i. spliced (b-of (goal.at.returns c).After-find-place) (found (goal.at.returns c).After-find-place i) (n i) (h-of (goal.at.returns c).After-find-place).entry (h-of (goal.at.returns c).After-find-place).body)
     ∙ new-bytes (b-of (goal.at.returns c).After-find-place) (bytes (goal.at.returns c).After-find-place) ok (rank (h-of (goal.at.returns c).After-find-place)) (h-of (goal.at.returns c).After-find-place) refl
     in
     let l : c.splice.result ≡ length_of (with (reading (b-of (goal.at.returns c).After-find-place)) (h-of (goal.at.returns c).After-find-place)) =
-    w.0 ∙ length-spliced (b-of (goal.at.returns c).After-find-place) c.find-place.result (c.count.result + 1 - c.find-place.result.entries) (h-of (goal.at.returns c).After-find-place).entry (h-of (goal.at.returns c).After-find-place).body (inside (goal.at.returns c).After-find-place)
+    w.0 ∙ length-spliced (b-of (goal.at.returns c).After-find-place) c.find-place.result (c.count.result + 1 - c.entries_of.result) (h-of (goal.at.returns c).After-find-place).entry (h-of (goal.at.returns c).After-find-place).body (inside (goal.at.returns c).After-find-place)
     ∙ sym c.spliced_length-size.ensures ∙ sized (goal.at.returns c).After-spliced_length-size
     in record {
-      value = ap (λ (k : ℕ). Bytes k) l
+      value = ap (λ (k : ℕ). Ok k) l
           ∙ placed-whole _ _ (said-yes (limits (goal.at.returns c).After-within_limits) c.if-not-within_limits.false) (omega (arith, sized (goal.at.returns c).After-spliced_length-size, c.if-out-size.false));
       out_after = w.1 ∙ ap (λ (k : List ℕ). over k c.args.out.now) e;
     }

@@ -1,4 +1,5 @@
 -- 9 comes before 7; then each answer of the archive is the definition's own case. Assumes nothing.
+use Rattle.std.specs.Prelude.{Ok}
 use mathlib.Core.Path.{◌≡◌, sym, ap, ◌∙◌}
 use Prim.Native.Nat.{ℕ}
 use borrow.Author.Tests.{ne_eqb}
@@ -28,11 +29,13 @@ fetches c =
     ∙ ap (λ (part : ℕ). fetch_is a.archive.now (record { network = a.request.user.network; ssi = a.request.user.ssi; part = part }))
     c.part_for-part.ensures)
 
-pub returns-in-Body : goal.returns-in-Body
-returns-in-Body c = part-fetched _ _ (ranged (goal.at.returns-in-Body c).After-fetch) (fetches (goal.at.returns-in-Body c).After-fetch ∙ c.in-Body.is)
+pub returns-in-Ok-Some : goal.returns-in-Ok-Some
+returns-in-Ok-Some c =
+    part-fetched _ _ (ranged (goal.at.returns-in-Ok-Some c).After-fetch) (fetches (goal.at.returns-in-Ok-Some c).After-fetch ∙ c.in-Ok-Some.is ∙ ap Ok c.in-Ok-Some.field-0-is)
 
-pub returns-in-NotHeld : goal.returns-in-NotHeld
-returns-in-NotHeld c = part-fetched _ _ (ranged (goal.at.returns-in-NotHeld c).After-fetch) (fetches (goal.at.returns-in-NotHeld c).After-fetch ∙ c.in-NotHeld.is)
+pub returns-in-Ok-None : goal.returns-in-Ok-None
+returns-in-Ok-None c =
+    part-fetched _ _ (ranged (goal.at.returns-in-Ok-None c).After-fetch) (fetches (goal.at.returns-in-Ok-None c).After-fetch ∙ c.in-Ok-None.is ∙ ap Ok c.in-Ok-None.field-0-is)
 
-pub returns-in-Refused : goal.returns-in-Refused
-returns-in-Refused c = part-fetched _ _ (ranged (goal.at.returns-in-Refused c).After-fetch) (fetches (goal.at.returns-in-Refused c).After-fetch ∙ c.in-Refused.is)
+pub returns-in-Err : goal.returns-in-Err
+returns-in-Err c = part-fetched _ _ (ranged (goal.at.returns-in-Err c).After-fetch) (fetches (goal.at.returns-in-Err c).After-fetch ∙ c.in-Err.is)

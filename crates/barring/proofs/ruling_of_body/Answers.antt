@@ -1,22 +1,30 @@
 -- The body is read, and the rule is applied to its record. Assumes nothing.
-use mathlib.Core.Path.{◌≡◌, ap, ◌∙◌}
+use mathlib.Core.Path.{◌≡◌, sym, ap, ◌∙◌}
 use Prim.Native.Nat.{ℕ}
-use lib.ListN.{take, drop}
-use Rattle.bits.specs.Frame.{bytes_for}
-use Rattle.reader.specs.Read.{read_is}
-use Rattle.rules.specs.Rule.{ruling}
-use Rattle.archive.specs.Reading.{home_of}
-use Rattle.barring.specs.Decision.{decision_of}
 use native.Mathlib.Nat.{add-sub_cancel_left}
+use lib.ListN.{take, drop}
+use Rattle.std.proofs.Common.{Ok}
+use Rattle.bits.specs.Frame.{bytes_for}
+use Rattle.reader.specs.Read.{found_in, read_is}
+use Rattle.reader.proofs.Walked.{with-found}
+use Rattle.barring.proofs.ruling_of_body.Goals.{After-read}
 use Rattle.barring.proofs.ruling_of_body.Goals as goal
+
+-- what reading answers
+was-read : (c : After-read) → let a = c.args in let n = a.part.length.0 in
+    c.read.result ≡ Ok (found_in (read_is (take (bytes_for n) (drop a.part.at a.archive.now)) n))
+was-read c =
+    let a = c.args in
+    let n = a.part.length.0 in
+    let s = drop a.part.at a.archive.now in
+    c.read.ensures
+    ∙ ap (λ (k : ℕ). read_is (take k s) n) (add-sub_cancel_left a.part.at c.bytes.result ∙ c.bytes.ensures)
+    ∙ with-found (read_is (take (bytes_for n) s) n) c.requires.accepted
+
+pub unwrap-held-requires : goal.unwrap-held-requires
+unwrap-held-requires c = rw (was-read (goal.at.unwrap-held-requires c).After-read)
 
 pub returns : goal.returns
 returns c =
-    let a = c.args in
-    let s = drop a.at a.archive.now in
-    let body : c.read-reading.result ≡ read_is (take (bytes_for a.n.0) s) a.n.0 =
-    c.read-reading.ensures
-    ∙ ap (λ (k : ℕ). read_is (take k s) a.n.0) (add-sub_cancel_left a.at c.bytes.result ∙ c.bytes.ensures) in
-    let ruled : c.rule.result ≡ ruling (home_of a.archive.now) (read_is (take (bytes_for a.n.0) s) a.n.0).found a.request =
-    c.rule.ensures ∙ rw (c.home.ensures, body) in
-    c.decision_of.ensures ∙ ap decision_of ruled
+    let same = ap found_in (sym c.unwrap-held.ensures ∙ was-read (goal.at.returns c).After-read) in
+    c.rule.ensures ∙ rw (c.home.ensures, same)

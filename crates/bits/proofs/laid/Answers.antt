@@ -16,9 +16,9 @@ fits : (c : After-pow2-size) → let a = c.args in let size = c.pow2-size.result
 fits c =
     let a = c.args in
     let p = c.requires in (
-      high_lt a.held a.r a.n a.f p.0 p.1 p.2,
+      high_lt a.held a.r a.n a.f (omega arith) p.0 p.1,
       subst (λ (size : ℕ). a.held / 2 ^ (8 - a.r) * size + a.f % size < 2 ^ 64) (sym c.pow2-size.ensures)
-          (headed-fits a.held a.r a.n a.f p.0 p.1 p.2),
+          (headed-fits a.held a.r a.n a.f (omega arith) p.0 p.1),
     )
 
 pub returns : goal.returns
@@ -27,11 +27,7 @@ returns c =
     let p = c.requires in
     ap (λ (size : ℕ). bits_of 64 ((a.held / 2 ^ (8 - a.r) * size + a.f % size) * 2 ^ (57 - a.n) % 2 ^ 64 * 2 ^ (7 - a.r) % 2 ^ 64))
     c.pow2-size.ensures
-    ∙ headed-bits a.held a.r a.n a.f p.0 p.1 p.2
-
-pub overflow_cast-high-2 : goal.overflow_cast-high-2
-overflow_cast-high-2 c =
-    omega (arith, fits c)
+    ∙ headed-bits a.held a.r a.n a.f (omega arith) p.0 p.1
 
 pub overflow_mul-result : goal.overflow_mul-result
 overflow_mul-result c =

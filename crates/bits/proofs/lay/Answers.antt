@@ -1,8 +1,8 @@
 -- Where eight bytes stand, they are stored anew with the first of them as it was before the place. Assumes nothing.
-use mathlib.Core.Path.{◌≡◌, sym, ap, ◌∙◌}
+use mathlib.Core.Path.{◌≡◌, sym, ◌∙◌}
 use mathlib.Core.Bool.{true}
 use mathlib.Core.List.{◌++◌}
-use Prim.Native.Nat.{ℕ, ◌+◌, ◌-◌, ◌/◌, ◌%◌, ◌^◌, ◌≤◌}
+use Prim.Native.Nat.{◌+◌, ◌-◌, ◌/◌, ◌%◌, ◌≤◌}
 use native.Mathlib.Omega.{arith}
 use lib.ListN.{length}
 use Rattle.bits.specs.Bits.{bits_of}
@@ -26,7 +26,7 @@ inside : (c : Else-not-has_eight) → let a = c.args in (a.width ≤ 57) × (a.a
 inside c = let a = c.args in eight-room a.buf.now a.at a.width a.element (eight c)
 
 pub laid-requires : goal.laid-requires
-laid-requires c = (c.byte-held.ensures.1, omega arith, (inside (goal.at.laid-requires c).Else-not-has_eight).0)
+laid-requires c = (omega arith, (inside (goal.at.laid-requires c).Else-not-has_eight).0)
 
 pub returns : goal.returns
 returns c =
@@ -36,13 +36,13 @@ returns c =
       sym (room s a.at a.width (inside (goal.at.returns c).Else-not-has_eight).0 (omega (arith, inside (goal.at.returns c).Else-not-has_eight))),
       c.set_eight.ensures
           ∙ splice-laid s a.at a.width a.element c.laid.result new (eight (goal.at.returns c).Else-not-has_eight)
-          (c.laid.ensures ∙ ap (λ (x : ℕ). bits_of (a.at % 8) (x / 2 ^ (8 - a.at % 8)) ++ new) c.byte-held.ensures.0)
+          c.laid.ensures
           ∙ sym (lay-there s a.at a.width a.element (eight (goal.at.returns c).Else-not-has_eight)),
     )
 
-pub byte-held-requires : goal.byte-held-requires
-byte-held-requires c =
-    omega (arith, inside c)
+pub bounds-buf-first : goal.bounds-buf-first
+bounds-buf-first c =
+    omega (arith, inside (goal.at.bounds-buf-first c).Else-not-has_eight)
 
 pub set_eight-requires : goal.set_eight-requires
 set_eight-requires c =

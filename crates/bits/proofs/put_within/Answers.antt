@@ -14,12 +14,12 @@ returns c =
     let a = c.args in
     let s = a.buf.now in
     let n : ℕ = a.width in
-    let first : ℕ = c.least-first.result in
+    let first : ℕ = c.min-first.result in
     let r : ℕ = a.at - 8 * first in
     let k : ℕ = 64 - r - n in
     let f : ℕ = a.element % 2 ^ n in
-    let place : 8 * first + r ≡ a.at = omega (arith, c.least-first.ensures) in
+    let place : 8 * first + r ≡ a.at = omega (arith, c.min-first.ensures) in
     c.set_eight.ensures
     ∙ ap (λ (x : ℕ). splice (bits s) (8 * first) (bits_of 64 x)) (c.with_field.ensures ∙ ap (λ (x : ℕ). within x n k f) c.eight-old.ensures)
-    ∙ splice-eight s first r n k f (omega (arith, c.least-first.ensures)) (omega (arith, c.least-first.ensures)) (mod-lt a.element (pow_pos n))
+    ∙ splice-eight s first r n k f (omega (arith, c.min-first.ensures)) (omega (arith, c.min-first.ensures)) (mod-lt a.element (pow_pos n))
     ∙ ap₂ (splice (bits s)) place (bits_of_mod n a.element)

@@ -1,24 +1,19 @@
--- Four bytes and four more. Assumes nothing.
-use mathlib.Core.Path.{◌≡◌, ◌∙◌, ap, ap₂, sym}
-use mathlib.Core.List.{List}
-use mathlib.Core.Bool.{Bool}
-use Prim.Native.Nat.{ℕ, ◌+◌, ◌*◌, ◌/◌, ◌%◌, ◌^◌}
-use native.Mathlib.Nat.{div-one}
-use native.Mathlib.Omega.{arith}
+-- The bytes of the number, put in their place. Assumes nothing.
 use Rattle.bits.specs.Bits.{bits, bits_of, splice}
-use Rattle.bits.proofs.Bytes.{length-bits}
-use Rattle.bits.proofs.Stores.{splice-more}
+use mathlib.Core.Path.{◌≡◌, ap, ◌∙◌}
+use Prim.Native.Nat.{◌+◌, ◌-◌, ◌*◌}
+use native.Mathlib.Omega.{arith}
+use lib.ListN.{length}
+use Rattle.bits.proofs.Loads.{bits-eight, bits-part}
 use Rattle.bits.proofs.set_eight.Goals as goal
 
 pub returns : goal.returns
 returns c =
     let a = c.args in
     let s = a.buf.now in
-    let q : ℕ = a.from in
-    let x : ℕ = a.x in
-    let place : 8 * (q + 4) ≡ 8 * q + 32 = omega arith in
-    c.set_four-2.ensures
-    ∙ ap₂ (λ (l : List Bool) (at : ℕ). splice l at (bits_of 32 (x % 4294967296))) c.set_four.ensures place
-    ∙ ap (λ (y : ℕ). splice (splice (bits s) (8 * q) (bits_of 32 (x / 2 ^ 32))) (8 * q + 32) (bits_of 32 (y % 4294967296))) (sym (div-one x))
-    ∙ splice-more (bits s) (8 * q) 32 32 0 x (omega (arith, length-bits s))
-    ∙ ap (λ (y : ℕ). splice (bits s) (8 * q) (bits_of 64 y)) (div-one x)
+    let part = c.copy_from_slice.new.self in
+    let new : bits part ≡ bits_of 64 a.x =
+    ap bits (c.copy_from_slice.ensures.after ∙ c.to_be_bytes.ensures) ∙ bits-eight a.x (omega arith) in
+    let size : length part ≡ 8 = ap length (c.copy_from_slice.ensures.after ∙ c.to_be_bytes.ensures) in
+    bits-part s part a.from (a.from + 8 - a.from) (omega arith) (omega (arith, size))
+    ∙ ap (splice (bits s) (8 * a.from)) new

@@ -7,8 +7,8 @@ use Rattle.in_place.proofs.Judged.{body_ruled}
 use Rattle.in_place.proofs.ruling_of_body.Goals.{After-bytes}
 use Rattle.in_place.proofs.ruling_of_body.Goals as goal
 
-size : (c : After-bytes) → let a = c.args in a.at + c.bytes.result - a.at ≡ bytes_for a.n.0
-size c = add-sub_cancel_left c.args.at c.bytes.result ∙ c.bytes.ensures
+size : (c : After-bytes) → let part = c.args.part in part.at + c.bytes.result - part.at ≡ bytes_for part.length.0
+size c = add-sub_cancel_left c.args.part.at c.bytes.result ∙ c.bytes.ensures
 
 pub ruling_in-requires : goal.ruling_in-requires
 ruling_in-requires c = rw (size (goal.at.ruling_in-requires c).After-bytes) c.requires.body

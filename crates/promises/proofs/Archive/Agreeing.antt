@@ -6,16 +6,15 @@ use mathlib.Core.List.{List}
 use Prim.Native.Nat.{ℕ}
 use lib.Dec.{eqb}
 use borrow.Author.Tests.{eqb-true, eqb-false, eq-eqb, ne_eqb}
+use Rattle.std.specs.Prelude.{Result, Ok}
 use Rattle.bits.specs.Bits.{pick}
 use Rattle.bits.proofs.Frames.{framed_is}
 use Rattle.codec.proofs.Whole.{whole-reads}
 use Rattle.grammar.specs.Grammar.{pdu, network_of}
 use Rattle.grammar.specs.declared.record.Identity.{Identity}
 use Rattle.grammar.specs.declared.record.Record.{Record}
-use Rattle.reader.specs.Read.{read_is, refusal_of}
-use Rattle.reader.specs.declared.Answer.{Answer}
-use Rattle.reader.specs.declared.Answer.TheVariants.{Accepted}
-use Rattle.reader.specs.declared.Reading.{Reading}
+use Rattle.walk.specs.declared.Refusal.{Refusal}
+use Rattle.reader.specs.Read.{refusal_of, answer_of, found_in, read_is}
 use Rattle.pdu.specs.Accepted.{accepted_as}
 use Rattle.pdu.proofs.Accepted.{accepted-framed, accepted-legal}
 use Rattle.judging.specs.Judge.{may_hold}
@@ -34,16 +33,16 @@ pub legal-read : (s : List ℕ) (n : ℕ) (r : Record) → LegalPdu s n r → re
 unfolding read_is
 legal-read s n r l = rw (framed_is s n l.framed, l.bits, whole-reads pdu r l.legal)
 
-pub read-legal : (s : List ℕ) (n : ℕ) → (read_is s n).answer ≡ Accepted → LegalPdu s n (read_is s n).found
+pub read-legal : (s : List ℕ) (n : ℕ) → answer_of (read_is s n) ≡ Ok tt → LegalPdu s n (found_in (read_is s n))
 read-legal s n e = record {
   framed = accepted-framed s n e;
   legal = accepted-legal s n e;
-  bits = ((reading-kept.promise).success s n (ap (λ (a : Answer). (refusal_of a).number) e)).2;
+  bits = ((reading-kept.promise).success s n (ap (λ (a : Result Unit Refusal). (refusal_of a).number) e)).2;
 }
 
 pub legal : (s : List ℕ) (n : ℕ) (r : Record) → (read_is s n ≡ accepted_as r) ↔ LegalPdu s n r
 legal s n r = (
-  λ e. subst (λ (x : Record). LegalPdu s n x) (ap (λ (x : Reading). x.found) e) (read-legal s n (ap (λ (x : Reading). x.answer) e)),
+  λ e. subst (λ (x : Record). LegalPdu s n x) (ap found_in e) (read-legal s n (ap answer_of e)),
   legal-read s n r,
 )
 
@@ -67,7 +66,7 @@ network-is home u network k = go (eqb u.present 1) refl
 pub agrees-says : (home : ℕ) (h : Held) → body_agrees home h ≡ true → (r : Record) × Agrees home h r
 agrees-says home h e =
     let g = bodies.agrees-says home h e in
-    let r = (read_is h.body h.entry.bits.0).found in (
+    let r = found_in (read_is h.body h.entry.bits.0) in (
       r,
       record {
         body = read-legal h.body h.entry.bits.0 g.accepted;
@@ -85,23 +84,23 @@ agreed-key home h r g =
     λ i. record { network = w i; ssi = g.ssi i; part = g.part i }
 
 -- and a legal PDU that may be held agrees with that
-pub filed-agrees : (home : ℕ) (s : List ℕ) (n day : ℕ) → (read_is s n).answer ≡ Accepted → Holdable (read_is s n).found
-    → Agrees home (held_for home s n day) (read_is s n).found
+pub filed-agrees : (home : ℕ) (s : List ℕ) (n day : ℕ) → answer_of (read_is s n) ≡ Ok tt → Holdable (found_in (read_is s n))
+    → Agrees home (held_for home s n day) (found_in (read_is s n))
 filed-agrees home s n day a m = record {
   body = read-legal s n a;
   accepting = m;
   part = refl;
   ssi = refl;
-  network = network-says home (affected_user (read_is s n).found) refl;
+  network = network-says home (affected_user (found_in (read_is s n))) refl;
 }
 
 pub agrees-is : (home : ℕ) (h : Held) → (r : Record) × Agrees home h r → body_agrees home h ≡ true
 agrees-is home h (r, g) =
     let n = h.entry.bits.0 in
     let e = legal-read h.body n r g.body in
-    let f : r ≡ (read_is h.body n).found = sym (ap (λ (x : Reading). x.found) e) in
+    let f : r ≡ found_in (read_is h.body n) = sym (ap found_in e) in
     bodies.agrees-is home h (record {
-      accepted = ap (λ (x : Reading). x.answer) e;
+      accepted = ap answer_of e;
       may = subst (λ (x : Record). may_hold x ≡ true) f ((may_be-held r).1 g.accepting);
       key = subst (λ (x : Record). h.entry.key ≡ filed_key home x) f (agreed-key home h r g);
     })

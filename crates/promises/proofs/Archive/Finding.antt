@@ -1,10 +1,10 @@
 -- A user and part in range, and what is held for it: as tests and as statements. Assumes nothing.
+use Rattle.std.specs.Prelude.{Option, None, Some}
 use mathlib.Core.Path.{◌≡◌, refl, sym, ap, ◌∙◌, subst}
 use mathlib.Core.Logic.{◌↔◌, ⊎_elim}
 use mathlib.Core.Bool.{Bool, true, false}
 use mathlib.Core.List.Memᴰ
 use mathlib.Core.List.{List, [], ◌∷◌, Memᴰ}
-use mathlib.Core.Option.{Option, none, some}
 use Prim.Native.Nat.{ℕ, ◌<◌}
 use native.Mathlib.Omega.{arith}
 use lib.Dec.{eqb}
@@ -43,24 +43,24 @@ among-kept home last h (x ∷ xs) k m =
     (λ t. let r = among-kept home (rank x) h xs u.others t in (omega (arith, u.rises, r.0), r.1)) (Memᴰ.cases_cons m)
 
 module _ (k : Key) where
-  look : (home last : ℕ) (h : Held) (hs : List Held) → keeps_rules home last hs ≡ true → rank h ≡ rank_of k → Memᴰ h hs → lookup k hs ≡ some h
+  look : (home last : ℕ) (h : Held) (hs : List Held) → keeps_rules home last hs ≡ true → rank h ≡ rank_of k → Memᴰ h hs → lookup k hs ≡ Some h
   look home last h [] r e m = absurd (Memᴰ.not-nil m)
   look home last h (x ∷ xs) r e m =
       let u = kept home last x xs r in
       ⊎_elim
-      (λ f. ap (λ (t : Bool). pick t (some x) (lookup k xs)) (eq-eqb _ _ (ap rank (sym f) ∙ e)) ∙ ap some (sym f))
+      (λ f. ap (λ (t : Bool). pick t (Some x) (lookup k xs)) (eq-eqb _ _ (ap rank (sym f) ∙ e)) ∙ ap Some (sym f))
       (λ t.
       let l : rank x < rank h = (among-kept home (rank x) h xs u.others t).0 in
-      ap (λ (t : Bool). pick t (some x) (lookup k xs)) (ne_eqb (rank x) (rank_of k) (λ q. omega (arith, l, e, q)))
+      ap (λ (t : Bool). pick t (Some x) (lookup k xs)) (ne_eqb (rank x) (rank_of k) (λ q. omega (arith, l, e, q)))
       ∙ look home (rank x) h xs u.others e t)
       (Memᴰ.cases_cons m)
 
-  looked : (r : Ranged k) (h : Held) (hs : List Held) → AllFit hs → lookup k hs ≡ some h → HeldFor hs k h
+  looked : (r : Ranged k) (h : Held) (hs : List Held) → AllFit hs → lookup k hs ≡ Some h → HeldFor hs k h
   looked r h [] f e = never cc
   looked r h (x ∷ xs) (and-fit fx fs) e = go (eqb (rank x) (rank_of k)) refl e (looked r h xs fs)
     where
-      go : (t : Bool) → eqb (rank x) (rank_of k) ≡ t → pick t (some x) (lookup k xs) ≡ some h
-          → (lookup k xs ≡ some h → HeldFor xs k h) → HeldFor (x ∷ xs) k h
+      go : (t : Bool) → eqb (rank x) (rank_of k) ≡ t → pick t (Some x) (lookup k xs) ≡ Some h
+          → (lookup k xs ≡ Some h → HeldFor xs k h) → HeldFor (x ∷ xs) k h
       go true q s ih =
           let same : x ≡ h = cc in
           let n = keys.same_key_lem x.entry.key k (sym (keys.rank-names x.entry.key k fx.entry.key (keys.ranged k (ranged-is k r))) ∙ q) in
@@ -68,19 +68,19 @@ module _ (k : Key) where
       go false q s ih = let d = ih s in record { among = Memᴰ.tail d.among; for = d.for }
 
   module _ (b : List ℕ) (ok : is_archive b ≡ true) (r : Ranged k) where
-    pub found : (h : Held) → (lookup k (reading b).held ≡ some h) ↔ HeldFor (reading b).held k h
+    pub found : (h : Held) → (lookup k (reading b).held ≡ Some h) ↔ HeldFor (reading b).held k h
     found h =
         let f = archive-formed b ok in (
           looked r h (reading b).held (all_fit (reading b).home 0 (reading b).held f.home f.rules),
           λ d. look (reading b).home 0 h (reading b).held f.rules (ap rank_of d.for) d.among,
         )
 
-    pub not_found : (lookup k (reading b).held ≡ none) ↔ ((h : Held) → HeldFor (reading b).held k h → ⊥)
+    pub not_found : (lookup k (reading b).held ≡ None) ↔ ((h : Held) → HeldFor (reading b).held k h → ⊥)
     not_found = (
       λ e h d. let s = (found h).1 d in never cc,
       λ nobody. go (lookup k (reading b).held) refl nobody,
     )
       where
-        go : (l : Option Held) → lookup k (reading b).held ≡ l → ((h : Held) → HeldFor (reading b).held k h → ⊥) → l ≡ none
-        go none e nobody = refl
-        go (some h) e nobody = absurd (nobody h ((found h).0 e))
+        go : (l : Option Held) → lookup k (reading b).held ≡ l → ((h : Held) → HeldFor (reading b).held k h → ⊥) → l ≡ None
+        go None e nobody = refl
+        go (Some h) e nobody = absurd (nobody h ((found h).0 e))

@@ -1,8 +1,8 @@
 -- What stands at an index of an archive is one of its entries, in range, and the only one there. Assumes nothing.
+use Rattle.std.specs.Prelude.{None, Some}
 use mathlib.Core.Path.{◌≡◌, refl, ap, subst}
 use mathlib.Core.Bool.{true}
 use mathlib.Core.List.{List, [], ◌∷◌, ◌++◌, Memᴰ}
-use mathlib.Core.Option.{none, some}
 use Prim.Native.Nat.{ℕ, zero, suc, ◌≤◌, ◌<◌}
 use native.Mathlib.Nat.{not-suc-le-zero}
 use native.Mathlib.Omega.{arith}
@@ -29,7 +29,7 @@ stands-ranged home hs index h small rules s = agrees-ranged home h small (among-
 
 -- ---- by its index
 
-pub nth-stands : (hs : List Held) (i : ℕ) {h : Held} → held_nth hs i ≡ some h → StandsAt hs i h
+pub nth-stands : (hs : List Held) (i : ℕ) {h : Held} → held_nth hs i ≡ Some h → StandsAt hs i h
 unfolding held_nth
 nth-stands [] i e = never cc
 nth-stands (x ∷ hs) zero {h} e = let same : x ≡ h = cc in record { before = []; after = hs; split = ap (λ (y : Held). y ∷ hs) same; standing = refl }
@@ -37,21 +37,21 @@ nth-stands (x ∷ hs) (suc i) e =
     let s = nth-stands hs i e in
     record { before = x ∷ s.before; after = s.after; split = ap (λ (l : List Held). x ∷ l) s.split; standing = ap suc s.standing }
 
-nth-joined : (h : Held) (pre post : List Held) → held_nth (pre ++ (h ∷ post)) (length pre) ≡ some h
+nth-joined : (h : Held) (pre post : List Held) → held_nth (pre ++ (h ∷ post)) (length pre) ≡ Some h
 unfolding held_nth
 nth-joined h [] post = refl
 nth-joined h (x ∷ pre) post = nth-joined h pre post
 
-pub stands_nth : {hs : List Held} {i : ℕ} {h : Held} → StandsAt hs i h → held_nth hs i ≡ some h
-stands_nth {hs} {h = h} s = subst (λ (i : ℕ). held_nth hs i ≡ some h) s.standing (rw s.split (nth-joined h s.before s.after))
+pub stands_nth : {hs : List Held} {i : ℕ} {h : Held} → StandsAt hs i h → held_nth hs i ≡ Some h
+stands_nth {hs} {h = h} s = subst (λ (i : ℕ). held_nth hs i ≡ Some h) s.standing (rw s.split (nth-joined h s.before s.after))
 
-pub nth-none : (hs : List Held) (i : ℕ) → held_nth hs i ≡ none → length hs ≤ i
+pub nth-none : (hs : List Held) (i : ℕ) → held_nth hs i ≡ None → length hs ≤ i
 unfolding held_nth
 nth-none [] i e = omega arith
 nth-none (x ∷ hs) zero e = never cc
 nth-none (x ∷ hs) (suc i) e = omega (arith, nth-none hs i e)
 
-pub none_nth : (hs : List Held) (i : ℕ) → length hs ≤ i → held_nth hs i ≡ none
+pub none_nth : (hs : List Held) (i : ℕ) → length hs ≤ i → held_nth hs i ≡ None
 unfolding held_nth
 none_nth [] i h = refl
 none_nth (x ∷ hs) zero h = absurd (not-suc-le-zero h)

@@ -1,4 +1,5 @@
 -- Words that are looked at first: those of a record, and those of a request. Assumes nothing.
+use Rattle.std.specs.Prelude.{None, ℕ, Err}
 use mathlib.Core.Path.{◌≡◌, refl, sym}
 use mathlib.Core.Bool.{Bool, true, false, ◌&&◌, ◌||◌}
 use mathlib.Core.List.{List}
@@ -7,17 +8,15 @@ use native.Mathlib.Omega.{arith}
 use borrow.Author.Tests.{eqb-true, eq-eqb}
 use lib.ListN.{length}
 use lib.Dec.{eqb}
+use Rattle.std.proofs.Common.{Err}
 use Rattle.bits.specs.Bits.{pick}
 use Rattle.bits.proofs.Tests.{differ, both, both⁻¹}
-use Rattle.walk.specs.declared.BitPlace.TheVariants.{Nowhere}
-use Rattle.reader.specs.Read.{refusal_of, read_is}
+use Rattle.reader.specs.Read.{refusal_of, answer_of, read_is}
 use Rattle.reader.specs.Words.{read_words_is}
-use Rattle.reader.specs.declared.Answer.TheVariants as answer
 use Rattle.archive.specs.Refusals.{plain}
 use Rattle.words.specs.RecordWords.{word}
 use Rattle.words.specs.RequestWords.{are_destination, are_group, are_request, is_request, request_from}
 use Rattle.barring.specs.Decide.{decide_is}
-use Rattle.barring.specs.declared.Decision.TheVariants.{Refused}
 use Rattle.boc.specs.Calls.{decided_number, decide_answer}
 use Rattle.promises.specs.Answers.{OneOf, Exactly}
 use Rattle.promises.specs.Calls.{Checked, wrong, right, OfDestination, identity, number, OfGroup, given, not-given, OfRequest}
@@ -94,12 +93,12 @@ module _ (w : List ℕ) where
 
 -- what is read goes to a record's words
 pub given-record : (s : List ℕ) (n words : ℕ) → (refusal_of (read_words_is s n words)).number ≡ 0
-    → (eqb words 520 ≡ true) × ((refusal_of (read_is s n).answer).number ≡ 0)
+    → (eqb words 520 ≡ true) × ((refusal_of (answer_of (read_is s n))).number ≡ 0)
 unfolding read_words_is
 given-record s n words = go (eqb words 520) refl
   where
-    go : (t : Bool) → eqb words 520 ≡ t → (refusal_of (pick t (read_is s n).answer (answer.Refused (told 9 Nowhere)))).number ≡ 0
-        → (eqb words 520 ≡ true) × ((refusal_of (read_is s n).answer).number ≡ 0)
+    go : (t : Bool) → eqb words 520 ≡ t → (refusal_of (pick t (answer_of (read_is s n)) (Err (told 9 None)))).number ≡ 0
+        → (eqb words 520 ≡ true) × ((refusal_of (answer_of (read_is s n))).number ≡ 0)
     go true f e = (f, e)
     go false f e = absurd (omega (arith, e))
 
@@ -108,7 +107,7 @@ pub asked : (b w : List ℕ) → decided_number (decide_answer b w) ≡ 0 → (i
 unfolding decide_answer
 asked b w = go (is_request w) refl
   where
-    go : (t : Bool) → is_request w ≡ t → decided_number (pick t (decide_is b (request_from w)) (Refused (plain 9))) ≡ 0
+    go : (t : Bool) → is_request w ≡ t → decided_number (pick t (decide_is b (request_from w)) (Err (plain 9))) ≡ 0
         → (is_request w ≡ true) × (decided_number (decide_is b (request_from w)) ≡ 0)
     go true f e = (f, e)
     go false f e = absurd (omega (arith, e))

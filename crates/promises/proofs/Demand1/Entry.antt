@@ -1,7 +1,7 @@
 -- The entry at an index keeps its promise. Assumes nothing.
+use Rattle.std.specs.Prelude.{Result, Ok, Err, Option, None, Some}
 use mathlib.Core.Path.{◌≡◌, refl, sym, ap, subst}
 use mathlib.Core.List.{List, [], ◌∷◌}
-use mathlib.Core.Option.{Option, none, some}
 use Prim.Native.Nat.{ℕ, ◌≤◌}
 use native.Mathlib.Omega.{arith}
 use lib.ListN.{length}
@@ -10,10 +10,6 @@ use Rattle.archive.specs.Reading.{reading}
 use Rattle.archive.specs.Checking.{check_is}
 use Rattle.archive.specs.Restoring.{held_nth, listed_as, listed_refusal, entry_is}
 use Rattle.archive.specs.declared.refusal.Refusal.{Refusal}
-use Rattle.archive.specs.declared.checking.Checked.{Checked}
-use Rattle.archive.specs.declared.checking.Checked.TheVariants as checked
-use Rattle.archive.specs.declared.Listed.{Listed}
-use Rattle.archive.specs.declared.Listed.TheVariants.{Entry, Refused}
 use Rattle.archive.proofs.Model.Rules.{archive-formed}
 use Rattle.promises.specs.Answers.{OneOf}
 use Rattle.promises.specs.Archive as said
@@ -26,6 +22,7 @@ use Rattle.promises.proofs.Archive.Indexing.{stands-ranged, stands-among, nth-st
 use Rattle.promises.proofs.Broken as broken-kept
 use Rattle.promises.proofs.Broken.{seven}
 use Rattle.promises.proofs.Demand1.Restore.{restored-held}
+use Rattle.archive.specs.declared.contents.Entry.{Entry}
 
 abbrev archives : said.Promise
 archives = archive-kept.promise
@@ -42,7 +39,7 @@ module _ (b : List ℕ) (index : ℕ) where
   unfolding entry_is
   asked k e = rw ((broken.passes b).1 k) (ap listed_as e)
 
-  no-archive : {f : Refusal} → check_is b ≡ checked.Refused f → entry_is b index ≡ Refused f
+  no-archive : {f : Refusal} → check_is b ≡ Err f → entry_is b index ≡ Err f
   unfolding entry_is
   no-archive e = rw e
 
@@ -52,17 +49,17 @@ module _ (b : List ℕ) (index : ℕ) where
   row : Both (answer b index)
   row = go (check_is b) refl (held_nth (reading b).held index) refl
     where
-      to : {r : Listed} → entry_is b index ≡ r → Both (listed_refusal r) → Both (answer b index)
+      to : {r : Result Entry Refusal} → entry_is b index ≡ r → Both (listed_refusal r) → Both (answer b index)
       to e h = subst Both (sym (ap listed_refusal e)) h
 
-      go : (c : Checked) → check_is b ≡ c → (o : Option Held) → held_nth (reading b).held index ≡ o → Both (answer b index)
-      go (checked.Refused x) e o f =
+      go : (c : Result (Unit {0}) Refusal) → check_is b ≡ c → (o : Option Held) → held_nth (reading b).held index ≡ o → Both (answer b index)
+      go (Err x) e o f =
           let k = (broken.refuses b x).0 e in
           to (no-archive e) (damaged x k, subst (OneOf (0 ∷ 7 ∷ 11 ∷ [])) (sym (seven k)) refl)
-      go checked.Archive e none f =
+      go (Ok _) e None f =
           let k = (broken.passes b).0 e in
           to (asked k f) (beyond k (subst (λ (a : Archive). length a.held ≤ index) (read_so k) (nth-none (reading b).held index f)), refl)
-      go checked.Archive e (some h) f =
+      go (Ok _) e (Some h) f =
           let k = (broken.passes b).0 e in
           to (asked k f) (success k h (subst (λ (a : Archive). StandsAt a.held index h) (read_so k) (nth-stands (reading b).held index f)), refl)
 
@@ -76,7 +73,7 @@ module _ (b : List ℕ) (index : ℕ) where
       ap listed_refusal (asked k (none_nth (reading b).held index (subst (λ (a : Archive). length a.held ≤ index) (archives.one-reading b k) l)))
 
   succeeds : (f : Refusal) → Given b index f → f.number ≡ 0
-      → (k : IsArchive b) × (h : Held) × StandsAt k.archive.held index h × (entry_is b index ≡ Entry h.entry)
+      → (k : IsArchive b) × (h : Held) × StandsAt k.archive.held index h × (entry_is b index ≡ Ok h.entry)
   succeeds f (success k h s) z = (k, h, s, asked k (stands_nth (stood k s)))
   succeeds f (damaged x k) z = absurd (omega (arith, seven k, z))
   succeeds f (beyond k l) z = absurd (omega arith)

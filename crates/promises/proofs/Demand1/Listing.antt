@@ -1,4 +1,5 @@
 -- The listing keeps its promise. Assumes nothing.
+use Rattle.std.specs.Prelude.{Result, Ok, Err}
 use mathlib.Core.Path.{◌≡◌, refl, sym, ap, ◌∙◌, subst}
 use mathlib.Core.Bool.{Bool, true, false}
 use mathlib.Core.List.{List, [], ◌∷◌}
@@ -14,10 +15,6 @@ use Rattle.archive.specs.Checking.{check_is, if_archive}
 use Rattle.archive.specs.Keeping.{leaves, over, stored_refusal}
 use Rattle.archive.specs.Listing.{listing, list_is, list_out}
 use Rattle.archive.specs.declared.refusal.Refusal.{Refusal}
-use Rattle.archive.specs.declared.checking.Checked.{Checked}
-use Rattle.archive.specs.declared.checking.Checked.TheVariants as checked
-use Rattle.archive.specs.declared.Stored.{Stored}
-use Rattle.archive.specs.declared.Stored.TheVariants.{Bytes, Refused}
 use Rattle.promises.specs.Answers.{OneOf}
 use Rattle.promises.specs.Archive as said
 use Rattle.promises.specs.Archive.{IsArchive}
@@ -39,11 +36,11 @@ module _ (b : List ℕ) where
   abbrev text : List ℕ
   text = listing (reading b)
 
-  list-leaves : (out : List ℕ) {r : Stored} → list_is b (length out) ≡ r → list_out b out ≡ leaves r text out
+  list-leaves : (out : List ℕ) {r : Result ℕ Refusal} → list_is b (length out) ≡ r → list_out b out ≡ leaves r text out
   unfolding list_out
-  list-leaves out e = ap (λ (r : Stored). leaves r text out) e
+  list-leaves out e = ap (λ (r : Result ℕ Refusal). leaves r text out) e
 
-  archive : IsArchive b → check_is b ≡ checked.Archive
+  archive : IsArchive b → check_is b ≡ Ok tt
   archive k = (broken.passes b).1 k
 
   -- the archive that the bytes are is the one that they say
@@ -54,8 +51,8 @@ module _ (b : List ℕ) where
   same_length k = ap length (same k)
 
   module _ (room : ℕ) where
-    abbrev answer_by : Checked → Bool → Stored
-    answer_by c fits = if_archive c Refused (pick fits (Bytes (length text)) (Refused (plain 8)))
+    abbrev answer_by : Result (Unit {0}) Refusal → Bool → Result ℕ Refusal
+    answer_by c fits = if_archive c Err (pick fits (Ok (length text)) (Err (plain 8)))
 
     abbrev Both : Refusal → Type 0
     Both f = Given b room f × OneOf (0 ∷ 7 ∷ 8 ∷ []) f.number
@@ -64,18 +61,18 @@ module _ (b : List ℕ) where
     unfolding list_is
     row = go (check_is b) refl (leb (length text) room) refl
       where
-        go : (c : Checked) → check_is b ≡ c → (q : Bool) → leb (length text) room ≡ q → Both (stored_refusal (answer_by c q))
-        go (checked.Refused x) e q f =
+        go : (c : Result (Unit {0}) Refusal) → check_is b ≡ c → (q : Bool) → leb (length text) room ≡ q → Both (stored_refusal (answer_by c q))
+        go (Err x) e q f =
             let k = (broken.refuses b x).0 e in
             (damaged x k, subst (OneOf (0 ∷ 7 ∷ 8 ∷ [])) (sym (seven k)) refl)
-        go checked.Archive e true f =
+        go (Ok _) e true f =
             let k = (broken.passes b).0 e in
             (success k (omega (arith, same_length k, leb-true (length text) room f)), refl)
-        go checked.Archive e false f =
+        go (Ok _) e false f =
             let k = (broken.passes b).0 e in
             (no_room k (omega (arith, same_length k, leb-false (length text) room f)), refl)
 
-    fits : (k : IsArchive b) → length (listing k.archive) ≤ room → list_is b room ≡ Bytes (length text)
+    fits : (k : IsArchive b) → length (listing k.archive) ≤ room → list_is b room ≡ Ok (length text)
     unfolding list_is
     fits k h = rw (archive k, le-leb (length text) room (omega (arith, same_length k, h)))
 
@@ -86,10 +83,10 @@ module _ (b : List ℕ) where
     back n (no_room k h) = rw (archive k, lt-leb (length text) room (omega (arith, same_length k, h)))
 
   succeeds : (out : List ℕ) (n : Refusal) → Given b (length out) n → n.number ≡ 0 → (k : IsArchive b)
-      × (list_is b (length out) ≡ Bytes (length (listing k.archive))) × (list_out b out ≡ over (listing k.archive) out)
+      × (list_is b (length out) ≡ Ok (length (listing k.archive))) × (list_out b out ≡ over (listing k.archive) out)
   succeeds out n (success k h) z =
       let x = fits (length out) k h in
-      (k, x ∙ ap Bytes (sym (same_length k)), list-leaves out x ∙ ap (λ (w : List ℕ). over w out) (sym (same k)))
+      (k, x ∙ ap Ok (sym (same_length k)), list-leaves out x ∙ ap (λ (w : List ℕ). over w out) (sym (same k)))
   succeeds out n (damaged x k) z = absurd (omega (arith, seven k, z))
   succeeds out n (no_room k h) z = absurd (omega arith)
 

@@ -1,4 +1,5 @@
 -- Reading keeps its promise. Assumes nothing.
+use Rattle.std.specs.Prelude.{Some, None, ℕ, Result, Ok, Err}
 use mathlib.Core.Path.{◌≡◌, refl, sym, ap, ◌∙◌, subst}
 use mathlib.Core.Bool.{Bool, true, false}
 use mathlib.Core.List.{List, [], ◌∷◌, append-nil}
@@ -9,7 +10,7 @@ use native.Mathlib.Omega.{arith}
 use Rattle.bits.specs.Bits.{pick}
 use Rattle.bits.specs.Frame.{bits_in, framed, Framed}
 use Rattle.bits.proofs.Frames.{framed-says, framed_is}
-use Rattle.bits.proofs.Tests.{never, differ, false-unless}
+use Rattle.bits.proofs.Tests.{differ, false-unless}
 use Rattle.codec.specs.Codec.{Outcome, ok, no, and_then, Faithful, Legal}
 use Rattle.codec.specs.Places.{is_nil}
 use Rattle.codec.specs.Whole.{whole_parse}
@@ -19,11 +20,9 @@ use Rattle.codec.proofs.Stopping.{stops-refused, ReadingCode, two, of_test, Stop
 use Rattle.grammar.specs.Grammar.{pdu}
 use Rattle.grammar.proofs.Parts.{of-pdu}
 use Rattle.grammar.specs.declared.record.Record.{Record}
-use Rattle.walk.specs.declared.BitPlace.TheVariants.{At, Nowhere}
 use Rattle.walk.specs.declared.Refusal.{Refusal}
-use Rattle.reader.specs.Read.{refusal_of, answered, refusing, read_is}
-use Rattle.reader.specs.declared.Answer.TheVariants.{Accepted, Refused}
-use Rattle.reader.specs.declared.Reading.{Reading}
+use Rattle.reader.specs.Read.{refusal_of, answer_of, found_in, refusing, answered, read_is}
+use Rattle.reader.proofs.Walked.{only_refused}
 use Rattle.pdu.specs.Accepted.{accepted_as}
 use Rattle.promises.specs.Answers.{OneOf}
 use Rattle.promises.specs.Demand1.Reading.{told, answer, Given, accepted, unframed, stopped, left_over, numbers, Promise}
@@ -36,17 +35,17 @@ data Code : ℕ → Type 0 where
   four : Code 4
 
 -- what is answered to what was read from the first bit on
-abbrev answer_to : Outcome Record → Reading
+abbrev answer_to : Outcome Record → Result Record Refusal
 answer_to o = answered (and_then o (λ a at r. pick (is_nil r) (ok a at r) (no 5 at)))
 
-abbrev answer_in : Reading → Refusal
-answer_in x = refusal_of x.answer
+abbrev answer_in : Result Record Refusal → Refusal
+answer_in x = refusal_of (answer_of x)
 
 module _ (s : List ℕ) (n : ℕ) where
   abbrev Both : Refusal → Type 1
   Both f = Given s n f × OneOf numbers f.number
 
-  at_fault : (k p : ℕ) → Framed s n → Stops Record pdu (bits_in n s) k p → ReadingCode Code k → Both (told k (At p))
+  at_fault : (k p : ℕ) → Framed s n → Stops Record pdu (bits_in n s) k p → ReadingCode Code k → Both (told k (Some p))
   at_fault k p f h two = (stopped 1 p f h, refl)
   at_fault k p f h (of_test three) = (stopped 2 p f h, refl)
   at_fault k p f h (of_test four) = (stopped 3 p f h, refl)
@@ -56,16 +55,16 @@ module _ (s : List ℕ) (n : ℕ) where
   from_first f (ok a at []) h x = (accepted a f (record { clean = h.0; faultless = h.1 }) (h.2 ∙ append-nil (pdu.print a)), refl)
   from_first f (ok a at (b ∷ r)) h x =
       let end : length (pdu.print a) ≡ at = omega (arith, h.3) in
-      subst (λ (p : ℕ). Both (told 5 (At p))) end (left_over a b r f (record { clean = h.0; faultless = h.1 }) h.2, refl)
+      subst (λ (p : ℕ). Both (told 5 (Some p))) end (left_over a b r f (record { clean = h.0; faultless = h.1 }) h.2, refl)
   from_first f (no k p) h x =
       let here : x.before ≡ p = omega (arith, x.place) in
-      subst (λ (q : ℕ). Both (told k (At q))) here (at_fault k x.before f x.stops x.code)
+      subst (λ (q : ℕ). Both (told k (Some q))) here (at_fault k x.before f x.stops x.code)
 
   row : Both (answer s n)
   unfolding read_is
   row = go (framed s n) refl
     where
-      go : (t : Bool) → framed s n ≡ t → Both (answer_in (pick t (answered (whole_parse pdu (bits_in n s))) (refusing 1 Nowhere)))
+      go : (t : Bool) → framed s n ≡ t → Both (answer_in (pick t (answered (whole_parse pdu (bits_in n s))) (refusing 1 None)))
       go true e =
           from_first (framed-says s n e) (pdu.parse 0 (bits_in n s)) (pdu.sound 0 (bits_in n s))
           (of-pdu Code passed three four (Stopping Code) (stopping Code) 0 (bits_in n s))
@@ -75,7 +74,7 @@ module _ (s : List ℕ) (n : ℕ) where
   unfolding read_is
   whole f = rw (framed_is s n f)
 
-  not-framed : (Framed s n → ⊥) → answer s n ≡ told 1 Nowhere
+  not-framed : (Framed s n → ⊥) → answer s n ≡ told 1 None
   unfolding read_is
   not-framed f = rw (false-unless (framed s n) (λ t. f (framed-says s n t)))
 
@@ -86,7 +85,7 @@ module _ (s : List ℕ) (n : ℕ) where
   back k (left_over r b more f l e) = ap answer_in (whole f) ∙ rw (e, pdu.reads r l.clean l.faultless 0 (b ∷ more), zero-add (length (pdu.print r)))
 
   succeeds : (k : Refusal) → Given s n k → k.number ≡ 0
-      → ((read_is s n).answer ≡ Accepted) × Legal pdu (read_is s n).found × (bits_in n s ≡ pdu.print (read_is s n).found)
+      → (answer_of (read_is s n) ≡ Ok tt) × Legal pdu (found_in (read_is s n)) × (bits_in n s ≡ pdu.print (found_in (read_is s n)))
   succeeds k (accepted r f l e) z =
       let x : read_is s n ≡ accepted_as r = whole f ∙ rw (e, whole-reads pdu r l) in
       rw x (refl, l, e)
@@ -94,18 +93,8 @@ module _ (s : List ℕ) (n : ℕ) where
   succeeds k (stopped m p f h) z = absurd (omega arith)
   succeeds k (left_over r b more f l e) z = absurd (omega arith)
 
-  refused : (f : Refusal) → (read_is s n).answer ≡ Refused f → read_is s n ≡ refusing f.number f.place
-  unfolding read_is
-  refused f = go (framed s n) (whole_parse pdu (bits_in n s))
-    where
-      same : (g : Refusal) → Refused g ≡ Refused f → refusing g.number g.place ≡ refusing f.number f.place
-      same g e = let x : g ≡ f = cc e in ap (λ (y : Refusal). refusing y.number y.place) x
-
-      go : (t : Bool) (o : Outcome Record) → (pick t (answered o) (refusing 1 Nowhere)).answer ≡ Refused f
-          → pick t (answered o) (refusing 1 Nowhere) ≡ refusing f.number f.place
-      go true (ok a at r) e = never cc
-      go true (no m p) e = same (told m (At p)) e
-      go false o e = same (told 1 Nowhere) e
+  refused : (f : Refusal) → answer_of (read_is s n) ≡ Err f → read_is s n ≡ refusing f.number f.place
+  refused f e = only_refused (read_is s n) e
 
 pub promise : Promise
 promise = record {

@@ -7,6 +7,7 @@ use native.Mathlib.Omega.{arith}
 use lib.ListN.{length, drop}
 use lib.Dec.{leb}
 use borrow.Author.Tests.{leb-true, leb-false, lt-leb}
+use Rattle.std.specs.Prelude.{Ok, Err}
 use Rattle.bits.specs.Bits.{pick}
 use Rattle.bits.specs.Frame.{bytes_for, pack}
 use Rattle.bits.proofs.Tests.{never, differ, false-unless, and-false}
@@ -19,7 +20,6 @@ use Rattle.grammar.specs.Grammar.{pdu}
 use Rattle.grammar.proofs.Parts.{of-pdu}
 use Rattle.grammar.specs.declared.record.Record.{Record}
 use Rattle.writer.specs.Write.{record_refusal, length_of, write_refusal, written, write_is, out_is, written_number}
-use Rattle.writer.specs.declared.Written.TheVariants.{Bits, Refused}
 use Rattle.pdu.proofs.RoundTrip.{legal_iff, written-legal}
 use Rattle.pdu.proofs.Refusals.{ThreeOrFour, three, four, refused-with}
 use Rattle.promises.specs.Answers.{OneOf}
@@ -72,14 +72,14 @@ module _ (r : Record) (out : List ℕ) where
   accepted k (no_room l h) z = absurd (omega arith)
 
   succeeds : number r out ≡ 0
-      → (write_is r out ≡ Bits (record { 0 = length_of r })) × (out_is r out ≡ pack (pdu.print r) ++ drop (bytes_for (length_of r)) out)
+      → (write_is r out ≡ Ok (record { 0 = length_of r })) × (out_is r out ≡ pack (pdu.print r) ++ drop (bytes_for (length_of r)) out)
   succeeds e = let a = accepted (number r out) row.0 e in written-legal r out a.0 a.1
 
-  leaves : (k : ℕ) → write_is r out ≡ Refused k → out_is r out ≡ out
+  leaves : (k : ℕ) → write_is r out ≡ Err k → out_is r out ≡ out
   unfolding write_is out_is
   leaves k = go (write_refusal r (length out))
     where
-      go : (w : ℕ) → written (length_of r) w ≡ Refused k → pick (is_zero w) (pack (pdu.print r) ++ drop (bytes_for (length_of r)) out) out ≡ out
+      go : (w : ℕ) → written (length_of r) w ≡ Err k → pick (is_zero w) (pack (pdu.print r) ++ drop (bytes_for (length_of r)) out) out ≡ out
       go zero e = never cc
       go (suc w) e = refl
 

@@ -12,6 +12,9 @@ row_of_determined = by_equations (λ κs a x v p. (p, refl))
 pub range_type_determined : Determined grammar.site.range_type.Kinds.ps grammar.site.range_type.Kinds.r grammar.site.range_type.Reads.Learnt
 range_type_determined = by_equations (λ κs a x v p. (p, refl))
 
+pub entries_of_determined : Determined grammar.site.entries_of.Kinds.ps grammar.site.entries_of.Kinds.r grammar.site.entries_of.Reads.Learnt
+entries_of_determined = by_equations (λ κs a x v p. (p, refl))
+
 pub range_refusal_determined : Determined grammar.site.range_refusal.Kinds.ps grammar.site.range_refusal.Kinds.r grammar.site.range_refusal.Reads.Learnt
 range_refusal_determined = by_equations (λ κs a x v p. (p, refl))
 

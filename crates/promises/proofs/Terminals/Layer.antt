@@ -8,6 +8,7 @@ use lib.ListN.{length, get_or}
 use lib.Seq.{ext_get_or}
 use lib.Dec.{eqb, leb}
 use borrow.Author.Tests.{eq-eqb, eqb-true, eqb-false, le-leb}
+use Rattle.std.specs.Prelude.{Option, Some, None, Ok}
 use Rattle.bits.specs.Bits.{pick}
 use Rattle.bits.proofs.Tests.{both, both⁻¹, never, by-test, same-pick}
 use Rattle.terminals.specs.Layers.{places}
@@ -15,8 +16,6 @@ use Rattle.terminals.specs.Lines.{fields_of, Says}
 use Rattle.terminals.specs.Profiles.{are_profiles, is_table, fields_refusal, names, set_in}
 use Rattle.terminals.specs.Answers.{table_after}
 use Rattle.terminals.specs.declared.layers.Place as layers
-use Rattle.terminals.specs.declared.layers.Third.{Third}
-use Rattle.terminals.specs.declared.layers.Third.TheVariants.{Given, Missing}
 use Rattle.terminals.specs.declared.lines.Fields.{Fields}
 use Rattle.terminals.specs.declared.lines.Line.TheVariants.{Set}
 use Rattle.terminals.proofs.Grammar.{says-reads}
@@ -30,8 +29,8 @@ use Rattle.promises.proofs.Terminals.OnLine.{set-leaves, set_at}
 -- ---- a set line on a table
 
 -- the fields of a line for a place, or for a whole layer, are not refused
-pub fine : (profile l : ℕ) (third : Third) → profile ≤ 3 → l ≤ 4 → ((x : ℕ) → third ≡ Given x → (l ≤ 3) × (i : ℕ) × Place i l (Given x))
-    → fields_refusal (fields_of profile l third false) ≡ 0
+pub fine : (profile l : ℕ) (third : Option ℕ) → profile ≤ 3 → l ≤ 4 → ((x : ℕ) → third ≡ Some x → (l ≤ 3) × (i : ℕ) × Place i l (Some x))
+    → fields_refusal (fields_of profile l third false) ≡ Ok tt
 fine profile l third p h given = gives-0 (judged f) no_value no-count
   where
     f : Fields
@@ -63,18 +62,18 @@ stays-table f t p h =
     (both⁻¹ (eq-eqb (length (set_in f places t)) 269 (length-set_in f places t ∙ h.whole)) (profiles_stay f places t p k.1))
 
 -- what it leaves
-pub leaves : (s t : List ℕ) (f : Fields) → IsTable t → Says s (Set f) → fields_refusal f ≡ 0 → table_after s t ≡ set_in f places t
+pub leaves : (s t : List ℕ) (f : Fields) → IsTable t → Says s (Set f) → fields_refusal f ≡ Ok tt → table_after s t ≡ set_in f places t
 leaves s t f h y z = set-leaves s t f (place.is-table t h) (says-reads y) z
 
 -- ---- lines for the places of a layer
 
 -- a line names places of its own layer only
-own-layer : {f : Fields} {m : ℕ} {third : Third} → Names f m third → m ≡ f.layer
+own-layer : {f : Fields} {m : ℕ} {third : Option ℕ} → Names f m third → m ≡ f.layer
 own-layer (says.all third e) = refl
 own-layer (says.one x e) = refl
 
 -- a layer but Packet Data takes a third field
-given-third : {i l : ℕ} {third : Third} → Place i l third → l ≤ 3 → (x : ℕ) × (third ≡ Given x)
+given-third : {i l : ℕ} {third : Option ℕ} → Place i l third → l ≤ 3 → (x : ℕ) × (third ≡ Some x)
 given-third (says.in_cc x h) k = (x, refl)
 given-third (says.in_mm x h) k = (10 + x, refl)
 given-third (says.in_sds x h) k = (20 + x, refl)
@@ -83,18 +82,18 @@ given-third says.in-packet-data k = absurd (omega arith)
 
 module _ (profile l : ℕ) (p : profile ≤ 3) (h : l ≤ 3) where
   abbrev one_of : ℕ → Fields
-  one_of x = fields_of profile l (Given x) false
+  one_of x = fields_of profile l (Some x) false
 
-  one-fine : {i x : ℕ} → Place i l (Given x) → fields_refusal (one_of x) ≡ 0
+  one-fine : {i x : ℕ} → Place i l (Some x) → fields_refusal (one_of x) ≡ Ok tt
   one-fine {i} {x} q =
-      fine profile l (Given x) p (omega arith)
-      (λ y e. (h, i, subst (λ (z : ℕ). Place i l (Given z)) (let g : x ≡ y = cc in g) q))
+      fine profile l (Some x) p (omega arith)
+      (λ y e. (h, i, subst (λ (z : ℕ). Place i l (Some z)) (let g : x ≡ y = cc in g) q))
 
-  one-leaves : {i x : ℕ} (s t : List ℕ) → IsTable t → Place i l (Given x) → Says s (Set (one_of x)) → table_after s t ≡ set_in (one_of x) places t
+  one-leaves : {i x : ℕ} (s t : List ℕ) → IsTable t → Place i l (Some x) → Says s (Set (one_of x)) → table_after s t ≡ set_in (one_of x) places t
   one-leaves {x = x} s t k q y = leaves s t (one_of x) k y (one-fine q)
 
   abbrev Each : List (List ℕ) → Type 0
-  Each ss = (s : List ℕ) → Among s ss → (i : ℕ) × (x : ℕ) × Place i l (Given x) × Says s (Set (one_of x))
+  Each ss = (s : List ℕ) → Among s ss → (i : ℕ) × (x : ℕ) × Place i l (Some x) × Says s (Set (one_of x))
 
   fewer : {s : List ℕ} {ss : List (List ℕ)} → Each (s ∷ ss) → Each ss
   fewer each r a = each r (there a)
@@ -110,7 +109,7 @@ module _ (profile l : ℕ) (p : profile ≤ 3) (h : l ≤ 3) where
   still-table [] t k each = k
   still-table (s ∷ ss) t k each = still-table ss (table_after s t) (after_one s ss t k each) (fewer each)
 
-  module _ {j m : ℕ} {third : Third} (q : Place j m third) where
+  module _ {j m : ℕ} {third : Option ℕ} (q : Place j m third) where
     -- a place after one of the lines
     at_one : (s : List ℕ) (ss : List (List ℕ)) (t : List ℕ) → IsTable t → (each : Each (s ∷ ss))
         → get_or (table_after s t) j 0 ≡ pick (names (one_of (each s here).1) (record { layer = m; third = third })) profile (get_or t j 0)
@@ -137,7 +136,7 @@ module _ (profile l : ℕ) (p : profile ≤ 3) (h : l ≤ 3) where
         ∙ ap (λ (b : Bool). pick b profile (get_or t j 0)) (place.names-not (one_of (each s here).1) m third (λ o. n (own-layer o)))
 
   -- the line for a place sets it, wherever it comes
-  reaches : {j x : ℕ} (s : List ℕ) {ss : List (List ℕ)} → Among s ss → (t : List ℕ) → IsTable t → Each ss → Place j l (Given x)
+  reaches : {j x : ℕ} (s : List ℕ) {ss : List (List ℕ)} → Among s ss → (t : List ℕ) → IsTable t → Each ss → Place j l (Some x)
       → Says s (Set (one_of x))
       → get_or (after_all ss t) j 0 ≡ profile
   unfolding after_all
@@ -148,7 +147,7 @@ module _ (profile l : ℕ) (p : profile ≤ 3) (h : l ≤ 3) where
       ∙ ap (λ (b : Bool). pick b profile (get_or t j 0)) (place.names_it (one_of x) (says.one x refl)))
   reaches s (there {r} {ss} a) t k each q y = reaches s a (table_after r t) (after_one r ss t k each) (fewer each) q y
 
-  pub whole-layer : (s t : List ℕ) (ss : List (List ℕ)) → IsTable t → Says s (Set (fields_of profile l Missing false)) → ByPlace profile l ss
+  pub whole-layer : (s t : List ℕ) (ss : List (List ℕ)) → IsTable t → Says s (Set (fields_of profile l None false)) → ByPlace profile l ss
       → after_all ss t ≡ table_after s t
   whole-layer s t ss k y b =
       ext_get_or 0 (after_all ss t) (table_after s t) ((still-table ss t k b.each).whole
@@ -156,20 +155,20 @@ module _ (profile l : ℕ) (p : profile ≤ 3) (h : l ≤ 3) where
       (λ j n. at j (omega (arith, (still-table ss t k b.each).whole)))
     where
       all : Fields
-      all = fields_of profile l Missing false
+      all = fields_of profile l None false
 
       all-leaves : table_after s t ≡ set_in all places t
-      all-leaves = leaves s t all k y (fine profile l Missing p (omega arith) (λ x e. never cc))
+      all-leaves = leaves s t all k y (fine profile l None p (omega arith) (λ x e. never cc))
 
       -- a place of the layer, and one of another
-      own : {j m : ℕ} {third : Third} → Place j m third → m ≡ l → get_or (after_all ss t) j 0 ≡ profile
+      own : {j m : ℕ} {third : Option ℕ} → Place j m third → m ≡ l → get_or (after_all ss t) j 0 ≡ profile
       own {j} {m} {third} q e =
           let g = given-third q (omega arith) in
-          let r : Place j l (Given g.0) = subst (λ (n : ℕ). Place j n (Given g.0)) e (subst (Place j m) g.1 q) in
+          let r : Place j l (Some g.0) = subst (λ (n : ℕ). Place j n (Some g.0)) e (subst (Place j m) g.1 q) in
           let a = b.all j g.0 r in
           reaches a.0 a.1 t k b.each r a.2
 
-      by-layer : {j m : ℕ} {third : Third} → Place j m third → (c : Bool) → eqb m l ≡ c → get_or (after_all ss t) j 0 ≡ get_or (set_in all places t) j 0
+      by-layer : {j m : ℕ} {third : Option ℕ} → Place j m third → (c : Bool) → eqb m l ≡ c → get_or (after_all ss t) j 0 ≡ get_or (set_in all places t) j 0
       by-layer {j} {m} {third} q true c =
           let e = eqb-true m l c in
           own q e

@@ -4,32 +4,31 @@ use mathlib.Core.Bool.{Bool, true, false}
 use mathlib.Core.List.{List, [], ◌∷◌, ◌++◌}
 use Prim.Native.Nat.{ℕ, ◌≤◌, ◌<◌}
 use native.Mathlib.Omega.{arith}
-use borrow.Author.Tests.{eq-eqb, ne_eqb, eqb-true, le-leb, lt-leb, leb-true, leb-false}
+use borrow.Author.Tests.{eq-eqb, ne_eqb, le-leb, lt-leb, leb-true, leb-false}
 use lib.ListN.{length, get_or, drop}
-use lib.Dec.{eqb, leb}
+use lib.Dec.{leb}
+use Rattle.std.specs.Prelude.{Option, Some, None, Result, Ok, Err}
 use Rattle.bits.specs.Bits.{pick}
 use Rattle.bits.proofs.Tests.{never, differ}
 use Rattle.terminals.specs.Layers.{places}
-use Rattle.terminals.specs.Lines.{Says, asks, two, three, four, line_of}
-use Rattle.terminals.specs.Profiles.{is_table, reset_is, reset_out, fields_refusal, names, set_in, settles, set_line}
+use Rattle.terminals.specs.Lines.{Says, line_of}
+use Rattle.terminals.specs.Profiles.{is_table, reset_is, reset_out, fields_refusal, names, set_in, without_text, settles, set_line}
 use Rattle.terminals.specs.Reading.{text_of}
 use Rattle.terminals.specs.Answers.{read_is, read_out, line_is, table_after, out_after}
 use Rattle.terminals.specs.declared.layers.Place.{Place}
-use Rattle.terminals.specs.declared.layers.Third.{Third}
 use Rattle.terminals.specs.declared.lines.Fields.{Fields}
 use Rattle.terminals.specs.declared.lines.Line.{Line}
-use Rattle.terminals.specs.declared.lines.Line.TheVariants.{Read, Set, Unreadable}
-use Rattle.terminals.specs.declared.Answer.TheVariants.{Length, Refused}
+use Rattle.terminals.specs.declared.lines.Line.TheVariants.{Read, Set}
 use Rattle.terminals.proofs.Grammar.{says-reads, Meant, meant}
 use Rattle.terminals.proofs.Setting.{length-set_in, set_in-at}
 use Rattle.terminals.proofs.Texts.{length-places}
-use Rattle.boc.specs.Serial.{line_number, line_length}
+use Rattle.boc.specs.Serial.{returned, line_length}
 use Rattle.promises.specs.Answers.{OneOf}
 use Rattle.promises.specs.Terminals as says
 use Rattle.promises.specs.Terminals.{IsTable, Gives, no_table, no_line, value, count, no_room, sets, reads, Reset, OnLine}
 use Rattle.promises.proofs.Tables.{exactly}
 use Rattle.promises.proofs.Terminals.Places as place
-use Rattle.promises.proofs.Terminals.Values.{Judged, bad-value, bad-count, good, judged, gives-16, gives-17, gives-0}
+use Rattle.promises.proofs.Terminals.Values.{Judged, bad-value, bad-count, good, judged, passes, gives-16, gives-17, gives-0}
 
 pub reset-kept : (t : List ℕ) → Reset t
 unfolding reset_is reset_out
@@ -38,63 +37,56 @@ reset-kept t = record {
   refused = λ h. let e = ne_eqb (length t) 269 h in (rw e, rw e);
 }
 
--- a line that is none says nothing
-says_something : {s : List ℕ} {l : Line} → Says s l → l ≡ Unreadable → ⊥
-says_something asks e = never cc
-says_something (two a b fa fb) e = never cc
-says_something (three a b c fa fb fc) e = never cc
-says_something (four a b c d fa fb fc fd) e = never cc
-
-settles-number : (f : Fields) → line_number (settles f) ≡ fields_refusal f
+settles-number : (f : Fields) → returned (settles f) ≡ returned (fields_refusal f)
 unfolding settles
-settles-number f = go (eqb (fields_refusal f) 0) refl
+settles-number f = go (fields_refusal f)
   where
-    go : (b : Bool) → eqb (fields_refusal f) 0 ≡ b → line_number (pick b (Length 0) (Refused (fields_refusal f))) ≡ fields_refusal f
-    go true e = sym (eqb-true (fields_refusal f) 0 e)
-    go false e = refl
+    go : (o : Result (Unit {0}) ℕ) → returned (without_text o) ≡ returned o
+    go (Ok done) = refl
+    go (Err k) = refl
 
 module _ (s t : List ℕ) where
   -- ---- the answer, by what the line says
 
   module _ (room : ℕ) where
     abbrev number : ℕ
-    number = line_number (line_is s t room)
+    number = returned (line_is s t room)
 
     of_none : is_table t ≡ false → number ≡ 9
     unfolding line_is
     of_none e = rw e
 
-    of-bad : is_table t ≡ true → line_of s ≡ Unreadable → number ≡ 15
+    of-bad : is_table t ≡ true → line_of s ≡ None → number ≡ 15
     unfolding line_is
     of-bad e k = rw (e, k)
 
-    of-set : (f : Fields) → is_table t ≡ true → line_of s ≡ Set f → number ≡ fields_refusal f
+    of-set : (f : Fields) → is_table t ≡ true → line_of s ≡ Some (Set f) → number ≡ returned (fields_refusal f)
     unfolding line_is
     of-set f e k = rw (e, k) (settles-number f)
 
-    of-read : is_table t ≡ true → line_of s ≡ Read → number ≡ line_number (read_is t room)
+    of-read : is_table t ≡ true → line_of s ≡ Some Read → number ≡ returned (read_is t room)
     unfolding line_is
     of-read e k = rw (e, k)
 
-    fits : length (text_of t) ≤ room → line_number (read_is t room) ≡ 0
+    fits : length (text_of t) ≤ room → returned (read_is t room) ≡ 0
     unfolding read_is
     fits h = rw (le-leb (length (text_of t)) room h)
 
-    fits_not : room < length (text_of t) → line_number (read_is t room) ≡ 8
+    fits_not : room < length (text_of t) → returned (read_is t room) ≡ 8
     unfolding read_is
     fits_not h = rw (lt-leb (length (text_of t)) room h)
 
     -- ---- the table of refusals
 
-    by-fields : (f : Fields) {k : ℕ} → IsTable t → Says s (Set f) → Judged f k → Gives s t room k
+    by-fields : (f : Fields) {k : Result (Unit {0}) ℕ} → IsTable t → Says s (Set f) → Judged f k → Gives s t room (returned k)
     by-fields f h y (bad-value b) = value f h y b
     by-fields f h y (bad-count n b) = count f h y n b
     by-fields f h y (good n m) = sets f h y n m
 
-    by-line : IsTable t → is_table t ≡ true → (l : Line) → line_of s ≡ l → Meant s l → Gives s t room number
-    by-line h e Unreadable k m = subst (Gives s t room) (sym (of-bad e k)) (no_line h (λ l y. says_something y (sym (says-reads y) ∙ k)))
-    by-line h e (Set f) k m = subst (Gives s t room) (sym (of-set f e k)) (by-fields f h m (judged f))
-    by-line h e Read k m = go (leb (length (text_of t)) room) refl
+    by-line : IsTable t → is_table t ≡ true → (l : Option Line) → line_of s ≡ l → Meant s l → Gives s t room number
+    by-line h e None k m = subst (Gives s t room) (sym (of-bad e k)) (no_line h (λ l y. let e = sym k ∙ says-reads y in never cc))
+    by-line h e (Some (Set f)) k m = subst (Gives s t room) (sym (of-set f e k)) (by-fields f h m (judged f))
+    by-line h e (Some Read) k m = go (leb (length (text_of t)) room) refl
       where
         go : (b : Bool) → leb (length (text_of t)) room ≡ b → Gives s t room number
         go true r =
@@ -120,21 +112,20 @@ module _ (s t : List ℕ) where
     listed (sets f h y n m) = refl
     listed (reads h y n) = refl
 
-    nothing_read : ((l : Line) → Says s l → ⊥) → line_of s ≡ Unreadable
+    nothing_read : ((l : Line) → Says s l → ⊥) → line_of s ≡ None
     nothing_read n = go (line_of s) (meant s)
       where
-        go : (l : Line) → Meant s l → l ≡ Unreadable
-        go Unreadable m = refl
-        go (Set f) m = absurd (n (Set f) m)
-        go Read m = absurd (n Read m)
+        go : (l : Option Line) → Meant s l → l ≡ None
+        go None m = refl
+        go (Some l) m = absurd (n l m)
 
     back : (k : ℕ) → Gives s t room k → number ≡ k
     back k (no_table h) = of_none (place.no_table t h)
     back k (no_line h n) = of-bad (place.is-table t h) (nothing_read n)
-    back k (value f h y b) = of-set f (place.is-table t h) (says-reads y) ∙ gives-16 (judged f) b
-    back k (count f h y n b) = of-set f (place.is-table t h) (says-reads y) ∙ gives-17 (judged f) n b
+    back k (value f h y b) = of-set f (place.is-table t h) (says-reads y) ∙ ap returned (gives-16 (judged f) b)
+    back k (count f h y n b) = of-set f (place.is-table t h) (says-reads y) ∙ ap returned (gives-17 (judged f) n b)
     back k (no_room h y n) = of-read (place.is-table t h) (says-reads y) ∙ fits_not n
-    back k (sets f h y n m) = of-set f (place.is-table t h) (says-reads y) ∙ gives-0 (judged f) n m
+    back k (sets f h y n m) = of-set f (place.is-table t h) (says-reads y) ∙ ap returned (gives-0 (judged f) n m)
     back k (reads h y n) = of-read (place.is-table t h) (says-reads y) ∙ fits n
 
     -- only a table is not refused
@@ -147,29 +138,29 @@ module _ (s t : List ℕ) where
 
   -- ---- what a line leaves
 
-  pub set-leaves : (f : Fields) → is_table t ≡ true → line_of s ≡ Set f → fields_refusal f ≡ 0 → table_after s t ≡ set_in f places t
+  pub set-leaves : (f : Fields) → is_table t ≡ true → line_of s ≡ Some (Set f) → fields_refusal f ≡ Ok tt → table_after s t ≡ set_in f places t
   unfolding table_after set_line
-  set-leaves f e k z = rw (e, k, eq-eqb (fields_refusal f) 0 z)
+  set-leaves f e k z = rw (e, k, z)
 
   module _ (out : List ℕ) (old : ℕ) where
-    set-length : (f : Fields) → is_table t ≡ true → line_of s ≡ Set f → fields_refusal f ≡ 0 → line_length (line_is s t (length out)) old ≡ 0
+    set-length : (f : Fields) → is_table t ≡ true → line_of s ≡ Some (Set f) → fields_refusal f ≡ Ok tt → line_length (line_is s t (length out)) old ≡ 0
     unfolding line_is settles
-    set-length f e k z = rw (e, k, eq-eqb (fields_refusal f) 0 z)
+    set-length f e k z = rw (e, k, z)
 
-    set_writes : (f : Fields) → is_table t ≡ true → line_of s ≡ Set f → out_after s t out ≡ out
+    set_writes : (f : Fields) → is_table t ≡ true → line_of s ≡ Some (Set f) → out_after s t out ≡ out
     unfolding out_after
     set_writes f e k = rw (e, k)
 
-    read-leaves : is_table t ≡ true → line_of s ≡ Read → table_after s t ≡ t
+    read-leaves : is_table t ≡ true → line_of s ≡ Some Read → table_after s t ≡ t
     unfolding table_after
     read-leaves e k = rw (e, k)
 
-    read_writes : is_table t ≡ true → line_of s ≡ Read → length (text_of t) ≤ length out
+    read_writes : is_table t ≡ true → line_of s ≡ Some Read → length (text_of t) ≤ length out
         → (line_length (line_is s t (length out)) old ≡ length (text_of t)) × (out_after s t out ≡ text_of t ++ drop (length (text_of t)) out)
     unfolding line_is out_after read_is read_out
     read_writes e k h = let l = le-leb (length (text_of t)) (length out) h in (rw (e, k, l), rw (e, k, l))
 
-    read-room : is_table t ≡ true → line_of s ≡ Read → number (length out) ≡ 0 → length (text_of t) ≤ length out
+    read-room : is_table t ≡ true → line_of s ≡ Some Read → number (length out) ≡ 0 → length (text_of t) ≤ length out
     read-room e k z = go (leb (length (text_of t)) (length out)) refl
       where
         go : (b : Bool) → leb (length (text_of t)) (length out) ≡ b → length (text_of t) ≤ length out
@@ -185,36 +176,40 @@ module _ (s t : List ℕ) where
     unfolding line_is table_after out_after
     none_stays e = (rw e, rw e, rw e)
 
-    bad-stays : is_table t ≡ true → line_of s ≡ Unreadable → Stays
+    bad-stays : is_table t ≡ true → line_of s ≡ None → Stays
     unfolding line_is table_after out_after
     bad-stays e k = (rw (e, k), rw (e, k), rw (e, k))
 
-    set-stays : (f : Fields) → is_table t ≡ true → line_of s ≡ Set f → (fields_refusal f ≡ 0 → ⊥) → Stays
+    set-stays : (f : Fields) → is_table t ≡ true → line_of s ≡ Some (Set f) → {n : ℕ} → fields_refusal f ≡ Err n → Stays
     unfolding line_is table_after out_after settles set_line
-    set-stays f e k z = let n = ne_eqb (fields_refusal f) 0 z in (rw (e, k, n), rw (e, k), rw (e, k, n))
+    set-stays f e k z = (rw (e, k, z), rw (e, k), rw (e, k, z))
 
-    read_stays : is_table t ≡ true → line_of s ≡ Read → length out < length (text_of t) → Stays
+    read_stays : is_table t ≡ true → line_of s ≡ Some Read → length out < length (text_of t) → Stays
     unfolding line_is table_after out_after read_is read_out
     read_stays e k h = let n = lt-leb (length (text_of t)) (length out) h in (rw (e, k), rw (e, k, n), rw (e, k, n))
 
     refused : (number (length out) ≡ 0 → ⊥) → Stays
     refused z = go (is_table t) refl
       where
-        reading : is_table t ≡ true → line_of s ≡ Read → (b : Bool) → leb (length (text_of t)) (length out) ≡ b → Stays
+        reading : is_table t ≡ true → line_of s ≡ Some Read → (b : Bool) → leb (length (text_of t)) (length out) ≡ b → Stays
         reading e k true r = absurd (z (of-read (length out) e k ∙ fits (length out) (leb-true (length (text_of t)) (length out) r)))
         reading e k false r = read_stays e k (leb-false (length (text_of t)) (length out) r)
 
-        line : is_table t ≡ true → (l : Line) → line_of s ≡ l → Stays
-        line e Unreadable k = bad-stays e k
-        line e (Set f) k = set-stays f e k (λ n. z (of-set (length out) f e k ∙ n))
-        line e Read k = reading e k (leb (length (text_of t)) (length out)) refl
+        setting : (f : Fields) → is_table t ≡ true → line_of s ≡ Some (Set f) → (o : Result (Unit {0}) ℕ) → fields_refusal f ≡ o → Stays
+        setting f e k (Ok done) n = absurd (z (of-set (length out) f e k ∙ ap returned n))
+        setting f e k (Err m) n = set-stays f e k n
+
+        line : is_table t ≡ true → (l : Option Line) → line_of s ≡ l → Stays
+        line e None k = bad-stays e k
+        line e (Some (Set f)) k = setting f e k (fields_refusal f) refl
+        line e (Some Read) k = reading e k (leb (length (text_of t)) (length out)) refl
 
         go : (b : Bool) → is_table t ≡ b → Stays
         go true e = line e (line_of s) refl
         go false e = none_stays e
 
 -- a place after a set line
-pub set_at : (f : Fields) (t : List ℕ) {i l : ℕ} {third : Third} → length t ≡ 269 → says.Place i l third
+pub set_at : (f : Fields) (t : List ℕ) {i l : ℕ} {third : Option ℕ} → length t ≡ 269 → says.Place i l third
     → get_or (set_in f places t) i 0 ≡ pick (names f (record { layer = l; third = third })) f.profile (get_or t i 0)
 set_at f t {i} h p =
     set_in-at f places t i (omega (arith, place.inside p, length-places)) (omega (arith, place.inside p))
@@ -226,7 +221,7 @@ line_kept s t out old = record {
   set = λ f y z.
       let e = a-table s t (length out) z in
       let k = says-reads y in
-      let n : fields_refusal f ≡ 0 = sym (of-set s t (length out) f e k) ∙ z in
+      let n = passes (judged f) (sym (of-set s t (length out) f e k) ∙ z) in
       let l = set-leaves s t f e k n in
       let w = (place.table_is t e).whole in (
         set-length s t out old f e k n,

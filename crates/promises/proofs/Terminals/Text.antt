@@ -10,20 +10,19 @@ use borrow.Author.Tests.{ne_eqb, eqb-true, eqb-false, leb-true, ltb-true, ltb-fa
 use lib.ListN.{length, get_or, drop, replicate, length-append, get_or-replicate}
 use lib.Seq.{ext_get_or}
 use lib.Dec.{eqb, leb, ltb}
+use Rattle.std.specs.Prelude.{Option, Some, None}
 use Rattle.bits.specs.Bits.{pick}
 use Rattle.bits.proofs.Tests.{both, both⁻¹, never}
-use Rattle.text.specs.Decimal.{digits, decimal}
+use Rattle.text.specs.Decimal.{digits, decimal, item}
 use Rattle.text.specs.Field.{is_digit}
 use Rattle.text.proofs.Decimals.{decimal-one}
 use Rattle.text.proofs.Fields.{digit-is}
 use Rattle.terminals.specs.Layers.{layer_at, values, places, nowhere}
 use Rattle.terminals.specs.Lines.{set_word, are_digits, fields_of, Says, two, three}
 use Rattle.terminals.specs.Profiles.{are_profiles, is_table, set_in, reset_out}
-use Rattle.terminals.specs.Reading.{comma, line_end, item, place_text, line_text, lines_text, led, text_of}
+use Rattle.terminals.specs.Reading.{comma, line_end, place_text, line_text, lines_text, led, text_of}
 use Rattle.terminals.specs.Answers.{table_after}
 use Rattle.terminals.specs.declared.layers.Place as layers
-use Rattle.terminals.specs.declared.layers.Third.{Third}
-use Rattle.terminals.specs.declared.layers.Third.TheVariants.{Given, Missing}
 use Rattle.terminals.specs.declared.lines.Fields.{Fields}
 use Rattle.terminals.specs.declared.lines.Line.TheVariants.{Set}
 use Rattle.terminals.proofs.Grammar.{decimal-field}
@@ -38,12 +37,12 @@ use Rattle.promises.proofs.Terminals.Layer.{fine, stays-table, leaves}
 -- ---- a line
 
 -- the line of a place off "both", spelt out
-line-is : (v l : ℕ) (third : Third) → (v ≡ 2 → ⊥)
+line-is : (v l : ℕ) (third : Option ℕ) → (v ≡ 2 → ⊥)
     → line_text v (record { layer = l; third = third }) ≡ decimal v ++ (44 ∷ decimal l ++ (third_text third ++ (13 ∷ 10 ∷ [])))
 unfolding item place_text third_text
-line-is v l Missing h = off-line v (record { layer = l; third = Missing }) h ∙ append_assoc (decimal v) comma (decimal l ++ line_end)
-line-is v l (Given x) h =
-    off-line v (record { layer = l; third = Given x }) h
+line-is v l None h = off-line v (record { layer = l; third = None }) h ∙ append_assoc (decimal v) comma (decimal l ++ line_end)
+line-is v l (Some x) h =
+    off-line v (record { layer = l; third = Some x }) h
     ∙ append_assoc (decimal v) comma ((decimal l ++ comma) ++ (decimal x ++ line_end))
     ∙ ap (λ (s : List ℕ). decimal v ++ (44 ∷ s)) (append_assoc (decimal l) comma (decimal x ++ line_end))
 
@@ -59,7 +58,7 @@ module _ (t : List ℕ) (h : IsTable t) where
   at_default : (i : ℕ) → i < 269 → get_or t i 0 ≡ 2 → from i ≡ from (i + 1)
   at_default i k e = step i k ∙ ap (λ (s : List ℕ). s ++ from (i + 1)) (no_line (get_or t i 0) (get_or places i nowhere) e)
 
-  at_off : (i l : ℕ) (third : Third) → Place i l third → (get_or t i 0 ≡ 2 → ⊥)
+  at_off : (i l : ℕ) (third : Option ℕ) → Place i l third → (get_or t i 0 ≡ 2 → ⊥)
       → from i ≡ (decimal (get_or t i 0) ++ (44 ∷ decimal l ++ (third_text third ++ (13 ∷ 10 ∷ [])))) ++ from (i + 1)
   at_off i l third q e =
       step i (place.inside q)
@@ -210,7 +209,7 @@ no_lf-digits (b ∷ d) e =
 -- ---- a line of the text as a set line
 
 -- layers and third fields are short
-small : {i l : ℕ} {third : Third} → Place i l third → (l ≤ 4) × ((x : ℕ) → third ≡ Given x → (l ≤ 3) × (x < 1000))
+small : {i l : ℕ} {third : Option ℕ} → Place i l third → (l ≤ 4) × ((x : ℕ) → third ≡ Some x → (l ≤ 3) × (x < 1000))
 small (says.in_cc x h) = (omega arith, λ y e. (omega arith, let k : x ≡ y = cc in omega arith))
 small (says.in_mm x h) = (omega arith, λ y e. (omega arith, let k : 10 + x ≡ y = cc in omega arith))
 small (says.in_sds x h) = (omega arith, λ y e. (omega arith, let k : 20 + x ≡ y = cc in omega arith))
@@ -218,43 +217,43 @@ small (says.in_sds_tl x h) = (omega arith, λ y e. (omega arith, let k : x ≡ y
 small says.in-packet-data = (omega arith, λ y e. never cc)
 
 -- without its LF
-abbrev body : ℕ → ℕ → Third → List ℕ
+abbrev body : ℕ → ℕ → Option ℕ → List ℕ
 body v l third = decimal v ++ (44 ∷ decimal l ++ (third_text third ++ (13 ∷ [])))
 
-no_lf-third : (third : Third) → ((x : ℕ) → third ≡ Given x → x < 1000) → no_lf (third_text third ++ (13 ∷ [])) ≡ true
+no_lf-third : (third : Option ℕ) → ((x : ℕ) → third ≡ Some x → x < 1000) → no_lf (third_text third ++ (13 ∷ [])) ≡ true
 unfolding no_lf third_text
-no_lf-third Missing h = refl
-no_lf-third (Given x) h = no_lf_append (decimal x) (13 ∷ []) (no_lf-digits (decimal x) (decimal-field x (h x refl)).0.digits) refl
+no_lf-third None h = refl
+no_lf-third (Some x) h = no_lf_append (decimal x) (13 ∷ []) (no_lf-digits (decimal x) (decimal-field x (h x refl)).0.digits) refl
 
-no_lf-body : (v l : ℕ) (third : Third) → v < 1000 → l < 1000 → ((x : ℕ) → third ≡ Given x → x < 1000) → no_lf (body v l third) ≡ true
+no_lf-body : (v l : ℕ) (third : Option ℕ) → v < 1000 → l < 1000 → ((x : ℕ) → third ≡ Some x → x < 1000) → no_lf (body v l third) ≡ true
 unfolding no_lf
 no_lf-body v l third a b c =
     no_lf_append (decimal v) (44 ∷ decimal l ++ (third_text third ++ (13 ∷ []))) (no_lf-digits (decimal v) (decimal-field v a).0.digits)
     (no_lf_append (decimal l) (third_text third ++ (13 ∷ [])) (no_lf-digits (decimal l) (decimal-field l b).0.digits) (no_lf-third third c))
 
-body-says : (v l : ℕ) (third : Third) → v < 1000 → l < 1000 → ((x : ℕ) → third ≡ Given x → x < 1000)
+body-says : (v l : ℕ) (third : Option ℕ) → v < 1000 → l < 1000 → ((x : ℕ) → third ≡ Some x → x < 1000)
     → Says (set_word ++ body v l third) (Set (fields_of v l third false))
 unfolding third_text
-body-says v l Missing a b c =
+body-says v l None a b c =
     let f = decimal-field v a in
     let g = decimal-field l b in
-    subst (λ (x : Fields). Says (set_word ++ body v l Missing) (Set x)) (λ i. fields_of (f.1 i) (g.1 i) Missing false)
+    subst (λ (x : Fields). Says (set_word ++ body v l None) (Set x)) (λ i. fields_of (f.1 i) (g.1 i) None false)
     (two (decimal v) (decimal l) f.0 g.0)
-body-says v l (Given x) a b c =
+body-says v l (Some x) a b c =
     let f = decimal-field v a in
     let g = decimal-field l b in
     let k = decimal-field x (c x refl) in
-    subst (λ (y : Fields). Says (set_word ++ body v l (Given x)) (Set y)) (λ i. fields_of (f.1 i) (g.1 i) (Given (k.1 i)) false)
+    subst (λ (y : Fields). Says (set_word ++ body v l (Some x)) (Set y)) (λ i. fields_of (f.1 i) (g.1 i) (Some (k.1 i)) false)
     (three (decimal v) (decimal l) (decimal x) f.0 g.0 k.0)
 
 -- the line with its LF, before others
-with_lf : (v l : ℕ) (third : Third) (rest : List ℕ)
+with_lf : (v l : ℕ) (third : Option ℕ) (rest : List ℕ)
     → (decimal v ++ (44 ∷ decimal l ++ (third_text third ++ (13 ∷ 10 ∷ [])))) ++ rest ≡ body v l third ++ (10 ∷ rest)
 with_lf v l third rest = simp append_assoc
 
 -- ---- put back
 
-no_third : {i l : ℕ} {third : Third} → Place i l third → third ≡ Missing → l ≡ 4
+no_third : {i l : ℕ} {third : Option ℕ} → Place i l third → third ≡ None → l ≡ 4
 no_third (says.in_cc x h) e = never cc
 no_third (says.in_mm x h) e = never cc
 no_third (says.in_sds x h) e = never cc
@@ -262,7 +261,7 @@ no_third (says.in_sds_tl x h) e = never cc
 no_third says.in-packet-data e = refl
 
 -- a line for a place names no other
-names-only : {i j l m : ℕ} {third other : Third} (v : ℕ) → Place i l third → Place j m other → Names (fields_of v l third false) m other → i ≡ j
+names-only : {i j l m : ℕ} {third other : Option ℕ} (v : ℕ) → Place i l third → Place j m other → Names (fields_of v l third false) m other → i ≡ j
 names-only v p q (says.all other e) = place.last-place p (no_third p e) ∙ sym (place.last-place q (no_third p e))
 names-only {i} {l = l} v p q (says.one x e) = place.one_place (subst (Place i l) e p) q
 
@@ -271,9 +270,9 @@ unfolding is_table are_profiles
 fresh = place.table_is (replicate 269 2) refl
 
 -- a line for a place names it
-names-own : (v l : ℕ) (third : Third) → Names (fields_of v l third false) l third
-names-own v l Missing = says.all Missing refl
-names-own v l (Given x) = says.one x refl
+names-own : (v l : ℕ) (third : Option ℕ) → Names (fields_of v l third false) l third
+names-own v l None = says.all None refl
+names-own v l (Some x) = says.one x refl
 
 module _ (t : List ℕ) (h : IsTable t) where
   abbrev v : ℕ → ℕ
@@ -287,14 +286,14 @@ module _ (t : List ℕ) (h : IsTable t) where
   unfolding as_set_lines pieces
   sets-none i k = ap (λ (s : List ℕ). as_set_lines (pieces [] s)) (lines-over t i h.whole k)
 
-  module _ (i l : ℕ) (third : Third) (p : Place i l third) where
+  module _ (i l : ℕ) (third : Option ℕ) (p : Place i l third) where
     abbrev fields : Fields
     fields = fields_of (v i) l third false
 
     abbrev line : List ℕ
     line = set_word ++ body (v i) l third
 
-    values-short : (x : ℕ) → third ≡ Given x → x < 1000
+    values-short : (x : ℕ) → third ≡ Some x → x < 1000
     values-short x e = ((small p).1 x e).1
 
     line-says : Says line (Set fields)

@@ -1,13 +1,12 @@
 -- Demand 1, the decision: "9, 7. Each is given exactly then." With 7 its entry and place. It is lent nothing to change.
-use Rattle.std.specs.Prelude.{◌≡◌, refl, ◌↔◌, List, [], ◌∷◌, ℕ, ◌≤◌, ◌<◌, take, drop, replicate}
+use Rattle.std.specs.Prelude.{◌≡◌, refl, ◌↔◌, List, [], ◌∷◌, ℕ, ◌≤◌, ◌<◌, take, drop, replicate, Option, Some, None, Result, Ok}
 use Rattle.bits.specs.Lists.{Each}
 use Rattle.rules.specs.Request.{request_refusal, requests}
 use Rattle.rules.specs.ProfileCalls.{speech}
+use Rattle.rules.specs.declared.Cause.TheVariants.{OutsideGroup, RestrictedService, RestrictedAddress}
 use Rattle.rules.specs.declared.request.User.{User}
 use Rattle.rules.specs.declared.request.Destination.{Destination}
 use Rattle.rules.specs.declared.request.Destination.TheVariants.{Identity, Number}
-use Rattle.rules.specs.declared.request.Group.{Group}
-use Rattle.rules.specs.declared.request.Group.TheVariants.{Of, NoGroup}
 use Rattle.rules.specs.declared.request.Request.{Request}
 use Rattle.archive.specs.Refusals.{plain}
 use Rattle.archive.specs.Examples.{calls}
@@ -35,9 +34,9 @@ Reached (Identity u) = Below u
 Reached (Number length) = (1 ≤ length.0) × (length.0 ≤ 24)
 
 -- a group or none
-abbrev pub Grouped : Group → Type 0
-Grouped (Of u) = Below u
-Grouped NoGroup = Unit {0}
+abbrev pub Grouped : Option User → Type 0
+Grouped (Some u) = Below u
+Grouped None = Unit {0}
 
 -- an identity uses no digit place, a number as many as its length
 abbrev pub used : Destination → ℕ
@@ -64,17 +63,17 @@ pub data Given (b : List ℕ) (q : Request) : Refusal → Type 0 where
   damaged : (f : Refusal) → Ranged q → Broken b f → Given b q f
 
 -- each is met
-met : (answer (replicate 5 0) (speech 1 100 NoGroup) ≡ plain 0) × (answer [] (speech 16777216 100 NoGroup) ≡ plain 9) × (answer [] (speech 1 100 NoGroup) ≡ plain 7)
+met : (answer (replicate 5 0) (speech 1 100 None) ≡ plain 0) × (answer [] (speech 16777216 100 None) ≡ plain 9) × (answer [] (speech 1 100 None) ≡ plain 7)
 unfolding calls requests decide_is
 met = (refl, refl, refl)
 
 -- the number of a decision: 0 to 2 barred with that cause of table 38, 3 allowed, 4 not held
-pub data Verdict : ℕ → Decision → Type 0 where
-  outside-group : Verdict 0 (Barred 0)
-  restricted-service : Verdict 1 (Barred 1)
-  restricted-address : Verdict 2 (Barred 2)
-  allowed : Verdict 3 Allowed
-  not-held : Verdict 4 NotHeld
+pub data Verdict : ℕ → Result Decision Refusal → Type 0 where
+  outside-group : Verdict 0 (Ok (Barred OutsideGroup))
+  restricted-service : Verdict 1 (Ok (Barred RestrictedService))
+  restricted-address : Verdict 2 (Ok (Barred RestrictedAddress))
+  allowed : Verdict 3 (Ok Allowed)
+  not-held : Verdict 4 (Ok NotHeld)
 
 -- Proved in proofs/Demand1/Decision.antt.
 pub record Promise : Type 0 where

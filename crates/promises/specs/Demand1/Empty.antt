@@ -1,8 +1,7 @@
 -- Demand 1, the empty archive: "9, 8. Each is given exactly then."
-use Rattle.std.specs.Prelude.{◌≡◌, refl, List, [], ◌∷◌, ℕ, ◌/◌, ◌%◌, ◌≤◌, ◌<◌, length}
+use Rattle.std.specs.Prelude.{◌≡◌, refl, List, [], ◌∷◌, ℕ, ◌/◌, ◌%◌, ◌≤◌, ◌<◌, length, Ok, Err}
 use Rattle.archive.specs.Keeping.{stored_refusal, over, empty_is, empty_out}
 use Rattle.archive.specs.declared.refusal.Refusal.{Refusal}
-use Rattle.archive.specs.declared.Stored.TheVariants.{Bytes, Refused}
 use Rattle.promises.specs.Answers.{Exactly}
 
 abbrev pub number : ℕ → ℕ → ℕ
@@ -30,6 +29,6 @@ pub record Promise : Type 0 where
   pub table : (home room : ℕ) → Exactly (λ k. k) (number home room) (0 ∷ 9 ∷ 8 ∷ []) (Given home room)
   -- "Success returns the length written; output bytes after those that hold that length stay."
   pub success : (home : ℕ) (out : List ℕ) → number home (length out) ≡ 0
-      → (empty_is home (length out) ≡ Bytes 5) × (empty_out home out ≡ over (header home) out)
+      → (empty_is home (length out) ≡ Ok 5) × (empty_out home out ≡ over (header home) out)
   -- "A refusal returns its number only and changes no byte."
-  pub refusal : (home : ℕ) (out : List ℕ) (f : Refusal) → empty_is home (length out) ≡ Refused f → empty_out home out ≡ out
+  pub refusal : (home : ℕ) (out : List ℕ) (f : Refusal) → empty_is home (length out) ≡ Err f → empty_out home out ≡ out

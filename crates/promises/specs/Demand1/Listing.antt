@@ -1,11 +1,11 @@
 -- Demand 1, the listing that `contents` prints: 7, then 8. Each is given exactly then, with 7 its entry and place.
-use Rattle.std.specs.Prelude.{◌≡◌, refl, List, [], ◌∷◌, ℕ, ◌≤◌, ◌<◌, length, replicate}
+use Rattle.std.specs.Prelude.{◌≡◌, refl, List, [], ◌∷◌, ℕ, ◌≤◌, ◌<◌, length, replicate, Ok, Err}
 use Rattle.archive.specs.Keeping.{over, stored_refusal}
-use Rattle.archive.specs.Listing.{digits, decimal, item, two_items, first_line, lines, listing, list_is, list_out}
+use Rattle.text.specs.Decimal.{digits, decimal, item}
+use Rattle.archive.specs.Listing.{two_items, first_line, lines, listing, list_is, list_out}
 use Rattle.archive.specs.Refusals.{plain}
 use Rattle.archive.specs.Examples.{calls}
 use Rattle.archive.specs.declared.refusal.Refusal.{Refusal}
-use Rattle.archive.specs.declared.Stored.TheVariants.{Bytes, Refused}
 use Rattle.promises.specs.Answers.{Exactly}
 use Rattle.promises.specs.Archive.{IsArchive}
 use Rattle.promises.specs.Broken.{number_of, Broken}
@@ -31,6 +31,6 @@ pub record Promise : Type 0 where
   pub table : (b : List ℕ) (room : ℕ) → Exactly number_of (answer b room) (0 ∷ 7 ∷ 8 ∷ []) (Given b room)
   -- "Success returns the length written; output bytes after those that hold that length stay."
   pub success : (b out : List ℕ) → (answer b (length out)).number ≡ 0 → (k : IsArchive b)
-      × (list_is b (length out) ≡ Bytes (length (listing k.archive))) × (list_out b out ≡ over (listing k.archive) out)
+      × (list_is b (length out) ≡ Ok (length (listing k.archive))) × (list_out b out ≡ over (listing k.archive) out)
   -- a refusal changes no byte
-  pub refusal : (b out : List ℕ) (f : Refusal) → list_is b (length out) ≡ Refused f → list_out b out ≡ out
+  pub refusal : (b out : List ℕ) (f : Refusal) → list_is b (length out) ≡ Err f → list_out b out ≡ out

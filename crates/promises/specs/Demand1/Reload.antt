@@ -1,6 +1,6 @@
 -- Demand 1, reload (document 02, requests 2026-01 and 2026-06): 9, 7, 11, 12, 8, each exactly then, whether a DEFINE or a DEFINE EXTERNAL is asked
 -- for. With 7 its entry and place.
-use Rattle.std.specs.Prelude.{◌≡◌, List, [], ◌∷◌, ℕ, ◌≤◌, ◌<◌, length}
+use Rattle.std.specs.Prelude.{◌≡◌, List, [], ◌∷◌, ℕ, ◌≤◌, ◌<◌, length, Ok, Err}
 use Rattle.bits.specs.Frame.{bytes_for, pack}
 use Rattle.grammar.specs.Grammar.{pdu}
 use Rattle.grammar.specs.declared.record.Identities.{Identities}
@@ -16,7 +16,6 @@ use Rattle.archive.specs.declared.refusal.Refusal.{Refusal}
 use Rattle.reload.specs.Define.{define_of}
 use Rattle.reload.specs.Reload.{record_of, reloaded_refusal, reload_is, reload_out}
 use Rattle.reload.specs.declared.Definition.{Definition}
-use Rattle.reload.specs.declared.Reloaded.TheVariants.{Bits, Refused}
 use Rattle.reload.specs.declared.Target.{Target}
 use Rattle.reload.specs.declared.Target.TheVariants.{Define, DefineExternal}
 use Rattle.promises.specs.Answers.{Exactly}
@@ -80,8 +79,8 @@ pub record Promise : Type 0 where
   -- success: the PDU that puts the held part back; the bytes after it stay
   pub success : (t : Target) (b : List ℕ) (key : Key) (d : Definition) (out : List ℕ) → (answer t b key d out).number ≡ 0
       → (k : IsArchive b) × (h : Held) × Holds b key k h × Standing t b key d h
-      × (reload_is t b key d out ≡ Bits (record { 0 = length_of (defined t b key d h) }))
+      × (reload_is t b key d out ≡ Ok (record { 0 = length_of (defined t b key d h) }))
       × (reload_out t b key d out ≡ over (pack (pdu.print (defined t b key d h))) out)
   -- a refusal changes no byte
-  pub refusal : (t : Target) (b : List ℕ) (key : Key) (d : Definition) (out : List ℕ) (f : Refusal) → reload_is t b key d out ≡ Refused f
+  pub refusal : (t : Target) (b : List ℕ) (key : Key) (d : Definition) (out : List ℕ) (f : Refusal) → reload_is t b key d out ≡ Err f
       → reload_out t b key d out ≡ out

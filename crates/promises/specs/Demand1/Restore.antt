@@ -1,15 +1,13 @@
 -- Demand 1, restore: "9, 7, 11, 8. Each is given exactly then." With 7 its entry and place.
-use Rattle.std.specs.Prelude.{◌≡◌, refl, List, [], ◌∷◌, ◌++◌, ℕ, ◌+◌, ◌/◌, ◌≤◌, ◌<◌, length, take}
+use Rattle.std.specs.Prelude.{◌≡◌, refl, List, [], ◌∷◌, ◌++◌, ℕ, ◌+◌, ◌/◌, ◌≤◌, ◌<◌, length, take, Ok, Err, Some}
 use Rattle.archive.specs.Model.{Held, in_range}
 use Rattle.archive.specs.Filing.{filing_of, body_agrees}
 use Rattle.archive.specs.Keeping.{over}
 use Rattle.archive.specs.Restoring.{restored_refusal, restore_is, restore_out}
 use Rattle.archive.specs.Refusals.{plain, of_body}
 use Rattle.archive.specs.Examples.{calls, profile_a, part_of5, bytes_a}
-use Rattle.walk.specs.declared.BitPlace.TheVariants.{At}
 use Rattle.archive.specs.declared.refusal.Refusal.{Refusal}
 use Rattle.archive.specs.declared.contents.Key.{Key}
-use Rattle.archive.specs.declared.Restored.TheVariants.{Bits, Refused}
 use Rattle.promises.specs.Answers.{Exactly}
 use Rattle.promises.specs.Archive.{IsArchive, Ranged, HeldFor}
 use Rattle.promises.specs.Broken.{number_of, Broken}
@@ -42,7 +40,7 @@ cut_a = take 13 bytes_a ++ (0x88 ∷ 0x01 ∷ 0x2c ∷ take 17 profile_a)
 met : (answer bytes_a (part_of5 1) 18 ≡ plain 0)
     × (answer bytes_a (part_of5 3) 18 ≡ plain 9)
     × (answer [] (part_of5 1) 18 ≡ plain 7)
-    × (answer cut_a (part_of5 1) 18 ≡ of_body 0 (At 113))
+    × (answer cut_a (part_of5 1) 18 ≡ of_body 0 (Some 113))
     × (answer bytes_a (part_of5 2) 18 ≡ plain 11)
     × (answer bytes_a (part_of5 1) 17 ≡ plain 8)
     × (answer [] (record { network = 1; ssi = 16777216; part = 1 }) 18 ≡ plain 9)
@@ -57,7 +55,7 @@ pub record Promise : Type 0 where
   -- the day that is held with it; "Success returns the length written; output bytes after those that hold that length stay."
   pub success : (b : List ℕ) (key : Key) (out : List ℕ) → (answer b key (length out)).number ≡ 0
       → (k : IsArchive b) × (h : Held) × Holds b key k h
-      × (restore_is b key (length out) ≡ Bits h.entry.bits h.entry.day) × (restore_out b key out ≡ over h.body out)
+      × (restore_is b key (length out) ≡ Ok (record { bits = h.entry.bits; day = h.entry.day })) × (restore_out b key out ≡ over h.body out)
   -- a refusal changes no byte
-  pub refusal : (b : List ℕ) (key : Key) (out : List ℕ) (f : Refusal) → restore_is b key (length out) ≡ Refused f
+  pub refusal : (b : List ℕ) (key : Key) (out : List ℕ) (f : Refusal) → restore_is b key (length out) ≡ Err f
       → restore_out b key out ≡ out

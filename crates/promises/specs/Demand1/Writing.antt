@@ -1,6 +1,6 @@
 -- Demand 1, writing: "3 for a PDU type we don't read, or for anything that a record must hold as zero and doesn't; then 3 and 4 in the same order
 -- as reading; then 8. Each is given exactly then."
-use Rattle.std.specs.Prelude.{◌≡◌, refl, true, false, List, [], ◌∷◌, ◌++◌, ℕ, suc, ◌≤◌, ◌<◌, length, drop, replicate}
+use Rattle.std.specs.Prelude.{◌≡◌, refl, true, false, List, [], ◌∷◌, ◌++◌, ℕ, suc, ◌≤◌, ◌<◌, length, drop, replicate, Ok, Err}
 use Rattle.bits.specs.Frame.{bytes_for, pack}
 use Rattle.codec.specs.Codec.{Legal}
 use Rattle.codec.specs.Faults.{Faults}
@@ -11,7 +11,6 @@ use Rattle.grammar.specs.Zero.{zero_services, zero_lists, zero_record}
 use Rattle.grammar.specs.ProfileRecords.{user, asking}
 use Rattle.grammar.specs.declared.record.Record.{Record}
 use Rattle.writer.specs.Write.{record_refusal, length_of, write_refusal, write_is, out_is, written_number}
-use Rattle.writer.specs.declared.Written.TheVariants.{Bits, Refused}
 use Rattle.promises.specs.Answers.{Exactly}
 
 abbrev pub number : Record → List ℕ → ℕ
@@ -49,6 +48,6 @@ pub record Promise : Type 1 where
   pub table : (r : Record) (out : List ℕ) → Exactly (λ k. k) (number r out) (0 ∷ 3 ∷ 4 ∷ 8 ∷ []) (Given r out)
   -- "Success returns the length written; output bytes after those that hold that length stay."
   pub success : (r : Record) (out : List ℕ) → number r out ≡ 0
-      → (write_is r out ≡ Bits (record { 0 = length_of r })) × (out_is r out ≡ pack (pdu.print r) ++ drop (bytes_for (length_of r)) out)
+      → (write_is r out ≡ Ok (record { 0 = length_of r })) × (out_is r out ≡ pack (pdu.print r) ++ drop (bytes_for (length_of r)) out)
   -- "A refusal returns its number only and changes no byte."
-  pub refusal : (r : Record) (out : List ℕ) (k : ℕ) → write_is r out ≡ Refused k → out_is r out ≡ out
+  pub refusal : (r : Record) (out : List ℕ) (k : ℕ) → write_is r out ≡ Err k → out_is r out ≡ out

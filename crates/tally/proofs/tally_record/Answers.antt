@@ -10,7 +10,7 @@ use Rattle.words.specs.RecordWords.{record_from}
 use Rattle.tally.specs.Tally.{nothing}
 use Rattle.tally.specs.Inner.{Fits}
 use Rattle.tally.proofs.Parts.{refusing, then, shape, fits-element, fits-first, fits_next, fits-shape, tallies_as, fits_as}
-use Rattle.tally.proofs.tally_record.Goals.{After-tally_element-after_ss}
+use Rattle.tally.proofs.tally_record.Goals.{After-element-after_ss}
 use Rattle.tally.proofs.tally_record.Goals as goal
 
 -- no PDU is too long
@@ -18,25 +18,25 @@ fits : (r : Record) → Fits pdu r nothing
 fits r = record { short = omega (arith, pdu-size r) }
 
 -- what follows the SS type
-after-ss : (c : After-tally_element-after_ss) → let r = record_from c.args.words.now in
-    Fits (seq (element 5 kind_refusal) (λ kind. rest_of (pdu_type kind))) (from_record r) c.tally_element-after_ss.result
+after-ss : (c : After-element-after_ss) → let r = record_from c.args.words.now in
+    Fits (seq (element 5 kind_refusal) (λ kind. rest_of (pdu_type kind))) (from_record r) c.element-after_ss.result
 unfolding pdu mark
 after-ss c =
     fits-shape _ _ _ _ (fits_next _ (fits-shape _ _ _ _ (fits (record_from c.args.words.now)))
-    (refusing 6 (only ss_type) c.tally_element-after_ss.ensures refl))
+    (refusing 6 (only ss_type) c.element-after_ss.ensures refl))
 
-pub tally_element-after_kind-requires : goal.tally_element-after_kind-requires
-tally_element-after_kind-requires c = (omega arith, fits-element 5 kind_refusal (fits-first _ (after-ss (goal.at.tally_element-after_kind-requires c).After-tally_element-after_ss)))
+pub element-after_kind-requires : goal.element-after_kind-requires
+element-after_kind-requires c = (omega arith, fits-element 5 kind_refusal (fits-first _ (after-ss (goal.at.element-after_kind-requires c).After-element-after_ss)))
 
-pub tally_rest-requires : goal.tally_rest-requires
+pub rest-requires : goal.rest-requires
 unfolding record_from
-tally_rest-requires c =
-    let e = refusing 5 kind_refusal c.tally_element-after_kind.ensures c.kind_refusal.ensures in
-    (c.requires, fits_as (ap rest_of c.pdu_type.ensures) (fits_next _ (after-ss (goal.at.tally_rest-requires c).After-tally_element-after_ss) e))
+rest-requires c =
+    let e = refusing 5 kind_refusal c.element-after_kind.ensures c.kind_refusal.ensures in
+    (c.requires, fits_as (ap rest_of c.pdu_type.ensures) (fits_next _ (after-ss (goal.at.rest-requires c).After-element-after_ss) e))
 
 pub returns : goal.returns
 unfolding pdu mark record_from
 returns c =
-    let e = refusing 5 kind_refusal c.tally_element-after_kind.ensures c.kind_refusal.ensures in
-    shape _ _ _ _ (then _ (refusing 6 (only ss_type) c.tally_element-after_ss.ensures refl)
-    (shape _ _ _ _ (then _ e (tallies_as (ap rest_of c.pdu_type.ensures) c.tally_rest.ensures))))
+    let e = refusing 5 kind_refusal c.element-after_kind.ensures c.kind_refusal.ensures in
+    shape _ _ _ _ (then _ (refusing 6 (only ss_type) c.element-after_ss.ensures refl)
+    (shape _ _ _ _ (then _ e (tallies_as (ap rest_of c.pdu_type.ensures) c.rest.ensures))))

@@ -6,7 +6,7 @@ use native.Mathlib.Omega.{arith}
 use lib.ListN.{length, length-append}
 use Rattle.terminals.specs.Layers.{places}
 use Rattle.terminals.specs.Reading.{lead, lines_text, text_of}
-use Rattle.terminals.proofs.Storing.{table-length}
+use Rattle.terminals.proofs.Storing.{table_length}
 use Rattle.terminals.proofs.Texts.{text-some, text-none, read_none, read_short, read-written}
 use Rattle.terminals.proofs.read.Goals.{After-lines_length-lines, Else-lines-eq0}
 use Rattle.terminals.proofs.read.Goals as goal
@@ -39,7 +39,7 @@ returns-then-out-lines c = let all =
 
 pub write_text-requires : goal.write_text-requires
 write_text-requires c = record {
-  table_len = (table-length _ c.requires, some (goal.at.write_text-requires c).Else-lines-eq0);
+  table_len = (table_length _ c.requires, some (goal.at.write_text-requires c).Else-lines-eq0);
   table_in_bounds = omega (arith, size (goal.at.write_text-requires c).Else-lines-eq0, c.if-out-lines.false);
 }
 
@@ -53,4 +53,4 @@ returns c = let all =
 
 pub lines_length-lines-requires : goal.lines_length-lines-requires
 lines_length-lines-requires c =
-    table-length _ c.requires
+    table_length _ c.requires

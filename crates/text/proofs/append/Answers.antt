@@ -4,7 +4,7 @@ use native.Mathlib.Omega.{arith}
 use borrow.Author.Tests.{leb-true}
 use lib.ListN.{length}
 use Rattle.bits.proofs.Tests.{said-no, said-yes}
-use Rattle.text.proofs.Copies.{lent, by-laid, no_room}
+use Rattle.text.proofs.Copies.{lent, laid_in, by-laid, no_room}
 use Rattle.text.proofs.append.Goals.{Else-not-has_room}
 use Rattle.text.proofs.append.Goals as goal
 
@@ -14,6 +14,7 @@ returns-then-not-has_room c =
     no_room a.out.now a.bytes.now a.at (said-no c.has_room.ensures c.if-not-has_room.true) in record {
       value = all.0;
       out_after = all.1;
+      laid = λ h. laid_in h all;
     }
 
 room : (c : Else-not-has_room) → let a = c.args in a.at + length a.bytes.now ≤ length a.out.now
@@ -21,16 +22,18 @@ room c = leb-true _ _ (said-yes c.has_room.ensures c.if-not-has_room.false)
 
 pub returns : goal.returns
 returns c =
-    let a = c.args in let all =
-    by-laid (room (goal.at.returns c).Else-not-has_room) (lent a.out.now a.bytes.now a.at c.write_body.ensures) in record {
+    let a = c.args in
+    let laid = lent a.out.now a.bytes.now a.at c.copy_from_slice.ensures.after in
+    let all = by-laid (room (goal.at.returns c).Else-not-has_room) laid in record {
       value = all.0;
       out_after = all.1;
+      laid = λ h. laid;
     }
 
 pub overflow_add-end : goal.overflow_add-end
 overflow_add-end c =
     omega (arith, room c)
 
-pub slice_bounds-write_body-end : goal.slice_bounds-write_body-end
-slice_bounds-write_body-end c =
+pub slice_bounds-copy_from_slice-end : goal.slice_bounds-copy_from_slice-end
+slice_bounds-copy_from_slice-end c =
     omega (arith, room c)

@@ -17,7 +17,7 @@ tested : (c : After-has_room) →
     c.has_room.result ≡ leb (a.at + length (decimal a.n)) (length a.out.now)
 tested c =
     let a = c.args in
-    c.has_room.ensures ∙ ap (λ (k : ℕ). leb (a.at + k) (length a.out.now)) c.digits_of-size.ensures
+    c.has_room.ensures ∙ ap (λ (k : ℕ). leb (a.at + k) (length a.out.now)) c.digits_of-size.ensures.value
 
 room : (c : Else-not-has_room) → let a = c.args in a.at + length (decimal a.n) ≤ length a.out.now
 room c = leb-true _ _ (said-yes (tested (goal.at.Else-not-has_room c).After-has_room) c.if-not-has_room.false)
@@ -32,7 +32,7 @@ returns-then-not-has_room c =
 
 pub write_digits-requires : goal.write_digits-requires
 write_digits-requires c =
-    let e = c.digits_of-size.ensures in (omega (arith, e), omega (arith, e, room (goal.at.write_digits-requires c).Else-not-has_room))
+    let e = c.digits_of-size.ensures.value in (omega (arith, e), omega (arith, e, room (goal.at.write_digits-requires c).Else-not-has_room))
 
 pub returns : goal.returns
 returns c = let all =
@@ -43,4 +43,4 @@ returns c = let all =
 
 pub overflow_add-at : goal.overflow_add-at
 overflow_add-at c =
-    omega (arith, c.digits_of-size.ensures, room (goal.at.overflow_add-at c).Else-not-has_room)
+    omega (arith, c.digits_of-size.ensures.value, room (goal.at.overflow_add-at c).Else-not-has_room)

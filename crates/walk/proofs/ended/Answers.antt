@@ -4,18 +4,18 @@ use native.Mathlib.Omega.{arith}
 use Rattle.walk.specs.Inner.{ended_is}
 use Rattle.walk.proofs.ended.Goals as goal
 
-pub returns-then-c-n : goal.returns-then-c-n
+pub returns-in-Err : goal.returns-in-Err
 unfolding ended_is
-returns-then-c-n c =
-    let n = c.args.n.0 in
-    rw (c.in-At.is, lt-ltb c.in-At.c.at n c.if-c-n.true)
+returns-in-Err c = rw c.in-Err.is
 
-pub returns-in-Refused : goal.returns-in-Refused
+pub returns-then-end-n : goal.returns-then-end-n
 unfolding ended_is
-returns-in-Refused c = rw c.in-Refused.is
-
-pub returns-else-c-n : goal.returns-else-c-n
-unfolding ended_is
-returns-else-c-n c =
+returns-then-end-n c =
     let n = c.args.n.0 in
-    rw (c.in-At.is, le-ltb c.in-At.c.at n (omega (arith, c.if-c-n.false)), c.head_in.ensures)
+    rw (c.in-Ok.is, lt-ltb c.in-Ok.end.at n c.if-end-n.true)
+
+pub returns-else-end-n : goal.returns-else-end-n
+unfolding ended_is
+returns-else-end-n c =
+    let n = c.args.n.0 in
+    rw (c.in-Ok.is, le-ltb c.in-Ok.end.at n (omega (arith, c.if-end-n.false)), c.head_in.ensures)

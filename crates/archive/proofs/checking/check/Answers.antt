@@ -1,8 +1,9 @@
 -- Entry by entry, what is left to check decides what the check says. Assumes nothing.
+use Rattle.std.specs.Prelude.{Ok, Err}
 use mathlib.Core.Path.{◌≡◌, sym, ap, ◌∙◌, subst}
 use mathlib.Core.Bool.{Bool, true, false}
 use mathlib.Core.List.{List}
-use Prim.Native.Nat.{ℕ, suc, ◌+◌, ◌-◌, ◌≤◌, ◌<◌}
+use Prim.Native.Nat.{ℕ, suc, ◌+◌, ◌-◌, ◌*◌, ◌≤◌, ◌<◌}
 use native.Mathlib.Nat.{add-sub_cancel_left}
 use native.Mathlib.Omega.{arith}
 use borrow.Author.Tests.{leb-true, eq-eqb, ne_eqb}
@@ -11,33 +12,41 @@ use lib.Dec.{leb, eqb}
 use Rattle.bits.specs.Bits.{guard}
 use Rattle.bits.specs.Frame.{bytes_for}
 use Rattle.bits.proofs.Tests.{both, said-no, said-yes}
-use Rattle.archive.specs.Model.{Held, rank_of, entry_width, body_size, within_limits}
-use Rattle.archive.specs.Reading.{number3, entry_at, held_at}
+use Rattle.archive.specs.Model.{Held, rank_of, header_width, entry_width, body_size, within_limits}
+use Rattle.archive.specs.Reading.{number3, count_of, entry_at, held_at}
 use Rattle.archive.specs.Refusals.{plain}
 use Rattle.archive.specs.Checking.{check_is}
 use Rattle.archive.specs.Inner.{agreement_is, may_follow, fault_is}
 use Rattle.archive.specs.declared.contents.Entry.{Entry}
-use Rattle.archive.specs.declared.checking.Checked.TheVariants.{Archive, Refused}
 use Rattle.archive.proofs.Bytes.Walking.{home-is, home-small}
 use Rattle.archive.proofs.Bytes.Checking.{too_short, over-limits, begins, follows-not, room_for}
 use Rattle.archive.proofs.Bytes.Checking.{rest_is, rest-shapeless, rest-none, rest-bad, rest-next}
 use Rattle.archive.proofs.Model.Checked.{agreed, faulty}
-use Rattle.archive.proofs.checking.check.Goals.{After-body_agreement-agreement, After-bytes, After-entry_at-entry, After-loop-left, After-may_follow, At-loop-left, Else-not-may_follow}
+use Rattle.archive.proofs.checking.check.Goals.{After-body_agreement, After-bytes, After-entry_at-entry, After-loop-index, After-may_follow, At-loop-index, Else-not-may_follow, In-loop-index}
 use Rattle.archive.proofs.checking.check.Goals as goal
 
--- the bytes, the home network and the entry count
-abbrev b-of : At-loop-left → List ℕ
+-- the bytes, the home network, where the entry at hand stands, how many are left from it on, and the room behind the bodies so far
+abbrev b-of : At-loop-index → List ℕ
 b-of l = l.args.archive.now
 
-abbrev home_of : At-loop-left → ℕ
+abbrev home_of : At-loop-index → ℕ
 home_of l = l.home-home.result
 
-abbrev index_of : At-loop-left → ℕ
-index_of l = l.count-count.result - l.loop-left.left
+abbrev place : At-loop-index → ℕ
+place l = header_width + entry_width * l.loop-index.index
+
+abbrev left : At-loop-index → ℕ
+left l = l.count-count.result - l.loop-index.index
+
+abbrev room : At-loop-index → ℕ
+room l = length (b-of l) - l.loop-index.off
 
 -- the entry at hand and its body
-abbrev here : At-loop-left → Held
-here l = held_at (b-of l) l.loop-left.at l.loop-left.off
+abbrev here : At-loop-index → Held
+here l = held_at (b-of l) (place l) l.loop-index.off
+
+more : (c : In-loop-index) → 0 < left (goal.at.In-loop-index c).At-loop-index
+more c = omega (arith, c.loop-index-test.true)
 
 pub returns-then-size-lt-HEADER : goal.returns-then-size-lt-HEADER
 returns-then-size-lt-HEADER c = rw c.plain.ensures (sym (too_short _ (omega arith)))
@@ -51,96 +60,112 @@ returns-then-not-within_limits c =
 pub returns-then-size-off : goal.returns-then-size-off
 returns-then-size-off c = rw c.plain-then-size-off.ensures (sym (too_short _ (omega arith)))
 
-pub loop-left-init : goal.loop-left-init
-loop-left-init c =
+pub loop-index-init : goal.loop-index-init
+loop-index-init c =
     let b = c.args.archive.now in
     let e : within_limits c.count-count.result (length b) ≡ true = said-yes c.within_limits.ensures c.if-not-within_limits.false in
     let h : c.home-home.result ≡ number3 b 0 = c.home-home.ensures ∙ home-is b (omega arith) in
-    let first : c.count-count.result - c.count-count.result ≡ 0 = omega arith in (
-      omega arith,
-      omega arith,
+    let all : c.count-count.result - 0 ≡ count_of b = omega (arith, c.count-count.ensures.0) in (
       omega arith,
       leb-true _ _ (both (leb c.count-count.result 512) (leb (length b) 65536) e).1,
-      rw (first, h, c.count-count.ensures.0) (begins b (λ i. (c.type_inv.archive i).fits) (rw c.count-count.ensures.0 at e)),
+      record { network = omega arith; ssi = omega arith; part = omega arith },
+      rw (h, all, c.count-count.ensures.0) (begins b (λ i. (c.type_inv.archive i).fits) (rw c.count-count.ensures.0 at e)),
     )
 
 may : (c : After-may_follow) →
-    c.may_follow.result ≡ may_follow (entry_at (b-of (goal.at.After-may_follow c).At-loop-left) c.loop-left.at) c.loop-left.last (length (b-of (goal.at.After-may_follow c).At-loop-left) - c.loop-left.off)
+    let l = (goal.at.After-may_follow c).At-loop-index in
+    c.may_follow.result ≡ may_follow (entry_at (b-of l) (place l)) (rank_of c.loop-index.last) (room l)
 may c =
-    c.may_follow.ensures ∙ ap (λ (e : Entry). may_follow e c.loop-left.last (length (b-of (goal.at.After-may_follow c).At-loop-left) - c.loop-left.off)) c.entry_at-entry.ensures.0
+    let l = (goal.at.After-may_follow c).At-loop-index in
+    c.may_follow.ensures ∙ ap (λ (e : Entry). may_follow e (rank_of c.loop-index.last) (room l)) c.entry_at-entry.ensures.0
 
 pub returns-then-not-may_follow : goal.returns-then-not-may_follow
 returns-then-not-may_follow c =
+    let at = goal.at.returns-then-not-may_follow c in
     rw c.plain-then-not-may_follow.ensures
-    (sym (c.loop-left.invariant.4
-    ∙ rest-shapeless _ _ _ _ _ _ _ (follows-not (b-of (goal.at.returns-then-not-may_follow c).At-loop-left) _ _ _ _ c.loop-left-test.true (said-no (may (goal.at.returns-then-not-may_follow c).After-may_follow) c.if-not-may_follow.true))))
+    (sym (c.loop-index.invariant.3
+    ∙ rest-shapeless _ _ _ _ _ _ _ (follows-not (b-of at.At-loop-index) _ _ _ _ (more at.In-loop-index) (said-no (may at.After-may_follow) c.if-not-may_follow.true))))
 
 -- it may follow, and its body ends inside
 followed : (c : Else-not-may_follow) →
-    may_follow (entry_at (b-of (goal.at.Else-not-may_follow c).At-loop-left) c.loop-left.at) c.loop-left.last (length (b-of (goal.at.Else-not-may_follow c).At-loop-left) - c.loop-left.off) ≡ true
+    let l = (goal.at.Else-not-may_follow c).At-loop-index in
+    may_follow (entry_at (b-of l) (place l)) (rank_of c.loop-index.last) (room l) ≡ true
 followed c = said-yes (may (goal.at.Else-not-may_follow c).After-may_follow) c.if-not-may_follow.false
 
 inside : (c : After-bytes) →
-    (c.bytes.result ≡ body_size (here (goal.at.After-bytes c).At-loop-left)) × (c.loop-left.off + c.bytes.result ≤ length (b-of (goal.at.After-bytes c).At-loop-left))
+    let l = (goal.at.After-bytes c).At-loop-index in
+    (c.bytes.result ≡ body_size (here l)) × (c.loop-index.off + c.bytes.result ≤ length (b-of l))
 inside c =
+    let l = (goal.at.After-bytes c).At-loop-index in
     let size = c.bytes.ensures ∙ ap (λ (e : Entry). bytes_for e.bits.0) c.entry_at-entry.ensures.0 in
-    (size, omega (arith, size, room_for (entry_at (b-of (goal.at.After-bytes c).At-loop-left) c.loop-left.at) _ _ (followed (goal.at.After-bytes c).Else-not-may_follow), c.loop-left.invariant.2))
+    (size, omega (arith, size, room_for (entry_at (b-of l) (place l)) _ _ (followed (goal.at.After-bytes c).Else-not-may_follow), c.loop-index.invariant.0))
 
-agreement : (c : After-body_agreement-agreement) →
-    c.body_agreement-agreement.result ≡ agreement_is (home_of (goal.at.After-body_agreement-agreement c).At-loop-left) (here (goal.at.After-body_agreement-agreement c).At-loop-left)
+agreement : (c : After-body_agreement) →
+    let l = (goal.at.After-body_agreement c).At-loop-index in
+    c.body_agreement.result ≡ agreement_is (home_of l) (here l)
 agreement c =
-    let off = c.loop-left.off in
-    let n : off + c.bytes.result - off ≡ body_size (here (goal.at.After-body_agreement-agreement c).At-loop-left) = add-sub_cancel_left off c.bytes.result ∙ (inside (goal.at.After-body_agreement-agreement c).After-bytes).0 in
-    c.body_agreement-agreement.ensures
-    ∙ (λ i. agreement_is (home_of (goal.at.After-body_agreement-agreement c).At-loop-left) (record { entry = c.entry_at-entry.ensures.0 i; body = take (n i) (drop off (b-of (goal.at.After-body_agreement-agreement c).At-loop-left)) }))
+    let l = (goal.at.After-body_agreement c).At-loop-index in
+    let off = c.loop-index.off in
+    let n : off + c.bytes.result - off ≡ body_size (here l) = add-sub_cancel_left off c.bytes.result ∙ (inside (goal.at.After-body_agreement c).After-bytes).0 in
+    c.body_agreement.ensures
+    ∙ (λ i. agreement_is (home_of l) (record { entry = c.entry_at-entry.ensures.0 i; body = take (n i) (drop off (b-of l)) }))
 
 -- its day is in two bytes
-dated : (c : After-entry_at-entry) → (entry_at (b-of (goal.at.After-entry_at-entry c).At-loop-left) c.loop-left.at).day < 65536
+dated : (c : After-entry_at-entry) →
+    let l = (goal.at.After-entry_at-entry c).At-loop-index in
+    (entry_at (b-of l) (place l)).day < 65536
 dated c = subst (λ (e : Entry). e.day < 65536) c.entry_at-entry.ensures.0 c.entry_at-entry.ensures.1.day
 
 pub at_fault-requires : goal.at_fault-requires
 at_fault-requires c = record {
-  entries_in_bounds = (omega (arith, c.loop-left.invariant, c.loop-left-test.true), (inside (goal.at.at_fault-requires c).After-bytes).1, c.loop-left.invariant.3);
+  entries_in_bounds = (omega (arith, c.loop-index-test.true), (inside (goal.at.at_fault-requires c).After-bytes).1, c.loop-index.invariant.1);
   key_fits = c.entry_at-entry.ensures.1.key;
 }
 
-pub returns-in-Fault : goal.returns-in-Fault
-returns-in-Fault c =
-    let f = faulty (home_of (goal.at.returns-in-Fault c).At-loop-left) (here (goal.at.returns-in-Fault c).At-loop-left) (sym (agreement (goal.at.returns-in-Fault c).After-body_agreement-agreement) ∙ c.in-Fault.is) in
+pub returns-in-Err : goal.returns-in-Err
+returns-in-Err c =
+    let at = goal.at.returns-in-Err c in
+    let l = at.At-loop-index in
+    let f = faulty (home_of l) (here l) (sym (agreement at.After-body_agreement) ∙ c.in-Err.is) in
     sym
-    (c.loop-left.invariant.4 ∙ rest-bad (b-of (goal.at.returns-in-Fault c).At-loop-left) (home_of (goal.at.returns-in-Fault c).At-loop-left) (index_of (goal.at.returns-in-Fault c).At-loop-left) _ _ _ _ c.loop-left-test.true (dated (goal.at.returns-in-Fault c).After-entry_at-entry) (followed (goal.at.returns-in-Fault c).Else-not-may_follow) f.0 f.1
-    ∙ (λ i. fault_is (b-of (goal.at.returns-in-Fault c).At-loop-left) (sym c.entry_at-entry.ensures.0 i).key (c.loop-left.left - 1) (c.loop-left.at + entry_width)
-    (c.loop-left.off + sym (inside (goal.at.returns-in-Fault c).After-bytes).0 i) (index_of (goal.at.returns-in-Fault c).At-loop-left) c.in-Fault.place)
+    (c.loop-index.invariant.3
+    ∙ rest-bad (b-of l) (home_of l) c.loop-index.index _ _ _ _ (more at.In-loop-index) (dated at.After-entry_at-entry) (followed at.Else-not-may_follow) f.0 f.1
+    ∙ (λ i. fault_is (b-of l) (sym c.entry_at-entry.ensures.0 i).key (left l - 1) (place l + entry_width)
+    (c.loop-index.off + sym (inside at.After-bytes).0 i) c.loop-index.index c.in-Err.place)
     ∙ sym c.at_fault.ensures)
 
-pub loop-left-preserved : goal.loop-left-preserved
-loop-left-preserved c =
-    let b = b-of (goal.at.loop-left-preserved c).At-loop-left in
-    let same = c.home-home.ensures in
-    let small : home_of (goal.at.loop-left-preserved c).At-loop-left < 16777216 = omega (arith, same, home-small b (λ i. (c.type_inv.archive i).fits)) in
-    let yes = agreed (home_of (goal.at.loop-left-preserved c).At-loop-left) (here (goal.at.loop-left-preserved c).At-loop-left) (sym (agreement (goal.at.loop-left-preserved c).After-body_agreement-agreement) ∙ c.in_default.is) in
-    let rank' = c.rank-last.ensures ∙ ap (λ (e : Entry). rank_of e.key) c.entry_at-entry.ensures.0 in
-    let next : suc (index_of (goal.at.loop-left-preserved c).At-loop-left) ≡ c.count-count.result - (c.loop-left.left - 1) =
-    omega (arith, c.loop-left.invariant.0, c.loop-left-test.true) in (
-      omega (arith, c.loop-left.invariant.0),
-      omega (arith, c.loop-left.invariant.1, c.loop-left-test.true),
-      (inside (goal.at.loop-left-preserved c).After-bytes).1,
-      c.loop-left.invariant.3,
-      c.loop-left.invariant.4 ∙ rest-next b (home_of (goal.at.loop-left-preserved c).At-loop-left) (index_of (goal.at.loop-left-preserved c).At-loop-left) _ _ _ _ c.loop-left-test.true (dated (goal.at.loop-left-preserved c).After-entry_at-entry) (followed (goal.at.loop-left-preserved c).Else-not-may_follow) small yes
-          ∙ (λ i. rest_is b (home_of (goal.at.loop-left-preserved c).At-loop-left) (next i) (sym rank' i) (c.loop-left.left - 1) (c.loop-left.at + entry_width) (c.loop-left.off + sym (inside (goal.at.loop-left-preserved c).After-bytes).0 i)),
+pub loop-index-preserved : goal.loop-index-preserved
+loop-index-preserved c =
+    let at = goal.at.loop-index-preserved c in
+    let l = at.At-loop-index in
+    let b = b-of l in
+    let small : home_of l < 16777216 = omega (arith, c.home-home.ensures, home-small b (λ i. (c.type_inv.archive i).fits)) in
+    let yes = agreed (home_of l) (here l) (sym (agreement at.After-body_agreement) ∙ c.in_default.is) in
+    let rank' : rank_of c.entry_at-entry.result.key ≡ rank_of (entry_at b (place l)).key = ap (λ (e : Entry). rank_of e.key) c.entry_at-entry.ensures.0 in
+    let index : suc c.loop-index.index ≡ c.loop-index.index + 1 = omega arith in
+    let next : place l + entry_width ≡ header_width + entry_width * (c.loop-index.index + 1) = omega arith in
+    let n : left l - 1 ≡ c.count-count.result - (c.loop-index.index + 1) = omega arith in (
+      (inside at.After-bytes).1,
+      c.loop-index.invariant.1,
+      c.entry_at-entry.ensures.1.key,
+      c.loop-index.invariant.3
+          ∙ rest-next b (home_of l) c.loop-index.index _ _ _ _ (more at.In-loop-index) (dated at.After-entry_at-entry) (followed at.Else-not-may_follow) small yes
+          ∙ (λ i. rest_is b (home_of l) (index i) (sym rank' i) (n i) (next i) (c.loop-index.off + sym (inside at.After-bytes).0 i)),
     )
 
 -- all are passed: the bodies end with the bytes, or not
-ended : (c : After-loop-left) → check_is (b-of (goal.at.After-loop-left c).At-loop-left) ≡ guard (eqb c.loop-left.off (length (b-of (goal.at.After-loop-left c).At-loop-left))) (Refused (plain 7)) Archive
-ended c = c.loop-left.invariant.4 ∙ rest-none _ _ _ _ _ _ _ c.loop-left-test.false
+ended : (c : After-loop-index) →
+    let b = b-of (goal.at.After-loop-index c).At-loop-index in
+    check_is b ≡ guard (eqb c.loop-index.off (length b)) (Err (plain 7)) (Ok tt)
+ended c = c.loop-index.invariant.3 ∙ rest-none _ _ _ _ _ _ _ (omega (arith, c.loop-index-test.false))
 
 pub returns-then-off-size : goal.returns-then-off-size
 returns-then-off-size c =
     rw c.plain-then-off-size.ensures
-    (sym (ended (goal.at.returns-then-off-size c).After-loop-left ∙ ap (λ (t : Bool). guard t (Refused (plain 7)) Archive) (ne_eqb _ _ c.if-off-size.true)))
+    (sym (ended (goal.at.returns-then-off-size c).After-loop-index ∙ ap (λ (t : Bool). guard t (Err (plain 7)) (Ok tt)) (ne_eqb _ _ c.if-off-size.true)))
 
 pub returns : goal.returns
-returns c = sym (ended (goal.at.returns c).After-loop-left ∙ ap (λ (t : Bool). guard t (Refused (plain 7)) Archive) (eq-eqb _ _ c.if-off-size.false))
+returns c = sym (ended (goal.at.returns c).After-loop-index ∙ ap (λ (t : Bool). guard t (Err (plain 7)) (Ok tt)) (eq-eqb _ _ c.if-off-size.false))
 
 pub overflow_add-end : goal.overflow_add-end
 overflow_add-end c =

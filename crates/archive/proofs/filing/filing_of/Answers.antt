@@ -8,4 +8,4 @@ returns-in_default c = sym (filing-other _ _ (sym c.judge.ensures ∙ c.in_defau
 
 pub returns : goal.returns
 returns c =
-    sym (filing-part _ _ (sym c.judge.ensures ∙ c.in-Part.is) c.network_of.ensures)
+    sym (filing-part _ _ (sym c.judge.ensures ∙ c.in-Some.is) c.network_of.ensures)

@@ -5,24 +5,24 @@ use Rattle.archive.proofs.Model.Checked.{checked-archive}
 use Rattle.archive.proofs.Text.Within.{nothing}
 use Rattle.archive.proofs.listing.report.Goals as goal
 
-pub returns-in-Refused : goal.returns-in-Refused
+pub returns-in-Err : goal.returns-in-Err
 unfolding report_of told_of report_is report_out told_out
-returns-in-Refused c =
-    let e = sym c.check.ensures ∙ c.in-Refused.is in record {
+returns-in-Err c =
+    let e = sym c.check.ensures ∙ c.in-Err.is in record {
       value = rw e (λ i. record { printed = c.write_refused.ensures.value i; told = c.write_fault.ensures.value i });
       out_after = rw e c.write_refused.ensures.out_after;
       told_after = rw e c.write_fault.ensures.out_after;
     }
 
-pub returns-in-Archive : goal.returns-in-Archive
+pub returns-in-Ok : goal.returns-in-Ok
 unfolding report_of told_of report_is report_out told_out
-returns-in-Archive c =
+returns-in-Ok c =
     let none = nothing c.args.told.now in
-    let e = sym c.check.ensures ∙ c.in-Archive.is in record {
+    let e = sym c.check.ensures ∙ c.in-Ok.is in record {
       value = rw e (λ i. record { printed = c.write_listing.ensures.value i; told = none.0 i });
       out_after = rw e c.write_listing.ensures.out_after;
       told_after = rw e none.1;
     }
 
 pub write_listing-requires : goal.write_listing-requires
-write_listing-requires c = checked-archive _ (sym c.check.ensures ∙ c.in-Archive.is)
+write_listing-requires c = checked-archive _ (sym c.check.ensures ∙ c.in-Ok.is)

@@ -4,7 +4,8 @@ use Prim.Native.Nat.{ℕ, ◌+◌, ◌≤◌}
 use native.Mathlib.Omega.{arith}
 use lib.ListN.{length}
 use Rattle.bits.proofs.Laying.{then, first_fits, rest-fits}
-use Rattle.archive.specs.Listing.{space, part_word, bits_word, day_word, line_end, item, line}
+use Rattle.text.specs.Decimal.{item}
+use Rattle.archive.specs.Listing.{space, part_word, bits_word, day_word, line_end, line}
 use Rattle.archive.specs.declared.contents.Entry.{Entry}
 use Rattle.archive.proofs.listing.write_line.Goals.{After-write_item-bits_at, After-write_item-part_at, After-write_item-ssi_at}
 use Rattle.archive.proofs.listing.write_line.Goals as goal

@@ -12,7 +12,7 @@ returns-then-out-lt10 c = let all =
 
 pub returns : goal.returns
 returns c = let all =
-    laid-whole refused_line _ c.if-out-lt10.false c.append.ensures in record {
+    laid-whole refused_line _ c.if-out-lt10.false (c.append.ensures.laid c.if-out-lt10.false) in record {
       value = all.0;
       out_after = all.1;
     }

@@ -3,8 +3,10 @@ use mathlib.Core.List.{◌++◌}
 use Prim.Native.Nat.{◌+◌, ◌≤◌}
 use native.Mathlib.Omega.{arith}
 use lib.ListN.{length}
+use Rattle.bits.specs.Inner.{Laid}
 use Rattle.bits.proofs.Laying.{then, first_fits, rest-fits}
-use Rattle.archive.specs.Listing.{line_end, item, two_items}
+use Rattle.text.specs.Decimal.{item}
+use Rattle.archive.specs.Listing.{line_end, two_items}
 use Rattle.archive.proofs.listing.write_two_items.Goals.{After-append-first_at, Start}
 use Rattle.archive.proofs.listing.write_two_items.Goals as goal
 
@@ -13,17 +15,18 @@ whole : (c : Start) → let a = c.args in 0 + length (a.word.now ++ (item a.n a.
 unfolding two_items
 whole c = omega (arith, c.requires)
 
+word-laid : (c : After-append-first_at) → Laid c.args.out.now 0 c.args.word.now c.append-first_at.new.out c.append-first_at.result
+word-laid c =
+    let a = c.args in
+    c.append-first_at.ensures.laid
+    (first_fits a.word.now (item a.n a.other.now ++ item a.m line_end) 0 (whole (goal.at.After-append-first_at c).Start))
+
 after-word : (c : After-append-first_at) →
     let a = c.args in
     c.append-first_at.result + length (item a.n a.other.now ++ item a.m line_end) ≤ length c.append-first_at.new.out
 after-word c =
     let a = c.args in
-    rest-fits (item a.n a.other.now ++ item a.m line_end) (whole (goal.at.After-append-first_at c).Start) c.append-first_at.ensures
-
-pub append-first_at-requires : goal.append-first_at-requires
-append-first_at-requires c =
-    let a = c.args in
-    first_fits a.word.now (item a.n a.other.now ++ item a.m line_end) 0 (whole (goal.at.append-first_at-requires c).Start)
+    rest-fits (item a.n a.other.now ++ item a.m line_end) (whole (goal.at.After-append-first_at c).Start) (word-laid c)
 
 pub write_item-second_at-requires : goal.write_item-second_at-requires
 write_item-second_at-requires c =
@@ -37,4 +40,4 @@ write_item-requires c =
 pub returns : goal.returns
 unfolding two_items
 returns c =
-    then (omega arith) c.append-first_at.ensures (then (omega (arith, after-word (goal.at.returns c).After-append-first_at)) c.write_item-second_at.ensures c.write_item.ensures)
+    then (omega arith) (word-laid (goal.at.returns c).After-append-first_at) (then (omega (arith, after-word (goal.at.returns c).After-append-first_at)) c.write_item-second_at.ensures c.write_item.ensures)

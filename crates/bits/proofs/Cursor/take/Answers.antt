@@ -1,11 +1,11 @@
 -- Each way out is take_at's own case: no such width, too few bits of the PDU, too few bytes, or the number of the bits there. Assumes nothing.
+use Rattle.std.specs.Prelude.{Some}
 use mathlib.Core.Path.{◌≡◌, sym, ◌∙◌, ap, subst}
 use Prim.Native.Nat.{ℕ, ◌+◌, ◌-◌, ◌/◌, ◌^◌, ◌<◌}
 use native.Mathlib.Omega.{arith}
 use lib.ListN.{take, drop, length-take}
 use Rattle.bits.specs.Bits.{bits, value}
 use Rattle.bits.specs.Element.{taken_at}
-use Rattle.bits.specs.declared.Taken.TheVariants.{Element}
 use Rattle.bits.proofs.Bytes.{length-bits}
 use Rattle.bits.proofs.Numbers.{value-take-fits}
 use Rattle.bits.proofs.Windows.{window-front}
@@ -54,6 +54,6 @@ overflow_cast-result c =
 pub returns : goal.returns
 returns c =
     let a = c.args in
-    ap (λ (v : ℕ). Element v (record { at = a.self.at + a.width })) (there c)
+    ap (λ (v : ℕ). Some (v, record { at = a.self.at + a.width })) (there c)
     ∙ sym (take-there a.s.now a.n.0 a.self.at a.width
     (omega arith) (omega arith) (omega arith) (omega (arith, c.bytes.ensures)))

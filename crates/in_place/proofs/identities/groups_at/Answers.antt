@@ -2,8 +2,8 @@
 use Rattle.in_place.proofs.Lists.{group_seen, no-group_seen}
 use Rattle.in_place.proofs.identities.groups_at.Goals as goal
 
-pub returns-in-Of : goal.returns-in-Of
-returns-in-Of c = group_seen c.args.missing c.in-Of.is c.identities_at.ensures
+pub returns-in-Some : goal.returns-in-Some
+returns-in-Some c = group_seen c.args.missing c.in-Some.is c.identities_at.ensures
 
-pub returns-in-NoGroup : goal.returns-in-NoGroup
-returns-in-NoGroup c = no-group_seen c.args.missing c.in-NoGroup.is c.passed_over.ensures
+pub returns-in-None : goal.returns-in-None
+returns-in-None c = no-group_seen c.args.missing c.in-None.is c.passed_over.ensures

@@ -15,28 +15,28 @@ use Rattle.in_place.proofs.identities.singles_at.Goals as goal
 
 pub identity_at-entry-requires : goal.identity_at-entry-requires
 identity_at-entry-requires c =
-    record { few = c.requires.2.few; reads = along-next c.loop-done.invariant c.loop-done-test.true }
+    record { few = c.requires.2.few; reads = along-next c.loop.invariant (omega arith) }
 
 pub overflow_add-end : goal.overflow_add-end
 overflow_add-end c =
-    let short = identity-short _ _ (along-next c.loop-done.invariant c.loop-done-test.true) in
+    let short = identity-short _ _ (along-next c.loop.invariant (omega arith)) in
     omega (arith, c.requires.2.few, c.requires.1, length-bits c.args.s.now, short)
 
-pub loop-done-preserved : goal.loop-done-preserved
-loop-done-preserved c = let a = c.args in
-    along-more c.loop-done.invariant c.loop-done-test.true
-    (subst (λ (q : ℕ). Says identity (is_entry a.missing a.user) (bits a.s.now) c.loop-done.at c.identity_at-entry.result.has q)
+pub loop-preserved : goal.loop-preserved
+loop-preserved c = let a = c.args in
+    along-more c.loop.invariant (omega arith)
+    (subst (λ (q : ℕ). Says identity (is_entry a.missing a.user) (bits a.s.now) c.loop.at c.identity_at-entry.result.has q)
     c.if-entry-end.false c.identity_at-entry.ensures)
     (elim c.if-entry.branch [
-      | then-entry w ↦ kept c.loop-done.has w.if-entry.true w.has-is
-      | else-entry w ↦ missed c.loop-done.has w.if-entry.false w.has-is
+      | then-entry w ↦ kept c.loop.has w.if-entry.true w.has-is
+      | else-entry w ↦ missed c.loop.has w.if-entry.false w.has-is
     ])
 
 pub returns : goal.returns
-returns c = along-all c.loop-done.invariant c.loop-done-test.false (no_identity-at _)
+returns c = along-all c.loop.invariant (omega arith) (no_identity-at _)
 
-pub loop-done-init : goal.loop-done-init
-loop-done-init c =
+pub loop-init : goal.loop-init
+loop-init c =
     along-none c.requires.0 c.requires.2.reads
 
 pub returns-then-entry-end : goal.returns-then-entry-end

@@ -6,25 +6,25 @@ use native.Mathlib.Omega.{arith}
 use Rattle.walk.proofs.Sights.{bit_lt}
 use Rattle.in_place.proofs.Among.{along-none}
 use Rattle.in_place.proofs.Skipping.{Over, over-near, over-more, over-all}
-use Rattle.in_place.proofs.identities.singles_end.Goals.{After-bit_at, In-loop-done}
+use Rattle.in_place.proofs.identities.singles_end.Goals.{After-bit_at, In-loop}
 use Rattle.in_place.proofs.identities.singles_end.Goals as goal
 
-near : (c : In-loop-done) → c.loop-done.at + 25 ≤ 4096
+near : (c : In-loop) → c.loop.at + 25 ≤ 4096
 near c =
-    over-near c.args.s.now c.loop-done.invariant c.requires.2.few c.loop-done-test.true
+    over-near c.args.s.now c.loop.invariant c.requires.2.few (omega arith)
 
 bit : (c : After-bit_at) → c.bit_at.result < 2
-bit c = bit_lt c.args.s.now (c.loop-done.at + 24) c.bit_at.ensures
+bit c = bit_lt c.args.s.now (c.loop.at + 24) c.bit_at.ensures
 
-pub loop-done-preserved : goal.loop-done-preserved
-loop-done-preserved c = let a = c.args in
-    let end : c.loop-done.at + 25 + 24 * c.bit_at.result ≡ c.loop-done.at + a.width =
-    add_assoc c.loop-done.at 25 (24 * c.bit_at.result) ∙ ap (λ (w : ℕ). c.loop-done.at + w) c.if-bit_at-width.false in
-    subst (λ (q : ℕ). Over a.count a.s.now a.start (c.loop-done.done + 1) q) end
-    (over-more a.s.now c.loop-done.invariant c.loop-done-test.true c.bit_at.ensures)
+pub loop-preserved : goal.loop-preserved
+loop-preserved c = let a = c.args in
+    let end : c.loop.at + 25 + 24 * c.bit_at.result ≡ c.loop.at + a.width =
+    add_assoc c.loop.at 25 (24 * c.bit_at.result) ∙ ap (λ (w : ℕ). c.loop.at + w) c.if-bit_at-width.false in
+    subst (λ (q : ℕ). Over a.count a.s.now a.start (c.loop.counter + 1) q) end
+    (over-more a.s.now c.loop.invariant (omega arith) c.bit_at.ensures)
 
-pub loop-done-init : goal.loop-done-init
-loop-done-init c =
+pub loop-init : goal.loop-init
+loop-init c =
     along-none c.requires.0 c.requires.2.reads
 
 pub overflow_add-at : goal.overflow_add-at
@@ -43,10 +43,10 @@ pub returns-then-bit_at-width : goal.returns-then-bit_at-width
 returns-then-bit_at-width c =
     c.mixed_end.ensures
 
-pub overflow_add-at-in-loop-done : goal.overflow_add-at-in-loop-done
-overflow_add-at-in-loop-done c =
-    omega (arith, near (goal.at.overflow_add-at-in-loop-done c).In-loop-done, c.requires.1)
+pub overflow_add-at-in-loop : goal.overflow_add-at-in-loop
+overflow_add-at-in-loop c =
+    omega (arith, near (goal.at.overflow_add-at-in-loop c).In-loop, c.requires.1)
 
 pub returns : goal.returns
 returns c =
-    over-all c.args.s.now c.loop-done.invariant c.loop-done-test.false
+    over-all c.args.s.now c.loop.invariant (omega arith)

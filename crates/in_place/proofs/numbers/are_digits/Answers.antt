@@ -5,14 +5,14 @@ use Rattle.in_place.proofs.numbers.are_digits.Goals as goal
 
 pub returns-then-window-digits : goal.returns-then-window-digits
 returns-then-window-digits c =
-    compared-other c.loop-i.invariant c.loop-i-test.true (omega arith) c.window.ensures c.if-window-digits.true
+    compared-other c.loop-i.invariant (omega arith) (omega arith) c.window.ensures c.if-window-digits.true
 
 pub loop-i-preserved : goal.loop-i-preserved
 loop-i-preserved c =
-    compared-more c.loop-i.invariant c.loop-i-test.true (omega arith) c.window.ensures c.if-window-digits.false
+    compared-more c.loop-i.invariant (omega arith) (omega arith) c.window.ensures c.if-window-digits.false
 
 pub returns : goal.returns
-returns c = compared-all c.loop-i.invariant c.loop-i-test.false
+returns c = compared-all c.loop-i.invariant (omega arith)
 
 pub loop-i-init : goal.loop-i-init
 loop-i-init c =
@@ -24,4 +24,4 @@ overflow_mul-i c =
 
 pub overflow_add-at : goal.overflow_add-at
 overflow_add-at c =
-    omega (arith, compared-near c.loop-i.invariant c.loop-i-test.true c.requires.1.few)
+    omega (arith, compared-near c.loop-i.invariant (omega arith) c.requires.1.few)

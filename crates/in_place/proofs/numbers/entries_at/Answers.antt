@@ -1,4 +1,5 @@
 -- Each turn passes an entry. Assumes nothing.
+use native.Mathlib.Omega.{arith}
 use Rattle.grammar.proofs.Steps.{no_external-at}
 use Rattle.in_place.proofs.Among.{along-none, along-next, along-more, along-all, kept, missed}
 use Rattle.in_place.proofs.numbers.entries_at.Goals.{then-entry, else-entry}
@@ -6,19 +7,19 @@ use Rattle.in_place.proofs.numbers.entries_at.Goals as goal
 
 pub number_at-entry-requires : goal.number_at-entry-requires
 number_at-entry-requires c =
-    record { few = c.requires.1.few; reads = along-next c.loop-done.invariant c.loop-done-test.true }
+    record { few = c.requires.1.few; reads = along-next c.loop.invariant (omega arith) }
 
-pub loop-done-preserved : goal.loop-done-preserved
-loop-done-preserved c =
-    along-more c.loop-done.invariant c.loop-done-test.true c.number_at-entry.ensures
+pub loop-preserved : goal.loop-preserved
+loop-preserved c =
+    along-more c.loop.invariant (omega arith) c.number_at-entry.ensures
     (elim c.if-entry.branch [
-      | then-entry w ↦ kept c.loop-done.has w.if-entry.true w.has-is
-      | else-entry w ↦ missed c.loop-done.has w.if-entry.false w.has-is
+      | then-entry w ↦ kept c.loop.has w.if-entry.true w.has-is
+      | else-entry w ↦ missed c.loop.has w.if-entry.false w.has-is
     ])
 
 pub returns : goal.returns
-returns c = along-all c.loop-done.invariant c.loop-done-test.false (no_external-at _)
+returns c = along-all c.loop.invariant (omega arith) (no_external-at _)
 
-pub loop-done-init : goal.loop-done-init
-loop-done-init c =
+pub loop-init : goal.loop-init
+loop-init c =
     along-none c.requires.0 c.requires.1.reads

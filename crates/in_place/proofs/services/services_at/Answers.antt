@@ -62,7 +62,7 @@ here : (c : After-is_covering) → let a = c.args in let i = c.loop-i.i in
     let at = a.at + 3 in
     Says (element 3 service_refusal) (is_covering a.service) (bits a.s.now) (at + 3 * i) c.is_covering.result (at + 3 * (i + 1))
 here c = let a = c.args in let i = c.loop-i.i in
-    let r = along-next c.loop-i.invariant c.loop-i-test.true in
+    let r = along-next c.loop-i.invariant (omega arith) in
     let n = (element-says 3 service_refusal (bits a.s.now) (a.at + 3 + 3 * i) r.read.same).0 in
     let place : a.at + 3 + 3 * i ≡ a.at + (3 + 3 * i) = omega arith in
     let v = inside_is a.s.now a.at c.window-window.ensures 3 (omega arith) (3 + 3 * i) place (omega (arith, few (goal.at.After-is_covering c).After-window-window)) (record { same = n }) in
@@ -86,14 +86,14 @@ whole c e =
 
 pub returns-then-is_covering : goal.returns-then-is_covering
 returns-then-is_covering c =
-    whole (goal.at.returns-then-is_covering c).After-window-window (along-found c.loop-i.invariant c.loop-i-test.true (here (goal.at.returns-then-is_covering c).After-is_covering) c.if-is_covering.true)
+    whole (goal.at.returns-then-is_covering c).After-window-window (along-found c.loop-i.invariant (omega arith) (here (goal.at.returns-then-is_covering c).After-is_covering) c.if-is_covering.true)
 
 pub loop-i-preserved : goal.loop-i-preserved
 loop-i-preserved c =
-    along-more c.loop-i.invariant c.loop-i-test.true (here (goal.at.loop-i-preserved c).After-is_covering) (sym c.if-is_covering.false)
+    along-more c.loop-i.invariant (omega arith) (here (goal.at.loop-i-preserved c).After-is_covering) (sym c.if-is_covering.false)
 
 pub returns : goal.returns
-returns c = whole (goal.at.returns c).After-window-window (along-all c.loop-i.invariant c.loop-i-test.false (read_at-absent _))
+returns c = whole (goal.at.returns c).After-window-window (along-all c.loop-i.invariant (omega arith) (read_at-absent _))
 
 pub overflow_add-end : goal.overflow_add-end
 overflow_add-end c =
@@ -118,7 +118,3 @@ overflow_sub-i c =
 pub overflow_shr-window : goal.overflow_shr-window
 overflow_shr-window c =
     omega (arith, few (goal.at.overflow_shr-window c).After-window-window)
-
-pub overflow_add-i : goal.overflow_add-i
-overflow_add-i c =
-    omega (arith, few (goal.at.overflow_add-i c).After-window-window)

@@ -1,6 +1,6 @@
 -- The number of services, then each of them until one covers the call's. Assumes nothing.
 use mathlib.Core.Bool.{false}
-use Prim.Native.Nat.{◌+◌, ◌-◌, ◌*◌}
+use Prim.Native.Nat.{◌+◌, ◌*◌}
 use Rattle.bits.specs.Bits.{bits}
 use Rattle.codec.specs.Parts.{absent, element}
 use Rattle.grammar.specs.SiteSheet.{service_refusal}
@@ -11,6 +11,3 @@ use Rattle.in_place.proofs.services.services_at.Given as goal
 abbrev pub invariant-loop-i : goal.invariant-loop-i
 invariant-loop-i l =
     Along (element 3 service_refusal) absent (is_covering l.service) 7 l.count (bits l.s) (l.at + 3) l.i (l.at + 3 + 3 * l.i) false
-
-abbrev pub decreases-loop-i : goal.decreases-loop-i
-decreases-loop-i l = l.count - l.i

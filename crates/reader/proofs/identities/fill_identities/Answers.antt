@@ -6,11 +6,10 @@ use Rattle.bits.specs.Bits.{bits}
 use Rattle.codec.specs.Parts.{number}
 use Rattle.grammar.specs.Grammar.{identity, no_identity, identities}
 use Rattle.grammar.proofs.Codes.{entries_of_le}
-use Rattle.walk.proofs.Sights.{legal-code}
 use Rattle.words.specs.RecordWords.{identities_words}
 use Rattle.reader.specs.Inner.{Reads}
 use Rattle.reader.proofs.Elements.{number_fits}
-use Rattle.reader.proofs.Parts.{head-reads, head_passed, rest-reads, headed_fill, reads-tested, fill-tested, reads-used, fill-used}
+use Rattle.reader.proofs.Parts.{head-reads, rest-reads, headed_fill, reads-tested, fill-tested, reads-used, fill-used}
 use Rattle.reader.proofs.identities.fill_identities.Goals.{Start}
 use Rattle.reader.proofs.identities.fill_identities.Goals as goal
 
@@ -20,10 +19,6 @@ coded b = head-reads _ _ _ _ _ _ _ b.requires.reads
 
 near : (b : Start) → b.args.c.at + 4 ≤ 4096
 near b = number_fits b.args.s.now b.args.c.at 4 (omega arith) b.requires.few (coded b)
-
-pub entries_of-count-requires : goal.entries_of-count-requires
-unfolding identities
-entries_of-count-requires c = legal-code _ _ (head_passed _ _ _ _ _ _ _ c.requires.reads c.number_at-code.ensures)
 
 pub fill_entries-requires : goal.fill_entries-requires
 unfolding identities

@@ -6,11 +6,10 @@ use Rattle.bits.specs.Bits.{bits}
 use Rattle.codec.specs.Parts.{number}
 use Rattle.grammar.specs.Grammar.{external, no_external, externals}
 use Rattle.grammar.proofs.Codes.{entries_of_le}
-use Rattle.walk.proofs.Sights.{legal-code}
 use Rattle.words.specs.RecordWords.{numbers_words}
 use Rattle.reader.specs.Inner.{Reads}
 use Rattle.reader.proofs.Elements.{number_fits}
-use Rattle.reader.proofs.Parts.{head-reads, head_passed, rest-reads, headed_fill, reads-used, fill-used}
+use Rattle.reader.proofs.Parts.{head-reads, rest-reads, headed_fill, reads-used, fill-used}
 use Rattle.reader.proofs.numbers.fill_numbers.Goals.{Start}
 use Rattle.reader.proofs.numbers.fill_numbers.Goals as goal
 
@@ -21,13 +20,9 @@ coded b = head-reads _ _ _ _ _ _ _ b.requires.reads
 near : (b : Start) → b.args.c.at + 4 ≤ 4096
 near b = number_fits b.args.s.now b.args.c.at 4 (omega arith) b.requires.few (coded b)
 
-pub entries_of-count-requires : goal.entries_of-count-requires
+pub fill_entries-requires : goal.fill_entries-requires
 unfolding externals
-entries_of-count-requires c = legal-code _ _ (head_passed _ _ _ _ _ _ _ c.requires.reads c.number_at-code.ensures)
-
-pub fill_number_entries-requires : goal.fill_number_entries-requires
-unfolding externals
-fill_number_entries-requires c = (
+fill_entries-requires c = (
   omega (arith, c.entries_of-count.ensures, entries_of_le c.number_at-code.result),
   record {
     few = c.requires.few;
@@ -41,7 +36,7 @@ pub returns : goal.returns
 unfolding externals numbers_words
 returns c =
     headed_fill _ _ _ _ _ _ _ c.requires.reads (λ _. refl) (omega (arith, c.requires.room)) c.number_at-code.ensures c.store.ensures
-    (fill-used external no_external 8 c.entries_of-count.ensures c.fill_number_entries.ensures)
+    (fill-used external no_external 8 c.entries_of-count.ensures c.fill_entries.ensures)
 
 pub number_at-code-requires : goal.number_at-code-requires
 number_at-code-requires c =

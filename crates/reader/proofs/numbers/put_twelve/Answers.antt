@@ -10,5 +10,5 @@ use Rattle.reader.proofs.numbers.put_twelve.Goals as goal
 pub returns : goal.returns
 returns c =
     let ends : c.args.to + 4 + 4 + 4 ≡ c.args.to + 12 = omega arith in
-    put_as (then (omega (arith, c.requires)) (then (omega (arith, c.requires)) c.put_four.ensures c.put_four-2.ensures) c.put_four-3.ensures)
+    put_as (then (omega (arith, c.requires)) (then (omega (arith, c.requires)) c.put_codes.ensures c.put_codes-2.ensures) c.put_codes-3.ensures)
     (twelve-is c.args.run) refl ends

@@ -3,6 +3,7 @@ use mathlib.Core.Path.{refl, sym, ap, ◌∙◌, subst}
 use mathlib.Core.Bool.{Bool}
 use mathlib.Core.List.{List}
 use Prim.Native.Nat.{◌+◌, ◌≤◌}
+use Rattle.std.specs.Prelude.{Option}
 use native.Mathlib.Omega.{arith}
 use lib.ListN.{length}
 use Rattle.bits.specs.Bits.{bits}
@@ -22,7 +23,7 @@ use Rattle.reader.proofs.record.fill_record.Goals.{After-figures_in-f, After-fil
 use Rattle.reader.proofs.record.fill_record.Goals as goal
 
 -- the type of the PDU, its start, its bits
-abbrev kind : After-form_of-form → PduType
+abbrev kind : After-form_of-form → Option PduType
 kind f = f.pdu_type-kind.result
 
 abbrev start : After-form_of-form → Start
@@ -42,7 +43,7 @@ kind-reads b = head-reads _ _ _ _ _ _ _ (reads-mark 6 ss_type _ b.requires.reads
 row : (f : After-form_of-form) → Reads (rest_of (kind f)) (pdu-bits f) 11
 unfolding pdu
 row f =
-    subst (λ (t : PduType). Reads (rest_of t) (pdu-bits f) 11) (sym f.pdu_type-kind.ensures)
+    subst (λ (t : Option PduType). Reads (rest_of t) (pdu-bits f) 11) (sym f.pdu_type-kind.ensures)
     (rest-reads _ _ _ _ _ _ _ (reads-mark 6 ss_type _ (start f).requires.reads) f.number_at-code.ensures)
 
 -- the figures begin inside the PDU, where the affected users end
@@ -111,7 +112,7 @@ returns c = let f = formed (goal.at.returns c).After-fill_users-rest in
     in
     fill-mark 6 ss_type _ (start f).requires.reads
     (headed_fill _ _ _ _ _ _ _ (reads-mark 6 ss_type _ (start f).requires.reads) (λ _. refl) (omega (arith, room)) f.number_at-code.ensures
-    c.store.ensures (fill-by (ap (λ (x : PduType). rest_of x) (sym f.pdu_type-kind.ensures)) rest))
+    c.store.ensures (fill-by (ap (λ (x : Option PduType). rest_of x) (sym f.pdu_type-kind.ensures)) rest))
 
 pub number_at-code-requires : goal.number_at-code-requires
 number_at-code-requires c =

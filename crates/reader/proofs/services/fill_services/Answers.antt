@@ -45,8 +45,8 @@ rest c = rest-reads _ _ _ _ _ _ _ c.requires.reads (count-read c)
 pub held-list-requires : goal.held-list-requires
 held-list-requires c = (small_window (pdu c) (at c) c.window-window.ensures, omega (arith, few c), omega arith)
 
-pub put_seven-requires : goal.put_seven-requires
-put_seven-requires c =
+pub put_codes-requires : goal.put_codes-requires
+put_codes-requires c =
     omega (arith, c.requires.room, c.store.auto.words)
 
 abbrev window-of : After-slice_known-3-1 → After-window-window
@@ -57,7 +57,7 @@ unfolding services services_words
 returns c =
     let list = services-read (pdu (goal.at.returns c).After-window-window) (at (goal.at.returns c).After-window-window) (count (goal.at.returns c).After-window-window) (few (goal.at.returns c).After-window-window) (rest (goal.at.returns c).After-window-window) c.window-window.ensures refl c.held-list.ensures in
     headed_fill _ _ _ _ _ _ _ c.requires.reads (λ _. refl) (omega (arith, c.requires.room)) (count-read (goal.at.returns c).After-window-window) c.store.ensures
-    (fill-list list c.put_seven.ensures)
+    (fill-list list c.put_codes.ensures)
 
 pub overflow_add-result : goal.overflow_add-result
 overflow_add-result c =

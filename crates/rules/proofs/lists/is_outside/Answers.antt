@@ -7,11 +7,11 @@ pub returns-then-groups-eq0 : goal.returns-then-groups-eq0
 unfolding is_outside
 returns-then-groups-eq0 c = rw (eq-eqb _ _ c.if-groups-eq0.true)
 
-pub returns-in-Of : goal.returns-in-Of
+pub returns-in-Some : goal.returns-in-Some
 unfolding is_outside
-returns-in-Of c =
-    rw (ne_eqb _ _ c.if-groups-eq0.false, c.in-Of.is, c.identity_among.ensures)
+returns-in-Some c =
+    rw (ne_eqb _ _ c.if-groups-eq0.false, c.in-Some.is, c.identity_among.ensures)
 
-pub returns-in-NoGroup : goal.returns-in-NoGroup
+pub returns-in-None : goal.returns-in-None
 unfolding is_outside
-returns-in-NoGroup c = rw (ne_eqb _ _ c.if-groups-eq0.false, c.in-NoGroup.is)
+returns-in-None c = rw (ne_eqb _ _ c.if-groups-eq0.false, c.in-None.is)

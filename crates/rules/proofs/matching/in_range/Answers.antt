@@ -11,12 +11,10 @@ returns-then-network_of-u c =
     let network : c.network_of.result ≡ network_of c.args.missing c.args.first = c.network_of.ensures in
     rw (← network, ne_eqb _ _ c.if-network_of-u.true)
 
-pub returns-then-u-first : goal.returns-then-u-first
+pub returns-then-first-u : goal.returns-then-first-u
 unfolding in_range
-returns-then-u-first c =
-    rw (← c.network_of.ensures, eq-eqb _ _ c.if-network_of-u.false, lt-leb _ _ c.if-u-first.true)
+returns-then-first-u c = rw (← c.network_of.ensures, eq-eqb _ _ c.if-network_of-u.false, le-leb _ _ c.if-first-u.true)
 
-pub returns : goal.returns
+pub returns-else-first-u : goal.returns-else-first-u
 unfolding in_range
-returns c =
-    rw (← c.network_of.ensures, eq-eqb _ _ c.if-network_of-u.false, le-leb _ _ c.if-u-first.false)
+returns-else-first-u c = rw (← c.network_of.ensures, eq-eqb _ _ c.if-network_of-u.false, lt-leb _ _ c.if-first-u.false)

@@ -7,6 +7,6 @@ pub returns-then-listed-eq0 : goal.returns-then-listed-eq0
 unfolding is_covering
 returns-then-listed-eq0 c = rw (eq-eqb _ _ c.if-listed-eq0.true)
 
-pub returns : goal.returns
+pub returns-else-listed-eq0 : goal.returns-else-listed-eq0
 unfolding is_covering
-returns c = rw (ne_eqb _ _ c.if-listed-eq0.false)
+returns-else-listed-eq0 c = rw (ne_eqb _ _ c.if-listed-eq0.false)

@@ -1,12 +1,13 @@
 -- The invariants: what is left to search, and to compare, decides the answer. Assumes nothing.
 use native.Mathlib.Omega.{arith}
-use mathlib.Core.Path.{◌≡◌, refl, ap, sym, ◌∙◌}
-use mathlib.Core.Bool.{false}
-use mathlib.Core.List.{[]}
+use mathlib.Core.Path.{◌≡◌, sym, ap, ◌∙◌}
+use mathlib.Core.List.{List, []}
 use Prim.Native.Nat.{◌≤◌, ◌<◌, min}
 use lib.ListN as list
-use lib.ListN.{take, get_or}
+use lib.ListN.{take, get_or, length-take}
+use lib.Seq.{take-length}
 use borrow.Author.Tests.{eq-eqb, ne_eqb}
+use Rattle.std.proofs.lemmas.List.{get_or-take}
 use Rattle.bits.specs.Lists.{some}
 use Rattle.bits.proofs.Lists.{take-used}
 use Rattle.grammar.specs.SiteSheet.{entries_of}
@@ -15,7 +16,7 @@ use Rattle.grammar.specs.declared.record.Number.{Number}
 use Rattle.grammar.proofs.Arrays.{numbers-length, each-digits-length}
 use Rattle.rules.specs.Matching.{is_number, number_among}
 use Rattle.rules.proofs.Search.{passed, found, some_end, agrees, differs, same_end}
-use Rattle.rules.proofs.matching.number_among.Goals.{then-e-length+else-j-places+then-e-j, else-e-length, At-entries, In-entries, Joined-e-length, Start}
+use Rattle.rules.proofs.matching.number_among.Goals.{At-entries, In-entries, In-loop-j, Start}
 use Rattle.rules.proofs.matching.number_among.Goals as goal
 
 -- what stands past the end of the entries
@@ -26,84 +27,85 @@ blank = record { length = record { 0 = 0 }; digits = [] }
 long : (c : Start) → list.length c.args.list.entries ≡ 8
 long c = numbers-length c.args.list _ c.well_formed.0
 
+items : At-entries → List Number
+items c = take c.least-count.result c.args.list.entries
+
 whole : (c : At-entries)
     → let a = c.args in
-    some (is_number a.length.0 a.digits) (take c.least-count.result a.list.entries)
+    some (is_number a.length.0 a.digits) (take (list.length (items c)) (items c))
     ≡ number_among a.list a.length.0 a.digits
-unfolding number_among
+unfolding number_among items
 whole c =
-    ap (some (is_number c.args.length.0 c.args.digits))
-    (take-used c.args.list.entries (entries_of c.args.list.code) (long (goal.at.At-entries c).Start)
+    let a = c.args in
+    let f = some (is_number a.length.0 a.digits) in
+    ap f (take-length (items c))
+    ∙ ap f
+    (take-used a.list.entries (entries_of a.list.code) (long (goal.at.At-entries c).Start)
     (c.least-count.ensures ∙ ap (λ (r : Row). min r.entries 8) c.row_of.ensures))
 
--- the entry at i, and the digits that its length uses
+-- the entry that is looked at, and the digits that its length uses
 entry : At-entries → Number
-entry c = get_or c.args.list.entries c.entries.i blank
+entry c = get_or (items c) c.entries.e-index blank
 
 -- the places that are compared are there
 there : (c : In-entries)
     → let a = c.args in
     (list.length (entry (goal.at.In-entries c).At-entries).digits ≡ 24) × (list.length a.digits ≡ 24) × (c.least-places.result ≤ 24)
-unfolding entry
+unfolding entry items
 there c =
-    (each-digits-length c.args.list _ c.well_formed.0 blank (omega arith), omega arith, omega arith)
+    let a = c.args in
+    let n = c.least-count.result in
+    let i = c.entries.e-index in
+    let inside : i < n = omega (arith, length-take n a.list.entries) in
+    let same : get_or (take n a.list.entries) i blank ≡ get_or a.list.entries i blank = get_or-take n a.list.entries i blank inside in
+    (ap (λ (e : Number). list.length e.digits) same ∙ each-digits-length a.list _ c.well_formed.0 blank (omega arith), omega arith, omega arith)
+
+pub entries-preserved-then-e-length : goal.entries-preserved-then-e-length
+unfolding is_number
+entries-preserved-then-e-length c =
+    let a = c.args in
+    let l = c.entries.invariant in
+    (l.0, passed (is_number a.length.0 a.digits) _ blank c.entries-test.true (omega arith) (rw (ne_eqb _ _ c.if-e-length.true)) l.1)
 
 pub loop-j-init : goal.loop-j-init
-unfolding entry is_number
+unfolding entry items is_number
 loop-j-init c =
     let a = c.args in
-    let alike : (entry (goal.at.loop-j-init c).At-entries).length.0 ≡ a.length.0 = c.if-e-length.true in
-    let whole-entry = take-used (entry (goal.at.loop-j-init c).At-entries).digits a.length.0 (there (goal.at.loop-j-init c).In-entries).0 c.least-places.ensures in
-    let whole-number = take-used a.digits a.length.0 (there (goal.at.loop-j-init c).In-entries).1 c.least-places.ensures in
-    (omega arith, (c.entries.invariant.1.0, rw (eq-eqb _ _ alike, whole-entry, whole-number)))
+    let at = (goal.at.loop-j-init c).At-entries in
+    let here = there (goal.at.loop-j-init c).In-entries in
+    let alike : (entry at).length.0 ≡ a.length.0 = c.if-e-length.false in
+    let whole-entry = take-used (entry at).digits a.length.0 here.0 c.least-places.ensures in
+    let whole-number = take-used a.digits a.length.0 here.1 c.least-places.ensures in
+    (c.entries.invariant.0, rw (eq-eqb _ _ alike, whole-entry, whole-number))
 
 pub loop-j-preserved : goal.loop-j-preserved
-unfolding entry
+unfolding entry items
 loop-j-preserved c =
+    let here = there (goal.at.loop-j-preserved c).In-entries in
     let l = c.loop-j.invariant in
-    let more : c.loop-j.j < c.least-places.result = omega arith in
-    (omega arith, (l.1.0, agrees (entry (goal.at.loop-j-preserved c).At-entries).digits _ more (omega (arith, there (goal.at.loop-j-preserved c).In-entries)) (omega (arith, there (goal.at.loop-j-preserved c).In-entries)) (eq-eqb _ _ c.if-e-j.false) l.1.1))
+    (l.0, agrees (entry (goal.at.loop-j-preserved c).At-entries).digits _ c.loop-j-test.true (omega (arith, here)) (omega (arith, here)) (eq-eqb _ _ c.if-e-j.false) l.1)
 
--- the entry at i is another number: its length differs, or a digit of it
-other : (c : Joined-e-length)
-    →
-    let a = c.args in
-    (c.if-e-length.found ≡ false) × (is_number a.length.0 a.digits (entry (goal.at.Joined-e-length c).At-entries) ≡ false)
-unfolding entry is_number
-other c = elim c.if-e-length.branch [
-  | then-e-length+else-j-places+then-e-j w ↦
-      let more : w.loop-j.j < c.least-places.result = omega arith in (
-        w.found-is ∙ w.loop-j.invariant.1.0,
-        sym (differs (entry (goal.at.Joined-e-length c).At-entries).digits _ more
-            (omega (arith, there (goal.at.Joined-e-length c).In-entries)) (omega (arith, there (goal.at.Joined-e-length c).In-entries))
-            (ne_eqb _ _ w.if-e-j.true) w.loop-j.invariant.1.1),
-      )
-  | else-e-length w ↦ (w.found-is ∙ c.entries.invariant.1.0, rw (ne_eqb _ _ w.if-e-length.false))
-]
-
+-- a digit differs
 pub entries-preserved : goal.entries-preserved
-unfolding entry
-entries-preserved c = (
-  omega arith,
-  (
-    (other c).0,
-    passed (is_number c.args.length.0 c.args.digits) c.args.list.entries blank c.entries-test.true
-        (omega (arith, long (goal.at.entries-preserved c).Start)) (other c).1 c.entries.invariant.1.1,
-  ),
-)
+unfolding entry items
+entries-preserved c =
+    let a = c.args in
+    let here = there (goal.at.entries-preserved c).In-entries in
+    let l = c.entries.invariant in
+    let other = sym (differs (entry (goal.at.entries-preserved c).At-entries).digits a.digits c.loop-j-test.true (omega (arith, here)) (omega (arith, here)) (ne_eqb _ _ c.if-e-j.true) c.loop-j.invariant.1) in
+    (l.0, passed (is_number a.length.0 a.digits) _ blank c.entries-test.true (omega arith) other l.1)
 
 pub returns-after-entries : goal.returns-after-entries
+unfolding items
 returns-after-entries c =
+    let a = c.args in
     let l = c.entries.invariant in
-    l.1.0 ∙ some_end c.entries-test.false (is_number c.args.length.0 c.args.digits) c.args.list.entries l.1.1 ∙ whole (goal.at.returns-after-entries c).At-entries
+    l.0 ∙ some_end c.entries-test.false (is_number a.length.0 a.digits) _ l.1 ∙ whole (goal.at.returns-after-entries c).At-entries
 
-pub returns-then-j-places : goal.returns-then-j-places
-unfolding entry
-returns-then-j-places c =
-    let done : c.least-places.result ≤ c.loop-j.j = omega arith in
-    found (is_number c.args.length.0 c.args.digits) c.args.list.entries blank c.entries-test.true (omega (arith, long (goal.at.returns-then-j-places c).Start))
-    (sym (same_end done (entry (goal.at.returns-then-j-places c).At-entries).digits c.args.digits c.loop-j.invariant.1.1)) c.entries.invariant.1.1 ∙ whole (goal.at.returns-then-j-places c).At-entries
-
-pub entries-init : goal.entries-init
-entries-init c =
-    (omega arith, (refl, refl))
+pub returns-after-loop-j : goal.returns-after-loop-j
+unfolding entry items
+returns-after-loop-j c =
+    let a = c.args in
+    let same = sym (same_end c.loop-j-test.false (entry (goal.at.returns-after-loop-j c).At-entries).digits a.digits c.loop-j.invariant.1) in
+    found (is_number a.length.0 a.digits) _ blank c.entries-test.true (omega arith) same c.entries.invariant.1
+    ∙ whole (goal.at.returns-after-loop-j c).At-entries

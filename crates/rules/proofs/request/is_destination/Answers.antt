@@ -1,18 +1,16 @@
--- Each arm of the match is the definition's own case. Assumes nothing.
-use native.Mathlib.Omega.{arith}
-use borrow.Author.Tests.{le-leb}
+-- An identity is a user; the length of a number is compared with both limits. Assumes nothing.
+use borrow.Author.Tests.{le-leb, lt-leb}
 use Rattle.rules.specs.Request.{is_destination}
 use Rattle.rules.proofs.request.is_destination.Goals as goal
-
-pub returns-then-length-eq0 : goal.returns-then-length-eq0
-unfolding is_destination
-returns-then-length-eq0 c = rw (c.in-Number.is, c.if-length-eq0.true)
 
 pub returns-in-Identity : goal.returns-in-Identity
 unfolding is_destination
 returns-in-Identity c = rw (c.in-Identity.is, c.is_user.ensures)
 
-pub returns-else-length-eq0 : goal.returns-else-length-eq0
+pub returns-then-length-ge1 : goal.returns-then-length-ge1
 unfolding is_destination
-returns-else-length-eq0 c =
-    rw (c.in-Number.is, le-leb 1 c.in-Number.length.0 (omega arith))
+returns-then-length-ge1 c = rw (c.in-Number.is, le-leb _ _ c.if-length-ge1.true)
+
+pub returns-else-length-ge1 : goal.returns-else-length-ge1
+unfolding is_destination
+returns-else-length-ge1 c = rw (c.in-Number.is, lt-leb _ _ c.if-length-ge1.false)

@@ -2,10 +2,10 @@
 use Rattle.rules.specs.Request.{is_group}
 use Rattle.rules.proofs.request.is_group.Goals as goal
 
-pub returns-in-Of : goal.returns-in-Of
+pub returns-in-Some : goal.returns-in-Some
 unfolding is_group
-returns-in-Of c = rw (c.in-Of.is, c.is_user.ensures)
+returns-in-Some c = rw (c.in-Some.is, c.is_user.ensures)
 
-pub returns-in-NoGroup : goal.returns-in-NoGroup
+pub returns-in-None : goal.returns-in-None
 unfolding is_group
-returns-in-NoGroup c = rw c.in-NoGroup.is
+returns-in-None c = rw c.in-None.is

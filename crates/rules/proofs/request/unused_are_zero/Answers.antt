@@ -1,40 +1,40 @@
 -- The invariant: the sum so far and what is left to test decide the answer. Assumes nothing.
 use native.Mathlib.Omega.{arith}
-use mathlib.Core.Path.{◌≡◌, refl, sym, ap, ◌∙◌}
-use Prim.Native.Nat.{ℕ, ◌≤◌, ◌<◌}
-use lib.ListN.{drop}
-use lib.Seq.{slice}
+use mathlib.Core.Path.{◌≡◌, sym, ap, ◌∙◌}
+use Prim.Native.Nat.{ℕ, ◌-◌, min}
+use lib.ListN.{length, take, drop, length-drop}
 use lib.Dec.{eqb}
+use lib.Seq.{take-length}
 use Rattle.bits.specs.Lists.{every}
-use Rattle.bits.proofs.Lists.{drop-used}
+use Rattle.bits.proofs.Lists.{drop_min}
 use Rattle.rules.specs.Request.{is_unused}
 use Rattle.rules.proofs.Search.{summed, sum-end}
-use Rattle.rules.proofs.request.unused_are_zero.Goals.{After-least-i}
+use Rattle.rules.proofs.request.unused_are_zero.Goals.{After-least-n}
 use Rattle.rules.proofs.request.unused_are_zero.Goals as goal
 
 -- what is not used is what the length leaves
-rest : (c : After-least-i)
-    → every is_unused (slice c.least-i.result 24 c.args.digits)
-    ≡ every is_unused (drop c.args.length.0 c.args.digits)
-rest c = let a = c.args in ap (every is_unused) (drop-used a.digits a.length.0 (omega arith) c.least-i.ensures)
+rest : (c : After-least-n)
+    → let a = c.args in
+    let unused = take (24 - c.least-n.result) (drop c.least-n.result a.digits) in
+    every is_unused (take (length unused) unused) ≡ every is_unused (drop a.length.0 a.digits)
+rest c =
+    let a = c.args in
+    let left = drop c.least-n.result a.digits in
+    let long : 24 ≡ length a.digits = omega arith in
+    let size : 24 - c.least-n.result ≡ length left = omega (arith, length-drop c.least-n.result a.digits) in
+    ap (every is_unused)
+    (take-length (take (24 - c.least-n.result) left) ∙ ap (λ (n : ℕ). take n left) size ∙ take-length left
+    ∙ ap (λ (u : ℕ). drop u a.digits) (c.least-n.ensures ∙ ap (min a.length.0) long)
+    ∙ drop_min a.length.0 a.digits)
 
-pub loop-i-preserved : goal.loop-i-preserved
+pub loop-digit-preserved : goal.loop-digit-preserved
 unfolding is_unused
-loop-i-preserved c =
-    let more : c.loop-i.i < 24 = omega arith in (
-      omega arith,
-      (
-        omega arith,
-        summed is_unused c.args.digits 0 more (omega arith) c.loop-i.sum c.wide-sum.result
-            (ap (λ (x : ℕ). eqb x 0) (sym c.wide-sum.ensures.0)) c.loop-i.invariant.1.1,
-      ),
-    )
+loop-digit-preserved c = (
+  omega arith,
+  summed is_unused _ 0 c.loop-digit-test.true (omega arith) c.loop-digit.sum c.wide-sum.result
+      (ap (λ (x : ℕ). eqb x 0) (sym c.wide-sum.ensures.0)) c.loop-digit.invariant.1,
+)
 
 pub returns : goal.returns
 returns c =
-    let done : 24 ≤ c.loop-i.i = omega arith in
-    sum-end done is_unused c.args.digits c.loop-i.sum c.loop-i.invariant.1.1 ∙ rest (goal.at.returns c).After-least-i
-
-pub loop-i-init : goal.loop-i-init
-loop-i-init c =
-    (omega arith, (omega arith, refl))
+    sum-end c.loop-digit-test.false is_unused _ c.loop-digit.sum c.loop-digit.invariant.1 ∙ rest (goal.at.returns c).After-least-n

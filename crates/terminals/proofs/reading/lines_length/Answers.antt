@@ -14,24 +14,20 @@ loop-index-preserved c =
     let t = c.args.table.now in
     let i = c.loop-index.index in
     let rest = lines_text (drop (i + 1) places) (drop (i + 1) t) in
-    let here : length (line_text (get_or t i 0) c.place_at-place.result) ≡ length (line_text (get_or t i 0) (get_or places i nowhere)) =
-    ap (λ (p : Place). length (line_text (get_or t i 0) p)) c.place_at-place.ensures in
+    let here : length (line_text (get_or t i 0) c.place_at.result) ≡ length (line_text (get_or t i 0) (get_or places i nowhere)) =
+    ap (λ (p : Place). length (line_text (get_or t i 0) p)) c.place_at.ensures in
     let next : length (lines_text (drop i places) (drop i t)) ≡ length (line_text (get_or t i 0) (get_or places i nowhere)) + length rest =
-    ap length (lines_next t i c.requires c.loop-index-test.true)
+    ap length (lines_next t i c.requires (omega arith))
     ∙ length-append (line_text (get_or t i 0) (get_or places i nowhere)) rest
     in
-    (omega arith, omega (arith, c.line_length-size.ensures.1), omega (arith, c.line_length-size.ensures.0))
+    (omega (arith, c.line_length-size.ensures.1), omega (arith, c.line_length-size.ensures.0))
 
 pub returns : goal.returns
 returns c =
     let t = c.args.table.now in
     let over : length (lines_text (drop c.loop-index.index places) (drop c.loop-index.index t)) ≡ 0 =
-    ap length (lines-over t c.loop-index.index c.requires c.loop-index-test.false) in
+    ap length (lines-over t c.loop-index.index c.requires (omega arith)) in
     (omega arith, omega arith)
-
-pub loop-index-init : goal.loop-index-init
-loop-index-init c =
-    (omega arith, omega arith, omega arith)
 
 pub overflow_add-size : goal.overflow_add-size
 overflow_add-size c =

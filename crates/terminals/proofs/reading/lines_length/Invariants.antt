@@ -1,6 +1,6 @@
 -- At each turn one line more. Assumes nothing.
 use mathlib.Core.Path.{◌≡◌}
-use Prim.Native.Nat.{◌+◌, ◌-◌, ◌*◌, ◌≤◌}
+use Prim.Native.Nat.{◌+◌, ◌*◌, ◌≤◌}
 use lib.ListN.{length, drop}
 use Rattle.terminals.specs.Layers.{places}
 use Rattle.terminals.specs.Reading.{lines_text}
@@ -8,7 +8,4 @@ use Rattle.terminals.proofs.reading.lines_length.Given as goal
 
 abbrev pub invariant-loop-index : goal.invariant-loop-index
 invariant-loop-index l =
-    (l.index ≤ 269) × (l.size ≤ 64 * l.index) × (l.size + length (lines_text (drop l.index places) (drop l.index l.table)) ≡ length (lines_text places l.table))
-
-abbrev pub decreases-loop-index : goal.decreases-loop-index
-decreases-loop-index l = 269 - l.index
+    (l.size ≤ 64 * l.index) × (l.size + length (lines_text (drop l.index places) (drop l.index l.table)) ≡ length (lines_text places l.table))

@@ -2,9 +2,8 @@
 use native.Mathlib.Omega.{arith}
 use Rattle.bits.specs.Inner.{Laid}
 use Rattle.bits.proofs.Laying.{then, first_fits, rest-fits}
-use Rattle.text.specs.Decimal.{decimal}
+use Rattle.text.specs.Decimal.{decimal, item}
 use Rattle.text.proofs.Copies.{laid_in}
-use Rattle.terminals.specs.Reading.{item}
 use Rattle.terminals.proofs.reading.write_item.Goals.{After-write_number-word_at}
 use Rattle.terminals.proofs.reading.write_item.Goals as goal
 
@@ -19,4 +18,4 @@ pub returns : goal.returns
 unfolding item
 returns c =
     let laid = number-laid (goal.at.returns c).After-write_number-word_at in
-    then (omega (arith, c.requires)) laid (laid_in (rest-fits c.args.word.now c.requires laid) (c.append.ensures.value, c.append.ensures.out_after))
+    then (omega (arith, c.requires)) laid (c.append.ensures.laid (rest-fits c.args.word.now c.requires laid))

@@ -6,7 +6,8 @@ use native.Mathlib.Omega.{arith}
 use lib.ListN.{length}
 use Rattle.bits.specs.Inner.{Laid}
 use Rattle.bits.proofs.Laying.{none, then, first_fits, rest-fits}
-use Rattle.terminals.specs.Reading.{comma, item, place_text, line_text}
+use Rattle.text.specs.Decimal.{item}
+use Rattle.terminals.specs.Reading.{comma, place_text, line_text}
 use Rattle.terminals.specs.declared.layers.Place.{Place}
 use Rattle.terminals.proofs.Texts.{off-line, no_line}
 use Rattle.terminals.proofs.reading.write_line.Goals.{Else-profile-eq-BOTH}

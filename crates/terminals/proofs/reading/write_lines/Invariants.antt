@@ -1,7 +1,6 @@
 -- Whatever lays the lines that are left lays them all: each turn lays one. Assumes nothing.
-use mathlib.Core.Path.{◌≡◌}
 use mathlib.Core.List.{List}
-use Prim.Native.Nat.{ℕ, ◌+◌, ◌-◌, ◌≤◌}
+use Prim.Native.Nat.{ℕ, ◌+◌, ◌≤◌}
 use lib.ListN.{length, drop}
 use Rattle.bits.specs.Inner.{Laid}
 use Rattle.terminals.specs.Layers.{places}
@@ -10,9 +9,6 @@ use Rattle.terminals.proofs.reading.write_lines.Given as goal
 
 abbrev pub invariant-loop-index : goal.invariant-loop-index
 invariant-loop-index l =
-    (l.index ≤ 269) × (length l.out ≡ length l.initial.out) × (l.at + length (lines_text (drop l.index places) (drop l.index l.table)) ≤ length l.out)
+    (l.at + length (lines_text (drop l.index places) (drop l.index l.table)) ≤ length l.out)
     × ((out' : List ℕ) (end : ℕ) → Laid l.out l.at (lines_text (drop l.index places) (drop l.index l.table)) out' end
     → Laid l.initial.out l.start (lines_text places l.table) out' end)
-
-abbrev pub decreases-loop-index : goal.decreases-loop-index
-decreases-loop-index l = 269 - l.index

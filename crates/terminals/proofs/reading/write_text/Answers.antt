@@ -6,7 +6,6 @@ use native.Mathlib.Omega.{arith}
 use lib.ListN.{length}
 use Rattle.bits.specs.Inner.{Laid}
 use Rattle.bits.proofs.Laying.{then, first_fits, rest-fits}
-use Rattle.text.proofs.Copies.{laid_in}
 use Rattle.terminals.specs.Layers.{places}
 use Rattle.terminals.specs.Reading.{lead, lines_text, text_of}
 use Rattle.terminals.proofs.Texts.{text-some}
@@ -23,7 +22,8 @@ room : (c : Start) → 0 + length (lead ++ lines c) ≤ length c.args.out.now
 room c = omega (arith, ap length (text-is c), c.requires.table_in_bounds)
 
 laid : (c : After-append-at) → Laid c.args.out.now 0 lead c.append-at.new.out c.append-at.result
-laid c = laid_in (first_fits lead (lines (goal.at.After-append-at c).Start) 0 (room (goal.at.After-append-at c).Start)) (c.append-at.ensures.value, c.append-at.ensures.out_after)
+laid c =
+    c.append-at.ensures.laid (first_fits lead (lines (goal.at.After-append-at c).Start) 0 (room (goal.at.After-append-at c).Start))
 
 pub write_lines-requires : goal.write_lines-requires
 write_lines-requires c =

@@ -1,11 +1,8 @@
 -- The present bits say where the last entry ends. Assumes nothing.
-use Prim.Native.Nat.{◌-◌, ◌*◌, ◌≤◌}
+use Prim.Native.Nat.{◌*◌}
 use Rattle.grammar.specs.Grammar.{identity}
 use Rattle.walk.specs.Inner.{pass, steps, Ends}
 use Rattle.walk.proofs.ahead.mixed_ahead.Given as goal
 
-abbrev pub invariant-loop-done : goal.invariant-loop-done
-invariant-loop-done l = (l.done ≤ l.count) × Ends (λ bs. steps (pass identity bs) l.done) l.s l.start (49 * l.done) l.at
-
-abbrev pub decreases-loop-done : goal.decreases-loop-done
-decreases-loop-done l = l.count - l.done
+abbrev pub invariant-loop : goal.invariant-loop
+invariant-loop l = Ends (λ bs. steps (pass identity bs) l.counter) l.s l.start (49 * l.counter) l.at

@@ -5,7 +5,7 @@ use Rattle.words.proofs.record.record_from.Goals as goal
 
 pub returns-then-words-ne-RECORD_WORDS : goal.returns-then-words-ne-RECORD_WORDS
 unfolding given_record
-returns-then-words-ne-RECORD_WORDS c = rw (ne_eqb _ 520 c.if-words-ne-RECORD_WORDS.true, c.zero_record.ensures)
+returns-then-words-ne-RECORD_WORDS c = rw (ne_eqb _ 520 c.if-words-ne-RECORD_WORDS.true)
 
 pub returns : goal.returns
 unfolding given_record

@@ -13,7 +13,7 @@ use Rattle.writer.specs.Inner.{Room, code_bits}
 use Rattle.writer.proofs.Runs.{put_as-run, room-front, room-over, put-over}
 use Rattle.writer.proofs.Codes.{length-small, number-front, number-rest}
 use native.Mathlib.Omega.{arith}
-use Rattle.writer.proofs.put.put_number.Goals.{After-least-late, After-with_twelve, After-with_twelve-2, Start}
+use Rattle.writer.proofs.put.put_number.Goals.{After-min-late, After-with_twelve, After-with_twelve-2, Start}
 use Rattle.writer.proofs.put.put_number.Goals as goal
 
 room : (c : Start) → Room external (number_at c.args.words.now c.args.from) c.args.out.now c.args.at
@@ -31,12 +31,12 @@ others c late = code_bits 4 (take late (drop (c.args.from + 13) c.args.words.now
 
 front : (c : After-with_twelve) (late : ℕ) →
     let early = c.bits-early_bits.result.0 in
-    c.least-early.result + late ≡ min (word c.args.words.now c.args.from) 24
+    c.min-early.result + late ≡ min (word c.args.words.now c.args.from) 24
     → external.print (number_at c.args.words.now c.args.from) ≡ bits_of (5 + early) (c.with_twelve.result / 2 ^ (48 - early))
     ++ others (goal.at.After-with_twelve c).Start late
 front c late all =
     let p = sym c.bits-early_bits.ensures in
-    number-front c.args.words.now c.args.from (omega (arith, c.requires.0)) (small (goal.at.After-with_twelve c).Start) _ late _ (omega (arith, c.least-early.ensures))
+    number-front c.args.words.now c.args.from (omega (arith, c.requires.0)) (small (goal.at.After-with_twelve c).Start) _ late _ (omega (arith, c.min-early.ensures))
     all c.with_twelve.ensures
     ∙ (λ i. bits_of (5 + p i) (c.with_twelve.result / 2 ^ (48 - p i)) ++ others (goal.at.After-with_twelve c).Start late)
 
@@ -46,15 +46,15 @@ with_twelve-requires c =
 
 pub put_run-middle-requires : goal.put_run-middle-requires
 put_run-middle-requires c = (
-  omega (arith, c.bits-early_bits.ensures, c.least-early.ensures),
-  room-front _ _ _ (front (goal.at.put_run-middle-requires c).After-with_twelve (min (word c.args.words.now c.args.from) 24 - c.least-early.result) (omega (arith, c.least-early.ensures))) (room (goal.at.put_run-middle-requires c).Start),
+  omega (arith, c.bits-early_bits.ensures, c.min-early.ensures),
+  room-front _ _ _ (front (goal.at.put_run-middle-requires c).After-with_twelve (min (word c.args.words.now c.args.from) 24 - c.min-early.result) (omega (arith, c.min-early.ensures))) (room (goal.at.put_run-middle-requires c).Start),
 )
 
 pub returns-then-count-lt13 : goal.returns-then-count-lt13
 unfolding code_bits
 returns-then-count-lt13 c =
     rw number-at
-    (put_as-run _ _ (front (goal.at.returns-then-count-lt13 c).After-with_twelve 0 (omega (arith, c.least-early.ensures, c.if-count-lt13.true)) ∙ append-nil _) c.put_run-middle.ensures)
+    (put_as-run _ _ (front (goal.at.returns-then-count-lt13 c).After-with_twelve 0 (omega (arith, c.min-early.ensures, c.if-count-lt13.true)) ∙ append-nil _) c.put_run-middle.ensures)
 
 pub overflow_cast-count-3 : goal.overflow_cast-count-3
 overflow_cast-count-3 c =
@@ -65,36 +65,36 @@ with_twelve-requires-2 c =
     (omega arith, omega (arith, c.requires.0))
 
 -- the whole number by the first run, where there is a second
-both : (c : After-least-late) →
+both : (c : After-min-late) →
     let early = c.bits-early_bits.result.0 in
     external.print (number_at c.args.words.now c.args.from)
-    ≡ bits_of (5 + early) (c.with_twelve.result / 2 ^ (48 - early)) ++ others (goal.at.After-least-late c).Start (c.least-late.result - 12)
+    ≡ bits_of (5 + early) (c.with_twelve.result / 2 ^ (48 - early)) ++ others (goal.at.After-min-late c).Start (c.min-late.result - 12)
 both c =
-    front (goal.at.After-least-late c).After-with_twelve (c.least-late.result - 12) (omega (arith, c.least-early.ensures, c.least-late.ensures, c.if-count-lt13.false))
+    front (goal.at.After-min-late c).After-with_twelve (c.min-late.result - 12) (omega (arith, c.min-early.ensures, c.min-late.ensures, c.if-count-lt13.false))
 
 over : (c : After-with_twelve-2) →
     let late = c.bits-late_bits.result.0 in
     bits_of (c.put_run-middle.result % 8 + late) (c.with_twelve-2.result / 2 ^ (48 - late))
-    ≡ bits_of (c.put_run-middle.result % 8) (c.with_twelve.result / 2 ^ (48 - c.bits-early_bits.result.0)) ++ others (goal.at.After-with_twelve-2 c).Start (c.least-late.result - 12)
+    ≡ bits_of (c.put_run-middle.result % 8) (c.with_twelve.result / 2 ^ (48 - c.bits-early_bits.result.0)) ++ others (goal.at.After-with_twelve-2 c).Start (c.min-late.result - 12)
 over c =
     let n = c.bits-late_bits.ensures in
     (λ i. bits_of (c.put_run-middle.result % 8 + n i) (c.with_twelve-2.result / 2 ^ (48 - n i)))
-    ∙ number-rest c.args.words.now c.args.from (omega (arith, c.requires.0)) (small (goal.at.After-with_twelve-2 c).Start) _ (c.least-late.result - 12) _ _ (omega arith)
-    (omega (arith, c.least-late.ensures)) c.with_twelve-2.ensures
+    ∙ number-rest c.args.words.now c.args.from (omega (arith, c.requires.0)) (small (goal.at.After-with_twelve-2 c).Start) _ (c.min-late.result - 12) _ _ (omega arith)
+    (omega (arith, c.min-late.ensures)) c.with_twelve-2.ensures
 
-wide : (c : After-least-late) → 8 ≤ 5 + c.bits-early_bits.result.0
+wide : (c : After-min-late) → 8 ≤ 5 + c.bits-early_bits.result.0
 wide c =
-    omega (arith, c.bits-early_bits.ensures, c.least-early.ensures, c.if-count-lt13.false)
+    omega (arith, c.bits-early_bits.ensures, c.min-early.ensures, c.if-count-lt13.false)
 
 pub put_run-requires : goal.put_run-requires
 put_run-requires c = (
-  omega (arith, c.bits-late_bits.ensures, c.least-late.ensures),
-  room-over _ _ _ (both (goal.at.put_run-requires c).After-least-late) (room (goal.at.put_run-requires c).Start) c.put_run-middle.ensures _ _ _ (wide (goal.at.put_run-requires c).After-least-late) (omega arith) (over (goal.at.put_run-requires c).After-with_twelve-2),
+  omega (arith, c.bits-late_bits.ensures, c.min-late.ensures),
+  room-over _ _ _ (both (goal.at.put_run-requires c).After-min-late) (room (goal.at.put_run-requires c).Start) c.put_run-middle.ensures _ _ _ (wide (goal.at.put_run-requires c).After-min-late) (omega arith) (over (goal.at.put_run-requires c).After-with_twelve-2),
 )
 
 pub returns : goal.returns
 returns c =
-    rw number-at (put-over _ _ _ (both (goal.at.returns c).After-least-late) (room (goal.at.returns c).Start) c.put_run-middle.ensures _ _ _ (wide (goal.at.returns c).After-least-late) (omega arith) (over (goal.at.returns c).After-with_twelve-2) c.put_run.ensures)
+    rw number-at (put-over _ _ _ (both (goal.at.returns c).After-min-late) (room (goal.at.returns c).Start) c.put_run-middle.ensures _ _ _ (wide (goal.at.returns c).After-min-late) (omega arith) (over (goal.at.returns c).After-with_twelve-2) c.put_run.ensures)
 
 pub overflow_cast-count : goal.overflow_cast-count
 overflow_cast-count c =

@@ -1,4 +1,6 @@
 -- Entry by entry, up to the last that is used. Assumes nothing.
+use mathlib.Core.Path.{◌≡◌}
+use Prim.Native.Nat.{◌+◌, ◌*◌}
 use Rattle.grammar.proofs.Sizes.{size-no_external}
 use Rattle.words.specs.RecordWords.{number_from}
 use Rattle.words.proofs.LegalRecords.{SmallNumber}
@@ -17,11 +19,13 @@ put_number-next-requires c = (
 
 pub loop-i-preserved : goal.loop-i-preserved
 loop-i-preserved c =
-    putting-next c.loop-i.invariant c.loop-i-test.true c.requires.1 c.put_number-next.auto.out c.put_number-next.ensures
+    let next : c.args.from + 25 * c.loop-i.i + 25 ≡ c.args.from + 25 * (c.loop-i.i + 1) = omega arith in
+    rw (← next) (putting-next c.loop-i.invariant c.loop-i-test.true c.requires.1 c.put_number-next.auto.out c.put_number-next.ensures)
 
 pub returns : goal.returns
 returns c = putting-done c.loop-i.invariant size-no_external c.loop-i-test.false
 
 pub loop-i-init : goal.loop-i-init
 loop-i-init c =
-    putting-start c.requires.3
+    let start : c.args.from + 25 * 0 ≡ c.args.from = omega arith in
+    rw start (putting-start c.requires.3)

@@ -1,5 +1,6 @@
 -- SS type, PDU type, affected users, and what follows them. Assumes nothing.
 use mathlib.Core.Path.{◌≡◌, sym, subst}
+use Rattle.std.specs.Prelude.{Option}
 use native.Mathlib.Omega.{arith}
 use Rattle.codec.specs.Codec.{Codec}
 use Rattle.codec.specs.Parts.{element, seq, mark, only}
@@ -44,7 +45,7 @@ row_room : (c : After-put_element-after_kind) →
 unfolding record_from
 row_room c =
     let r = record_from (start (goal.at.After-put_element-after_kind c).After-form_of-form).args.words.now in
-    subst (λ (t : PduType). Room (rowed t) (from_record r).1 c.put_element-after_kind.new.out c.put_element-after_kind.result) (sym (typed (goal.at.After-put_element-after_kind c).After-form_of-form))
+    subst (λ (t : Option PduType). Room (rowed t) (from_record r).1 c.put_element-after_kind.new.out c.put_element-after_kind.result) (sym (typed (goal.at.After-put_element-after_kind c).After-form_of-form))
     (subst (λ (t : Codec Rest). Room t (from_record r).1 c.put_element-after_kind.new.out c.put_element-after_kind.result) (in_rows (pdu_type r.kind))
     (room_next _ (kind-room (goal.at.After-put_element-after_kind c).After-put_element-after_ss) (put_element 5 kind_refusal c.put_element-after_kind.ensures)))
 
@@ -71,7 +72,7 @@ returns c =
     let row = put_then _ (row_room (goal.at.returns c).After-put_element-after_kind) (users (goal.at.returns c).After-put_users-after_users) (λ h. c.put_figured.ensures) in
     let rest = subst (λ (t : Codec Rest). Puts t (from_record r).1 c.put_element-after_kind.new.out c.put_figured.new.out c.put_element-after_kind.result
     c.put_figured.result) (sym (in_rows (pdu_type r.kind)))
-    (subst (λ (t : PduType). Puts (rowed t) (from_record r).1 c.put_element-after_kind.new.out c.put_figured.new.out c.put_element-after_kind.result
+    (subst (λ (t : Option PduType). Puts (rowed t) (from_record r).1 c.put_element-after_kind.new.out c.put_figured.new.out c.put_element-after_kind.result
     c.put_figured.result) (typed (goal.at.returns c).After-form_of-form) row) in
     put-shape _ _ _ _ (put_then _ (room-shape _ _ _ _ (start (goal.at.returns c).After-form_of-form).requires.2) (put_element 6 (only ss_type) c.put_element-after_ss.ensures)
     (λ h. put-shape _ _ _ _ (put_then _ (room-shape _ _ _ _ h) (put_element 5 kind_refusal c.put_element-after_kind.ensures)

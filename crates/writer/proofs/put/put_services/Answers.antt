@@ -16,11 +16,11 @@ room : (c : Start) → let a = c.args in
     Room (seq (number a.width) (λ x. services)) (a.lead, services_at a.words.now a.from) a.out.now a.at
 room c = rw services-at at c.requires.3
 
-whole : (c : After-with_codes) → let used = c.least-used_bits.result in let a = c.args in
+whole : (c : After-with_codes) → let used = c.min-used_bits.result in let a = c.args in
     (seq (number a.width) (λ x. services)).print (a.lead, services_at a.words.now a.from)
     ≡ bits_of (a.width + 3 + 3 * used) (c.with_codes.result / 2 ^ (21 - 3 * used))
 whole c =
-    services-run c.args.words.now c.args.from _ c.args.width c.args.lead _ c.requires.2 c.least-used_bits.ensures
+    services-run c.args.words.now c.args.from _ c.args.width c.args.lead _ c.requires.2 c.min-used_bits.ensures
     (c.with_codes.ensures 3 refl)
 
 pub overflow_mul-start : goal.overflow_mul-start
@@ -35,7 +35,7 @@ with_codes-requires c =
 
 pub put_run-requires : goal.put_run-requires
 put_run-requires c =
-    (omega (arith, c.least-used_bits.ensures, c.requires.1), room-run _ _ (whole (goal.at.put_run-requires c).After-with_codes) (room (goal.at.put_run-requires c).Start))
+    (omega (arith, c.min-used_bits.ensures, c.requires.1), room-run _ _ (whole (goal.at.put_run-requires c).After-with_codes) (room (goal.at.put_run-requires c).Start))
 
 pub returns : goal.returns
 returns c = rw services-at (put_as-run _ _ (whole (goal.at.returns c).After-with_codes) c.put_run.ensures)
