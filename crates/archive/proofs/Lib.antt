@@ -1,3 +1,4 @@
+pub mod Mapped
 pub mod Model
 pub mod Bytes
 pub mod Calls

@@ -1,13 +1,14 @@
 // Whether bytes are an archive, and where a key stands in one: each one pass over the contents.
-ghost use Rattle.std.specs.Prelude.{◌≡◌, true, ◌+◌, ◌*◌, ◌≤◌, length};
+ghost use Rattle.std.specs.Prelude.{◌≡◌, true, ◌+◌, ◌*◌, ◌≤◌, ◌<◌, length, Err, IfOk, IfErr};
+ghost use Rattle.bits.specs.Bits.{Bytes};
 ghost use Rattle.archive.specs.Model.{rank_of, header_width, entry_width};
-ghost use Rattle.archive.specs.Reading.{is_archive, bodies_at, held_in};
+ghost use Rattle.archive.specs.Reading.{home_of, count_of, entry_at, is_archive, bodies_at, held_in};
 ghost use Rattle.archive.specs.Checking.{check_is};
 ghost use Rattle.archive.specs.Inner.{KeyFits, EntryFits, may_follow, rest_shape, fault_is, seek, entries_in, next_at, rest_at};
 
 use crate::contents::{ENTRY, Entry, HEADER, Key};
 use crate::refusal::Refusal;
-use crate::{contents, filing, refusal};
+use crate::{contents, filing};
 
 // Exactly the bytes of a well-formed archive pass. Others get refusal 7: a fault of header, contents or length comes before any body's, and a
 // body's names the first entry whose body is at fault.
@@ -16,16 +17,16 @@ pub fn check(archive: &[u8]) -> Result<(), Refusal>
 {
     let size = archive.len();
     if size < HEADER {
-        return Err(refusal::plain(7));
+        return Err(Refusal::plain(7));
     }
     let home = contents::home(archive);
     let count = contents::count(archive);
     if !contents::within_limits(count, size) {
-        return Err(refusal::plain(7));
+        return Err(Refusal::plain(7));
     }
     let mut off = HEADER + ENTRY * count;
     if size < off {
-        return Err(refusal::plain(7));
+        return Err(Refusal::plain(7));
     }
     // below each key that is in range
     let mut last = Key {
@@ -37,11 +38,10 @@ pub fn check(archive: &[u8]) -> Result<(), Refusal>
         let at = HEADER + ENTRY * index;
         let entry = contents::entry_at(archive, at);
         if !may_follow(entry, last, size - off) {
-            return Err(refusal::plain(7));
+            return Err(Refusal::plain(7));
         }
         let key = entry.key;
-        let bits = entry.bits;
-        let end = off + bits.bytes();
+        let end = off + entry.bits.bytes();
         if let Err(place) = filing::body_agreement(home, entry, &archive[off..end]) {
             let after = count - index - 1;
             return at_fault(archive, key, after, at + ENTRY, end, index, place);
@@ -50,7 +50,7 @@ pub fn check(archive: &[u8]) -> Result<(), Refusal>
         off = end;
     }
     if off != size {
-        return Err(refusal::plain(7));
+        return Err(Refusal::plain(7));
     }
     Ok(())
 }
@@ -71,10 +71,10 @@ fn at_fault(
     ensures { result ≡ fault_is archive.now key entries from bodies index place }
 {
     if !contents::in_range(key) {
-        return Err(refusal::plain(7));
+        return Err(Refusal::plain(7));
     }
     if !rest_has_shape(archive, entries, from, bodies, key) {
-        return Err(refusal::plain(7));
+        return Err(Refusal::plain(7));
     }
     Err(Refusal {
         number: 7,
@@ -92,8 +92,7 @@ fn may_follow(entry: Entry, last: Key, room: usize) -> bool
     if entry.key <= last {
         return false;
     }
-    let bits = entry.bits;
-    bits.bytes() <= room
+    entry.bits.bytes() <= room
 }
 
 // Whether the entries that are left, whatever their bodies, have the shape of an archive's.
@@ -113,8 +112,7 @@ fn rest_has_shape(archive: &[u8], entries: usize, from: usize, bodies: usize, ke
         if !contents::in_range(last) {
             return false;
         }
-        let bits = entry.bits;
-        off += bits.bytes();
+        off += entry.bits.bytes();
     }
     off == archive.len()
 }
@@ -127,68 +125,98 @@ pub struct Place {
     pub entry: Option<Entry>,
 }
 
-// How many entries stand at a place: one or none.
-pub(crate) fn entries_of(place: Place) -> usize
-    ensures { result ≡ entries_in place.entry }
-{
-    match place.entry {
-        Some(_) => 1,
-        None => 0,
+impl Place {
+    // How many entries stand here: one or none.
+    pub(crate) fn entries(self) -> usize
+        ensures { result ≡ entries_in self.entry }
+    {
+        usize::from(self.entry.is_some())
+    }
+
+    // Where the contents, and where the bodies, go on behind it.
+    pub(crate) fn next(self) -> usize
+        requires { next_at self ≤ 65536 }
+        ensures { result ≡ next_at self }
+    {
+        self.at + ENTRY * self.entries()
+    }
+
+    pub(crate) fn rest(self) -> usize
+        requires { rest_at self ≤ 65536 }
+        ensures { result ≡ rest_at self }
+    {
+        self.off + self.entry.map_or(0, |entry| entry.bits.bytes())
     }
 }
 
-// Where the contents, and where the bodies, go on after a place.
-pub(crate) fn next_of(place: Place) -> usize
-    requires { next_at place ≤ 65536 }
-    ensures { result ≡ next_at place }
-{
-    place.at + ENTRY * entries_of(place)
+// The bytes of an archive: only what passes the check is one. That each is below 256 is said beside it, since a proof knows it of a slice alone.
+#[derive(Clone, Copy)]
+pub(crate) struct Archive<'a> {
+    pub(crate) bytes: &'a [u8],
+    pub(crate) ghost passed: { is_archive bytes.now ≡ true },
+    pub(crate) ghost fit: { Bytes bytes.now },
 }
 
-pub(crate) fn rest_of(place: Place) -> usize
-    requires { rest_at place ≤ 65536 }
-    ensures { result ≡ rest_at place }
-{
-    match place.entry {
-        Some(entry) => {
-            let bits = entry.bits;
-            place.off + bits.bytes()
-        },
-        None => place.off,
+impl<'a> Archive<'a> {
+    pub(crate) fn checked(bytes: &'a [u8]) -> Result<Archive<'a>, Refusal>
+        ensures same { IfOk result (λ archive. archive.bytes.now ≡ bytes.now) }
+        ensures refused { IfErr result (λ refusal. check_is bytes.now ≡ Err refusal) }
+    {
+        check(bytes)?;
+        Ok(Archive { bytes })
     }
-}
 
-// The place of a key in an archive.
-pub(crate) fn find(archive: &[u8], key: Key) -> Place
-    requires { (is_archive archive.now ≡ true) × (KeyFits key) }
-    ensures { result ≡ seek (rank_of key) header_width (bodies_at archive.now) (held_in archive.now) }
-{
-    let count = contents::count(archive);
-    let contents_end = HEADER + ENTRY * count;
-    let mut off = contents_end;
-    for index in 0..count {
-        let at = HEADER + ENTRY * index;
-        let entry = contents::entry_at(archive, at);
-        let held = entry.bits;
-        if entry.key == key {
-            return Place {
-                at,
-                off,
-                entry: Some(entry),
-            };
+    pub(crate) fn home(self) -> u32
+        ensures { result ≡ home_of self.entry.bytes.now }
+    {
+        contents::home(self.bytes)
+    }
+
+    pub(crate) fn count(self) -> usize
+        ensures { (result ≡ count_of self.entry.bytes.now) × (result ≤ 512) }
+    {
+        contents::count(self.bytes)
+    }
+
+    // The contents entry at an index, from 0.
+    pub(crate) fn entry(self, index: usize) -> Entry
+        requires { index < count_of self.bytes.now }
+        ensures { (result ≡ entry_at self.entry.bytes.now (header_width + entry_width * index)) × (EntryFits result) }
+    {
+        contents::entry_at(self.bytes, HEADER + ENTRY * index)
+    }
+
+    // The place of a key.
+    pub(crate) fn find(self, key: Key) -> Place
+        requires { KeyFits key }
+        ensures { result ≡ seek (rank_of key) header_width (bodies_at self.entry.bytes.now) (held_in self.entry.bytes.now) }
+    {
+        let count = self.count();
+        let contents_end = HEADER + ENTRY * count;
+        let mut off = contents_end;
+        for index in 0..count {
+            let at = HEADER + ENTRY * index;
+            let entry = self.entry(index);
+            if entry.key == key {
+                return Place {
+                    at,
+                    off,
+                    entry: Some(entry),
+                };
+            }
+            if key < entry.key {
+                return Place {
+                    at,
+                    off,
+                    entry: None,
+                };
+            }
+            off += entry.bits.bytes();
         }
-        if key < entry.key {
-            return Place {
-                at,
-                off,
-                entry: None,
-            };
+        Place {
+            at: contents_end,
+            off,
+            entry: None,
         }
-        off += held.bytes();
-    }
-    Place {
-        at: contents_end,
-        off,
-        entry: None,
     }
 }

@@ -1,5 +1,5 @@
 // The numbers, the header and the entries of an archive: their widths and their order.
-ghost use Rattle.std.specs.Prelude.{◌≡◌, ◌+◌, ◌≤◌, ◌<◌, length, get_or};
+ghost use Rattle.std.specs.Prelude.{◌≡◌, ◌+◌, ◌≤◌, ◌<◌, length};
 ghost use Rattle.archive.specs.Model.{in_range, bytes3, header_width, entry_width, header_bytes, entry_bytes, within_limits};
 ghost use Rattle.archive.specs.Reading.{number2, number3, home_of, entry_at};
 ghost use Rattle.archive.specs.Inner.{EntryFits};
@@ -51,13 +51,6 @@ pub(crate) fn within_limits(count: usize, size: usize) -> bool
         return false;
     }
     size <= 65536
-}
-
-fn byte(b: &[u8], at: usize) -> u32
-    requires { at < length b.now }
-    ensures { (result ≡ get_or b.now at 0) × (result < 256) }
-{
-    b[at] as u32
 }
 
 fn two(b: &[u8], at: usize) -> usize
@@ -119,7 +112,7 @@ pub(crate) fn entry_at(b: &[u8], at: usize) -> Entry
     let key = Key {
         network: three(b, at),
         ssi: three(b, at + 3),
-        part: byte(b, at + 6),
+        part: u32::from(b[at + 6]),
     };
     Entry {
         key,

@@ -5,8 +5,8 @@ ghost use Rattle.archive.specs.Model.{header_width, entry_width};
 ghost use Rattle.archive.specs.Inner.{Within, EntryFits, front_of, back_of, spliced, back_length, spliced_length};
 
 use crate::checking::Place;
+use crate::contents;
 use crate::contents::{ENTRY, Entry, HEADER};
-use crate::{checking, contents};
 use text::append;
 
 // Writes the header, the contents before a place and a new entry.
@@ -26,10 +26,9 @@ fn write_back(archive: &[u8], place: Place, body: &[u8], at: usize, out: &mut [u
     requires { (Within place archive.now) × (at + back_length archive.now place (length body.now) ≤ length out.old) }
     ensures { Laid out.old at (back_of archive.now place body.now) out.new result }
 {
-    let off = place.off;
-    let next = checking::next_of(place);
-    let rest = checking::rest_of(place);
-    let body_at = append(out, at, &archive[next..off]);
+    let next = place.next();
+    let rest = place.rest();
+    let body_at = append(out, at, &archive[next..place.off]);
     let rest_at = append(out, body_at, body);
     append(out, rest_at, &archive[rest..])
 }
@@ -39,8 +38,8 @@ pub(crate) fn spliced_length(archive: &[u8], place: Place, size: usize) -> usize
     requires { (Within place archive.now) × (size ≤ 65536) }
     ensures { result ≡ spliced_length archive.now place size }
 {
-    let before = place.off - checking::next_of(place);
-    let after = archive.len() - checking::rest_of(place);
+    let before = place.off - place.next();
+    let after = archive.len() - place.rest();
     place.at + ENTRY + (before + size + after)
 }
 
@@ -57,7 +56,6 @@ pub(crate) fn splice(
     requires body_in_bounds { spliced_length archive.now place (length body.now) ≤ length out.old }
     ensures { Laid out.old 0 (spliced archive.now place count entry body.now) out.new result }
 {
-    let at = place.at;
-    let back = write_front(archive, at, count, entry, out);
+    let back = write_front(archive, place.at, count, entry, out);
     write_back(archive, place, body, back, out)
 }

@@ -12,9 +12,7 @@ use walk::Head;
 pub(crate) fn filing_of(home: u32, head: Head) -> Option<Key>
     ensures { result ≡ filing_under home head }
 {
-    let Some((user, part)) = judging::judge(head) else {
-        return None;
-    };
+    let (user, part) = judging::judge(head)?;
     Some(Key {
         network: network_of(home, user),
         ssi: user.ssi,
@@ -34,14 +32,9 @@ fn is_filed_under(home: u32, head: Head, key: Key) -> bool
 pub(crate) fn body_agreement(home: u32, entry: Entry, body: &[u8]) -> Result<(), Option<usize>>
     ensures { result ≡ agreement_is home (record { entry = entry; body = body.now }) }
 {
-    let key = entry.key;
-    match walk::walk(body, entry.bits) {
-        Err(refusal) => Err(refusal.place),
-        Ok(head) => {
-            if is_filed_under(home, head, key) {
-                return Ok(());
-            }
-            Err(None)
-        },
+    let head = walk::walk(body, entry.bits).map_err(|refusal| refusal.place)?;
+    if is_filed_under(home, head, entry.key) {
+        return Ok(());
     }
+    Err(None)
 }

@@ -8,17 +8,17 @@ mod filing;
 pub mod listing;
 mod refusal;
 
-ghost use Rattle.std.specs.Prelude.{◌≡◌, true, ◌+◌, ◌≤◌, length, take, drop, leb, Ok, Err};
+ghost use Rattle.std.specs.Prelude.{◌≡◌, ◌+◌, ◌≤◌, length, take, drop, leb, Ok, Err};
 ghost use Rattle.bits.specs.Bits.{pick};
 ghost use Rattle.bits.specs.Frame.{bytes_for};
 ghost use Rattle.archive.specs.Model.{bytes_of};
-ghost use Rattle.archive.specs.Reading.{is_archive};
 ghost use Rattle.archive.specs.Refusals.{plain};
 ghost use Rattle.archive.specs.Inner.{EntryFits, filed_in};
 ghost use Rattle.archive.specs.Keeping.{leaves, empty_is, empty_out, placed, capture_is, capture_out};
 ghost use Rattle.archive.specs.Restoring.{entry_is, fetch_is, restores, restore_is, restore_out};
 
 use bits::BitCount;
+use checking::Archive;
 pub use checking::check;
 pub use contents::{Entry, Key, home, in_range};
 pub use refusal::Refusal;
@@ -38,16 +38,43 @@ pub struct Body {
     pub day: u32,
 }
 
+impl Body {
+    // Its bytes in the archive.
+    fn bytes(self, archive: &[u8]) -> &[u8]
+        requires { self.off + bytes_for self.bits.0 ≤ length archive.now }
+        ensures { result.now ≡ take (bytes_for self.bits.0) (drop self.off archive.now) }
+    {
+        &archive[self.off..self.off + self.bits.bytes()]
+    }
+
+    // Writes them to the front of the lent buffer; answers with the day too.
+    fn deliver(self, archive: &[u8], out: &mut [u8]) -> Result<Restored, Refusal>
+        requires { self.off + bytes_for self.bits.0 ≤ length archive.now }
+        ensures value { result ≡ pick (leb (bytes_for self.bits.0) (length out.old)) (Ok (record { bits = self.bits; day = self.day })) (Err (plain 8)) }
+        ensures out_after { out.new ≡ restores result (take (bytes_for self.bits.0) (drop self.off archive.now)) out.old }
+    {
+        let bytes = self.bytes(archive);
+        if out.len() < bytes.len() {
+            return Err(Refusal::plain(8));
+        }
+        text::append(out, 0, bytes);
+        Ok(Restored {
+            bits: self.bits,
+            day: self.day,
+        })
+    }
+}
+
 // Writes the empty archive of a home network; this, `capture` and `listing::list` answer with the length in bytes of what they write.
 pub fn empty(home: u32, out: &mut [u8]) -> Result<usize, Refusal>
     ensures value { result ≡ empty_is home (length out.old) }
     ensures out_after { out.new ≡ empty_out home out.old }
 {
     if 16777216 <= home {
-        return Err(refusal::plain(9));
+        return Err(Refusal::plain(9));
     }
     if out.len() < contents::HEADER {
-        return Err(refusal::plain(8));
+        return Err(Refusal::plain(8));
     }
     let header = contents::header_bytes(home, 0);
     Ok(text::append(out, 0, &header))
@@ -65,86 +92,61 @@ pub fn capture(
     ensures out_after { out.new ≡ capture_out archive.now body.now n.0 day out.old }
 {
     if 65535 < day {
-        return Err(refusal::plain(9));
+        return Err(Refusal::plain(9));
     }
-    checking::check(archive)?;
-    let head = match walk::walk(body, n) {
-        Ok(head) => head,
-        Err(refusal) => return Err(refusal::of_pdu(refusal)),
-    };
-    let Some(key) = filing::filing_of(contents::home(archive), head) else {
-        return Err(refusal::plain(6));
+    let archive = Archive::checked(archive)?;
+    let head = walk::walk(body, n)?;
+    let Some(key) = filing::filing_of(archive.home(), head) else {
+        return Err(Refusal::plain(6));
     };
     let entry = Entry { key, bits: n, day };
     file(archive, entry, body, out)
 }
 
 // Files a body under its entry, in place of what is held for its user and part.
-fn file(archive: &[u8], entry: Entry, body: &[u8], out: &mut [u8]) -> Result<usize, Refusal>
-    requires { (is_archive archive.now ≡ true) × (EntryFits entry) × (length body.now ≡ bytes_for entry.bits.0) }
-    ensures value { result ≡ placed (filed_in archive.now entry body.now) (length out.old) }
-    ensures out_after { out.new ≡ leaves result (bytes_of (filed_in archive.now entry body.now)) out.old }
+fn file(archive: Archive<'_>, entry: Entry, body: &[u8], out: &mut [u8]) -> Result<usize, Refusal>
+    requires { (EntryFits entry) × (length body.now ≡ bytes_for entry.bits.0) }
+    ensures value { result ≡ placed (filed_in archive.entry.bytes.now entry body.now) (length out.old) }
+    ensures out_after { out.new ≡ leaves result (bytes_of (filed_in archive.entry.bytes.now entry body.now)) out.old }
 {
-    let key = entry.key;
-    let place = checking::find(archive, key);
-    let count = contents::count(archive) + 1 - checking::entries_of(place);
-    let size = copying::spliced_length(archive, place, body.len());
+    let place = archive.find(entry.key);
+    let count = archive.count() + 1 - place.entries();
+    let size = copying::spliced_length(archive.bytes, place, body.len());
     if !contents::within_limits(count, size) {
-        return Err(refusal::plain(8));
+        return Err(Refusal::plain(8));
     }
     if out.len() < size {
-        return Err(refusal::plain(8));
+        return Err(Refusal::plain(8));
     }
-    Ok(copying::splice(archive, place, count, entry, body, out))
+    Ok(copying::splice(archive.bytes, place, count, entry, body, out))
 }
 
 // The contents entry at an index, from 0.
 pub fn entry(archive: &[u8], index: usize) -> Result<Entry, Refusal>
     ensures { result ≡ entry_is archive.now index }
 {
-    checking::check(archive)?;
-    if contents::count(archive) <= index {
-        return Err(refusal::plain(11));
+    let archive = Archive::checked(archive)?;
+    if archive.count() <= index {
+        return Err(Refusal::plain(11));
     }
-    Ok(contents::entry_at(archive, contents::HEADER + contents::ENTRY * index))
+    Ok(archive.entry(index))
 }
 
 // Finds the body held for a user and part, if there is one.
 pub fn fetch(archive: &[u8], key: Key) -> Result<Option<Body>, Refusal>
     ensures { result ≡ fetch_is archive.now key }
 {
-    checking::check(archive)?;
+    let archive = Archive::checked(archive)?;
     if !in_range(key) {
         return Ok(None);
     }
-    let place = checking::find(archive, key);
-    let Some(held) = place.entry else {
-        return Ok(None);
-    };
-    Ok(Some(Body {
+    let place = archive.find(key);
+    let body = place.entry.map(|held| Body {
         off: place.off,
         bits: held.bits,
         day: held.day,
-    }))
-}
-
-// Writes a body to the front of the lent buffer; answers with its day too.
-fn deliver(archive: &[u8], body: Body, out: &mut [u8]) -> Result<Restored, Refusal>
-    requires { body.off + bytes_for body.bits.0 ≤ length archive.now }
-    ensures value { result ≡ pick (leb (bytes_for body.bits.0) (length out.old)) (Ok (record { bits = body.bits; day = body.day })) (Err (plain 8)) }
-    ensures out_after { out.new ≡ restores result (take (bytes_for body.bits.0) (drop body.off archive.now)) out.old }
-{
-    let bits = body.bits;
-    let size = bits.bytes();
-    if out.len() < size {
-        return Err(refusal::plain(8));
-    }
-    let end = body.off + size;
-    text::append(out, 0, &archive[body.off..end]);
-    Ok(Restored {
-        bits,
-        day: body.day,
-    })
+    });
+    Ok(body)
 }
 
 // Restores the PDU held for a user and part: writes its bytes to the lent buffer.
@@ -153,10 +155,10 @@ pub fn restore(archive: &[u8], key: Key, out: &mut [u8]) -> Result<Restored, Ref
     ensures out_after { out.new ≡ restore_out archive.now key out.old }
 {
     if !in_range(key) {
-        return Err(refusal::plain(9));
+        return Err(Refusal::plain(9));
     }
     let Some(body) = fetch(archive, key)? else {
-        return Err(refusal::plain(11));
+        return Err(Refusal::plain(11));
     };
-    deliver(archive, body, out)
+    body.deliver(archive, out)
 }

@@ -1,26 +1,15 @@
 // The listing of an archive as text: a line for the header, then a line for each PDU held.
-ghost use Rattle.std.specs.Prelude.{◌≡◌, true, ◌+◌, ◌*◌, ◌≤◌, length};
+ghost use Rattle.std.specs.Prelude.{◌≡◌, ◌+◌, ◌≤◌, length};
 ghost use Rattle.bits.specs.Inner.{Laid};
-ghost use Rattle.text.specs.Decimal.{item};
-ghost use Rattle.archive.specs.Model.{header_width, entry_width};
-ghost use Rattle.archive.specs.Reading.{count_of, is_archive, reading};
+ghost use Rattle.archive.specs.Reading.{reading};
 ghost use Rattle.archive.specs.Inner.{lines_in};
 ghost use Rattle.archive.specs.Listing.{line, two_items, first_line, listing, list_is, list_out};
 ghost use Rattle.archive.specs.Listing.{refused_line, fault_text, length_within, text_within, report_is, report_out, told_out};
 
-use crate::contents::{ENTRY, Entry, HEADER};
+use crate::checking::Archive;
+use crate::contents::Entry;
 use crate::refusal::Refusal;
-use crate::{checking, contents, refusal};
-use text::digits_of;
-
-// Writes a number and what stands after it; returns the place after both, as the other writers do. Not in `text`, since a public function asks for no room.
-fn write_item(out: &mut [u8], at: usize, n: usize, word: &[u8]) -> usize
-    requires { at + length (item n word.now) ≤ length out.old }
-    ensures { Laid out.old at (item n word.now) out.new result }
-{
-    let word_at = text::write_number(out, at, n);
-    text::append(out, word_at, word)
-}
+use text::{digits_of, write_item};
 
 // Writes a line of two numbers, each after its word; this and the other writers return the place after what they write.
 fn write_two_items(out: &mut [u8], word: &[u8], n: usize, other: &[u8], m: usize) -> usize
@@ -53,28 +42,6 @@ fn write_line(out: &mut [u8], at: usize, entry: Entry) -> usize
     write_item(out, day_at, entry.day as usize, b"\n")
 }
 
-// Writes the lines of all entries.
-fn write_lines(archive: &[u8], out: &mut [u8], start: usize) -> usize
-    requires archive_in_bounds { header_width + entry_width * count_of archive.now ≤ length archive.now }
-    requires archive_in_bounds_2 { start + length (lines_in archive.now) ≤ length out.old }
-    ensures { Laid out.old start (lines_in archive.now) out.new result }
-{
-    let mut at = start;
-    for index in 0..contents::count(archive) {
-        at = write_line(out, at, contents::entry_at(archive, HEADER + ENTRY * index));
-    }
-    at
-}
-
-// Writes the whole text.
-fn write_text(archive: &[u8], out: &mut [u8]) -> usize
-    requires { (is_archive archive.now ≡ true) × (length (listing (reading archive.now)) ≤ length out.old) }
-    ensures { Laid out.old 0 (listing (reading archive.now)) out.new result }
-{
-    let lines_at = write_first(out, contents::home(archive), contents::count(archive));
-    write_lines(archive, out, lines_at)
-}
-
 // Bytes of the words in the first line, and in the line of an entry.
 const FIRST_WORDS: usize = 15;
 
@@ -91,18 +58,51 @@ fn line_length(entry: Entry) -> usize
     user + body + day + LINE_WORDS
 }
 
-// The length of the whole text.
-fn text_length(archive: &[u8]) -> usize
-    requires { is_archive archive.now ≡ true }
-    ensures { result ≡ length (listing (reading archive.now)) }
-{
-    let count = contents::count(archive);
-    let home = contents::home(archive);
-    let mut size = digits_of(home as usize) + digits_of(count) + FIRST_WORDS;
-    for index in 0..count {
-        size += line_length(contents::entry_at(archive, HEADER + ENTRY * index));
+impl<'a> Archive<'a> {
+    // The length of the whole text.
+    fn text_length(self) -> usize
+        ensures { result ≡ length (listing (reading self.entry.bytes.now)) }
+    {
+        let count = self.count();
+        let home = self.home();
+        let mut size = digits_of(home as usize) + digits_of(count) + FIRST_WORDS;
+        for index in 0..count {
+            size += line_length(self.entry(index));
+        }
+        size
     }
-    size
+
+    // Writes the lines of all entries.
+    fn write_lines(self, out: &mut [u8], start: usize) -> usize
+        requires { start + length (lines_in self.bytes.now) ≤ length out.old }
+        ensures { Laid out.old start (lines_in self.entry.bytes.now) out.new result }
+    {
+        let mut at = start;
+        for index in 0..self.count() {
+            at = write_line(out, at, self.entry(index));
+        }
+        at
+    }
+
+    // Writes the whole text.
+    fn write_text(self, out: &mut [u8]) -> usize
+        requires { length (listing (reading self.bytes.now)) ≤ length out.old }
+        ensures { Laid out.old 0 (listing (reading self.entry.bytes.now)) out.new result }
+    {
+        let lines_at = write_first(out, self.home(), self.count());
+        self.write_lines(out, lines_at)
+    }
+
+    // Writes the listing, where there is room for it.
+    fn write_listing(self, out: &mut [u8]) -> usize
+        ensures value { result ≡ length_within (listing (reading self.entry.bytes.now)) (length out.old) }
+        ensures out_after { out.new ≡ text_within (listing (reading self.entry.bytes.now)) out.old }
+    {
+        if out.len() < self.text_length() {
+            return 0;
+        }
+        self.write_text(out)
+    }
 }
 
 // Lists an archive: writes the text to the lent buffer.
@@ -110,11 +110,11 @@ pub fn list(archive: &[u8], out: &mut [u8]) -> Result<usize, Refusal>
     ensures value { result ≡ list_is archive.now (length out.old) }
     ensures out_after { out.new ≡ list_out archive.now out.old }
 {
-    checking::check(archive)?;
-    if out.len() < text_length(archive) {
-        return Err(refusal::plain(8));
+    let archive = Archive::checked(archive)?;
+    if out.len() < archive.text_length() {
+        return Err(Refusal::plain(8));
     }
-    Ok(write_text(archive, out))
+    Ok(archive.write_text(out))
 }
 
 // Writes `refused 7` on a line, where there is room for it.
@@ -126,18 +126,6 @@ fn write_refused(out: &mut [u8]) -> usize
         return 0;
     }
     text::append(out, 0, b"refused 7\n")
-}
-
-// Writes the listing, where there is room for it.
-fn write_listing(archive: &[u8], out: &mut [u8]) -> usize
-    requires { is_archive archive.now ≡ true }
-    ensures value { result ≡ length_within (listing (reading archive.now)) (length out.old) }
-    ensures out_after { out.new ≡ text_within (listing (reading archive.now)) out.old }
-{
-    if out.len() < text_length(archive) {
-        return 0;
-    }
-    write_text(archive, out)
 }
 
 // Writes `entry I` on a line, where there is room for it.
@@ -168,12 +156,10 @@ fn write_fault(refusal: Refusal, out: &mut [u8]) -> usize
     ensures value { result ≡ length_within (fault_text refusal.entry refusal.place) (length out.old) }
     ensures out_after { out.new ≡ text_within (fault_text refusal.entry refusal.place) out.old }
 {
-    let entry = refusal.entry;
-    let place = refusal.place;
-    let Some(index) = entry else {
+    let Some(index) = refusal.entry else {
         return 0;
     };
-    match place {
+    match refusal.place {
         Some(bit) => write_entry_bit(out, index, bit),
         None => write_entry(out, index),
     }
@@ -193,13 +179,13 @@ pub fn report(archive: &[u8], out: &mut [u8], told: &mut [u8]) -> Reported
     ensures out_after { out.new ≡ report_out archive.now out.old }
     ensures told_after { told.new ≡ told_out archive.now told.old }
 {
-    match checking::check(archive) {
+    match Archive::checked(archive) {
         Err(refusal) => Reported {
             printed: write_refused(out),
             told: write_fault(refusal, told),
         },
-        Ok(()) => Reported {
-            printed: write_listing(archive, out),
+        Ok(archive) => Reported {
+            printed: archive.write_listing(out),
             told: 0,
         },
     }

@@ -9,24 +9,28 @@ pub struct Refusal {
     pub place: Option<usize>,
 }
 
-// A number, with no entry and no place.
-pub(crate) fn plain(number: u32) -> Refusal
-    ensures { result ≡ plain number }
-{
-    Refusal {
-        number,
-        entry: None,
-        place: None,
+impl Refusal {
+    // A number, with no entry and no place.
+    pub fn plain(number: u32) -> Refusal
+        ensures { result ≡ plain number }
+    {
+        Refusal {
+            number,
+            entry: None,
+            place: None,
+        }
     }
 }
 
 // The walk's refusal of a PDU that is offered.
-pub(crate) fn of_pdu(refusal: walk::Refusal) -> Refusal
-    ensures { result ≡ of_pdu refusal }
-{
-    Refusal {
-        number: refusal.number,
-        entry: None,
-        place: refusal.place,
+impl From<walk::Refusal> for Refusal {
+    ghost from_gives = { λ refused refusal. refusal ≡ of_pdu refused };
+
+    fn from(refused: walk::Refusal) -> Refusal {
+        Refusal {
+            number: refused.number,
+            entry: None,
+            place: refused.place,
+        }
     }
 }

@@ -8,6 +8,7 @@ use native.Mathlib.Omega.{arith}
 use lib.ListN.{length, take, drop}
 use lib.Dec.{leb, ltb, eqb}
 use borrow.Author.Tests.{eqb-true}
+use Rattle.std.specs.Option.{MatchOption}
 use Rattle.std.proofs.Common.{Some, None, Result, Ok, Err}
 use Rattle.bits.specs.Bits.{pick, guard}
 use Rattle.bits.specs.Frame.{bytes_for}
@@ -99,6 +100,12 @@ module _ (b : List ℕ) (q : Request) (e : request_refusal q ≡ 0) where
   decide-damaged f = not-archive b q e (fetch-damaged b _ (request-ranged q e) f)
 
 -- ---- the part that judges
+
+-- of the body that is fetched, its place and its length
+pub mapped : (o : Option Body) {m : Option JudgingPart} → MatchOption o (m ≡ None) (λ body. m ≡ Some (record { at = body.off; length = body.bits }))
+    → Ok m ≡ judged_at (Ok o)
+mapped None e = ap Ok e
+mapped (Some body) e = ap Ok e
 
 module _ (b : List ℕ) (q : Request) where
   pub part-fetched : {f : Result (Option Body) Refusal} → request_refusal q ≡ 0 → fetch_is b (key_for q) ≡ f → judged_at f ≡ judging_part b q

@@ -34,6 +34,7 @@ impl From<Option<Cause>> for Decision {
 }
 
 // The part by which a destination is judged: 1 is the identity part, 2 the number part.
+#[tactic(auto, unfolding(crate::specs::Decide::part_for))]
 fn part_for(destination: Destination) -> u32
     ensures { result ≡ part_for destination }
 {
@@ -74,21 +75,16 @@ pub fn judging_part(archive: &[u8], request: Request) -> Result<Option<JudgingPa
         });
     }
     let user = request.user;
-    let destination = request.destination;
-    let part = part_for(destination);
     let key = Key {
         network: user.network,
         ssi: user.ssi,
-        part,
+        part: part_for(request.destination),
     };
-    match archive::fetch(archive, key) {
-        Ok(Some(body)) => Ok(Some(JudgingPart {
-            at: body.off,
-            length: body.bits,
-        })),
-        Ok(None) => Ok(None),
-        Err(refusal) => Err(refusal),
-    }
+    let held = archive::fetch(archive, key)?;
+    Ok(held.map(|body| JudgingPart {
+        at: body.off,
+        length: body.bits,
+    }))
 }
 
 // Whether the archive bars the call.

@@ -1,4 +1,1 @@
-pub mod Answering
-pub mod Deciding
-pub mod Words
 pub mod Again

@@ -8,23 +8,23 @@ use Rattle.reader.specs.Read.{refusal_of}
 use Rattle.reader.specs.Words.{read_words_is}
 use Rattle.writer.specs.Write.{written_number, write_is, out_is}
 use Rattle.archive.specs.Refusals.{plain}
-use Rattle.archive.specs.Keeping.{stored_refusal, empty_is, capture_is}
-use Rattle.archive.specs.Restoring.{entry_is, listed_refusal, restored_refusal, restore_is}
+use Rattle.archive.specs.Keeping.{empty_is, capture_is}
+use Rattle.archive.specs.Restoring.{entry_is, restore_is}
 use Rattle.archive.specs.Listing.{list_is}
 use Rattle.archive.specs.declared.contents.Key.{Key}
 use Rattle.archive.specs.declared.refusal.Refusal.{Refusal}
 use Rattle.archive.specs.declared.Restored.{Restored}
-use Rattle.reload.specs.Reload.{reloaded_refusal, reload_is, reload_out}
+use Rattle.reload.specs.Reload.{reload_is, reload_out}
 use Rattle.reload.specs.declared.Definition.{Definition}
 use Rattle.reload.specs.declared.Target.TheVariants.{Define, DefineExternal}
 use Rattle.words.specs.RecordWords.{are_record, record_from}
 use Rattle.words.specs.RequestWords.{is_request, request_from}
 use Rattle.barring.specs.Decide.{decide_is}
-use Rattle.barring.specs.Decision.{decided_refusal, verdict_of}
+use Rattle.barring.specs.Decision.{verdict_of}
 use Rattle.barring.specs.declared.Decision.{Decision}
 use Rattle.archive.specs.declared.contents.Entry.{Entry}
 
--- ---- where a call stopped
+-- ---- what is told of an answer
 
 -- BOC_NOWHERE: no entry, or no place
 abbrev pub nowhere : ℕ
@@ -33,6 +33,28 @@ nowhere = 18446744073709551615
 abbrev pub place_word : Option ℕ → ℕ
 place_word (Some p) = p
 place_word None = nowhere
+
+-- the refusal; a success tells 0, no entry and no place
+abbrev pub told_refusal : {A : Type 0} → Result A Refusal → Refusal
+told_refusal (Ok x) = plain 0
+told_refusal (Err f) = f
+
+-- what the call returns
+abbrev pub told_number : {A : Type 0} → Result A Refusal → ℕ
+told_number a = (told_refusal a).number
+
+-- behind the pointers: a refusal's entry and place, a success's values
+abbrev pub told_entry : {A : Type 0} → Result A Refusal → ℕ → ℕ
+told_entry (Ok x) old = old
+told_entry (Err f) old = place_word f.entry
+
+abbrev pub told_place : {A : Type 0} → Result A Refusal → ℕ → ℕ
+told_place (Ok x) old = old
+told_place (Err f) old = place_word f.place
+
+abbrev pub told_value : {A B : Type 0} → (A → B) → Result A Refusal → B → B
+told_value value (Ok x) old = value x
+told_value value (Err f) old = old
 
 -- ---- boc_read
 
@@ -64,23 +86,11 @@ write_bits words out old = pick (are_record (length words)) (written_length (wri
 
 -- ---- boc_empty, boc_capture and boc_contents
 
-abbrev pub stored_number : Result ℕ Refusal → ℕ
-stored_number a = (stored_refusal a).number
-
 abbrev pub stored_length : Result ℕ Refusal → ℕ → ℕ
-stored_length (Ok n) old = n
-stored_length (Err f) old = old
-
-abbrev pub stored_entry : Result ℕ Refusal → ℕ → ℕ
-stored_entry (Ok n) old = old
-stored_entry (Err f) old = place_word f.entry
-
-abbrev pub stored_place : Result ℕ Refusal → ℕ → ℕ
-stored_place (Ok n) old = old
-stored_place (Err f) old = place_word f.place
+stored_length = told_value (λ n. n)
 
 abbrev pub empty_number : ℕ → List ℕ → ℕ
-empty_number home out = stored_number (empty_is home (length out))
+empty_number home out = told_number (empty_is home (length out))
 
 abbrev pub empty_length : ℕ → List ℕ → ℕ → ℕ
 empty_length home out old = stored_length (empty_is home (length out)) old
@@ -95,28 +105,14 @@ capture_answer b s n day out = capture_is b s n day (length out)
 abbrev pub key_words : Key → List ℕ
 key_words k = k.network ∷ k.ssi ∷ k.part ∷ []
 
-abbrev pub listed_number : Result Entry Refusal → ℕ
-listed_number a = (listed_refusal a).number
-
 abbrev pub listed_key : Result Entry Refusal → List ℕ → List ℕ
-listed_key (Ok e) old = key_words e.key
-listed_key (Err f) old = old
+listed_key = told_value (λ e. key_words e.key)
 
 abbrev pub listed_length : Result Entry Refusal → ℕ → ℕ
-listed_length (Ok e) old = e.bits.0
-listed_length (Err f) old = old
+listed_length = told_value (λ e. e.bits.0)
 
 abbrev pub listed_day : Result Entry Refusal → ℕ → ℕ
-listed_day (Ok e) old = e.day
-listed_day (Err f) old = old
-
-abbrev pub listed_entry : Result Entry Refusal → ℕ → ℕ
-listed_entry (Ok e) old = old
-listed_entry (Err f) old = place_word f.entry
-
-abbrev pub listed_place : Result Entry Refusal → ℕ → ℕ
-listed_place (Ok e) old = old
-listed_place (Err f) old = place_word f.place
+listed_day = told_value (λ e. e.day)
 
 -- 9 for another count of words than 3
 unfoldable pub entry_answer : List ℕ → ℕ → ℕ → Result Entry Refusal
@@ -124,24 +120,11 @@ entry_answer b index words = guard (eqb words 3) (Err (plain 9)) (entry_is b ind
 
 -- ---- boc_restore
 
-abbrev pub restored_number : Result Restored Refusal → ℕ
-restored_number a = (restored_refusal a).number
-
 abbrev pub restored_length : Result Restored Refusal → ℕ → ℕ
-restored_length (Ok r) old = r.bits.0
-restored_length (Err f) old = old
+restored_length = told_value (λ r. r.bits.0)
 
 abbrev pub restored_day : Result Restored Refusal → ℕ → ℕ
-restored_day (Ok r) old = r.day
-restored_day (Err f) old = old
-
-abbrev pub restored_entry : Result Restored Refusal → ℕ → ℕ
-restored_entry (Ok r) old = old
-restored_entry (Err f) old = place_word f.entry
-
-abbrev pub restored_place : Result Restored Refusal → ℕ → ℕ
-restored_place (Ok r) old = old
-restored_place (Err f) old = place_word f.place
+restored_day = told_value (λ r. r.day)
 
 -- the user and part that the call names
 abbrev pub key_of : ℕ → ℕ → ℕ → Key
@@ -152,20 +135,8 @@ restore_answer b network ssi part out = restore_is b (key_of network ssi part) (
 
 -- ---- boc_reload and boc_reload_external
 
-abbrev pub reloaded_number : Result BitCount Refusal → ℕ
-reloaded_number a = (reloaded_refusal a).number
-
 abbrev pub reloaded_length : Result BitCount Refusal → ℕ → ℕ
-reloaded_length (Ok n) old = n.0
-reloaded_length (Err f) old = old
-
-abbrev pub reloaded_entry : Result BitCount Refusal → ℕ → ℕ
-reloaded_entry (Ok n) old = old
-reloaded_entry (Err f) old = place_word f.entry
-
-abbrev pub reloaded_place : Result BitCount Refusal → ℕ → ℕ
-reloaded_place (Ok n) old = old
-reloaded_place (Err f) old = place_word f.place
+reloaded_length = told_value (λ n. n.0)
 
 -- the definition that the call names
 abbrev pub definition_of : ℕ → ℕ → ℕ → Definition
@@ -191,21 +162,9 @@ external_leaves b network ssi definition delivery acknowledgement out =
 
 -- ---- boc_decide
 
-abbrev pub decided_number : Result Decision Refusal → ℕ
-decided_number d = (decided_refusal d).number
-
 -- the decision's number; a refusal leaves the old one
 abbrev pub decided_verdict : Result Decision Refusal → ℕ → ℕ
-decided_verdict (Ok d) old = verdict_of (Ok d)
-decided_verdict (Err f) old = old
-
-abbrev pub decided_entry : Result Decision Refusal → ℕ → ℕ
-decided_entry (Ok d) old = old
-decided_entry (Err f) old = place_word f.entry
-
-abbrev pub decided_place : Result Decision Refusal → ℕ → ℕ
-decided_place (Ok d) old = old
-decided_place (Err f) old = place_word f.place
+decided_verdict = told_value (λ d. verdict_of (Ok d))
 
 -- 9 unless they are a request's words
 unfoldable pub decide_answer : List ℕ → List ℕ → Result Decision Refusal

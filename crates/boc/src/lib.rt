@@ -5,21 +5,22 @@
 
 pub mod serial;
 
-ghost use Rattle.std.specs.Prelude.{◌≡◌, length, Err};
+ghost use Rattle.std.specs.Prelude.{◌≡◌, length, Ok};
 ghost use Rattle.reader.specs.Words.{read_words};
-ghost use Rattle.archive.specs.Refusals.{plain};
 ghost use Rattle.archive.specs.Keeping.{empty_out, capture_out};
 ghost use Rattle.archive.specs.Restoring.{restore_out};
 ghost use Rattle.archive.specs.Listing.{list_out};
-ghost use Rattle.boc.specs.Calls.{place_word, read_number, read_place, write_number, write_out, write_bits, empty_number, empty_length};
-ghost use Rattle.boc.specs.Calls.{stored_number, stored_length, stored_entry, stored_place, capture_answer, contents_answer};
-ghost use Rattle.boc.specs.Calls.{key_words, listed_number, listed_key, listed_length, listed_day, listed_entry, listed_place, entry_answer};
-ghost use Rattle.boc.specs.Calls.{restored_number, restored_length, restored_day, restored_entry, restored_place, key_of, restore_answer};
-ghost use Rattle.boc.specs.Calls.{reloaded_number, reloaded_length, reloaded_entry, reloaded_place, reload_answer, reload_leaves};
-ghost use Rattle.boc.specs.Calls.{external_answer, external_leaves};
-ghost use Rattle.boc.specs.Calls.{decided_number, decided_verdict, decided_entry, decided_place, decide_answer};
+ghost use Rattle.reload.specs.Reload.{reload_is, reload_out};
+ghost use Rattle.barring.specs.Decision.{verdict_of};
+ghost use Rattle.boc.specs.Calls.{place_word, told_number, told_entry, told_place, told_value};
+ghost use Rattle.boc.specs.Calls.{read_number, read_place, write_number, write_out, write_bits};
+ghost use Rattle.boc.specs.Calls.{empty_number, empty_length, stored_length, capture_answer, contents_answer};
+ghost use Rattle.boc.specs.Calls.{key_words, listed_key, listed_length, listed_day, entry_answer};
+ghost use Rattle.boc.specs.Calls.{key_of, restored_length, restored_day, restore_answer};
+ghost use Rattle.boc.specs.Calls.{reloaded_length, reload_answer, reload_leaves, external_answer, external_leaves};
+ghost use Rattle.boc.specs.Calls.{decided_verdict, decide_answer};
 
-use archive::{Entry, Key, Refusal, Restored, listing};
+use archive::{Key, Refusal, listing};
 use barring::Decision;
 use bits::BitCount;
 use reload::{Definition, Target};
@@ -30,6 +31,13 @@ const NOWHERE: usize = 18446744073709551615;
 
 // Words of a key.
 const KEY_WORDS: usize = 3;
+
+// The refusal of words that are no key's, or no request's.
+const NO_WORDS: Refusal = Refusal {
+    number: 9,
+    entry: None,
+    place: None,
+};
 
 // The word for C of an entry or a bit place.
 fn place_word(place: Option<usize>) -> usize
@@ -49,66 +57,21 @@ fn refuse(refusal: Refusal, entry: &mut usize, place: &mut usize) -> u32
     refusal.number
 }
 
-// Tells an answer that is a length in bytes.
-fn tell_stored(
-    answer: Result<usize, Refusal>,
-    length: &mut usize,
+// Tells an answer: the value of a success, or where an archive's call stopped; returns 0 or the refusal number.
+fn tell<V: Copy>(
+    answer: Result<V, Refusal>,
+    told: &mut V,
     entry: &mut usize,
     place: &mut usize,
 ) -> u32
-    ensures value { result ≡ stored_number answer }
-    ensures length_after { length.new ≡ stored_length answer length.old }
-    ensures after { entry.new ≡ stored_entry answer entry.old }
-    ensures place_after { place.new ≡ stored_place answer place.old }
+    ensures value { result ≡ told_number answer }
+    ensures told_after { told.new ≡ told_value (λ v. v) answer told.old }
+    ensures after { entry.new ≡ told_entry answer entry.old }
+    ensures place_after { place.new ≡ told_place answer place.old }
 {
     match answer {
-        Ok(n) => {
-            *length = n;
-            0
-        },
-        Err(refusal) => refuse(refusal, entry, place),
-    }
-}
-
-// One that is a length in bits and a day.
-fn tell_restored(
-    answer: Result<Restored, Refusal>,
-    bits: &mut usize,
-    day: &mut u32,
-    entry: &mut usize,
-    place: &mut usize,
-) -> u32
-    ensures value { result ≡ restored_number answer }
-    ensures bits_after { bits.new ≡ restored_length answer bits.old }
-    ensures day_after { day.new ≡ restored_day answer day.old }
-    ensures after { entry.new ≡ restored_entry answer entry.old }
-    ensures place_after { place.new ≡ restored_place answer place.old }
-{
-    match answer {
-        Ok(restored) => {
-            *bits = restored.bits.0;
-            *day = restored.day;
-            0
-        },
-        Err(refusal) => refuse(refusal, entry, place),
-    }
-}
-
-// One that is a length in bits.
-fn tell_reloaded(
-    answer: Result<BitCount, Refusal>,
-    bits: &mut usize,
-    entry: &mut usize,
-    place: &mut usize,
-) -> u32
-    ensures value { result ≡ reloaded_number answer }
-    ensures bits_after { bits.new ≡ reloaded_length answer bits.old }
-    ensures after { entry.new ≡ reloaded_entry answer entry.old }
-    ensures place_after { place.new ≡ reloaded_place answer place.old }
-{
-    match answer {
-        Ok(n) => {
-            *bits = n.0;
+        Ok(value) => {
+            *told = value;
             0
         },
         Err(refusal) => refuse(refusal, entry, place),
@@ -120,78 +83,18 @@ fn store_key(key: Key, words: &mut [u32])
     requires { length words.old ≡ 3 }
     ensures { words.new ≡ key_words key }
 {
-    words[0] = key.network;
-    words[1] = key.ssi;
-    words[2] = key.part;
+    words.copy_from_slice(&[key.network, key.ssi, key.part]);
 }
 
-// An entry: its key, its length in bits and its day.
-fn tell_listed(
-    answer: Result<Entry, Refusal>,
-    key: &mut [u32],
-    bits: &mut usize,
-    day: &mut u32,
-    entry: &mut usize,
-    place: &mut usize,
-) -> u32
-    requires { length key.old ≡ 3 }
-    ensures value { result ≡ listed_number answer }
-    ensures key_after { key.new ≡ listed_key answer key.old }
-    ensures bits_after { bits.new ≡ listed_length answer bits.old }
-    ensures day_after { day.new ≡ listed_day answer day.old }
-    ensures after { entry.new ≡ listed_entry answer entry.old }
-    ensures place_after { place.new ≡ listed_place answer place.old }
+// A decision as a number: 0 to 2 barred with that cause, 3 allowed, 4 not held.
+fn verdict(decision: Decision) -> u32
+    ensures { result ≡ verdict_of (Ok decision) }
 {
-    match answer {
-        Ok(listed) => {
-            let user_and_part = listed.key;
-            store_key(user_and_part, key);
-            *bits = listed.bits.0;
-            *day = listed.day;
-            0
-        },
-        Err(refusal) => refuse(refusal, entry, place),
+    match decision {
+        Decision::Barred(cause) => u32::from(cause),
+        Decision::Allowed => 3,
+        Decision::NotHeld => 4,
     }
-}
-
-// And a decision: 0 to 2 barred with that cause, 3 allowed, 4 not held.
-fn tell_decided(
-    answer: Result<Decision, Refusal>,
-    decision: &mut u32,
-    entry: &mut usize,
-    place: &mut usize,
-) -> u32
-    ensures value { result ≡ decided_number answer }
-    ensures decision_after { decision.new ≡ decided_verdict answer decision.old }
-    ensures after { entry.new ≡ decided_entry answer entry.old }
-    ensures place_after { place.new ≡ decided_place answer place.old }
-{
-    match answer {
-        Ok(Decision::Barred(cause)) => {
-            *decision = u32::from(cause);
-            0
-        },
-        Ok(Decision::Allowed) => {
-            *decision = 3;
-            0
-        },
-        Ok(Decision::NotHeld) => {
-            *decision = 4;
-            0
-        },
-        Err(undecided) => refuse(undecided, entry, place),
-    }
-}
-
-// The answer to words that are no request's.
-fn no_request() -> Result<Decision, Refusal>
-    ensures { result ≡ Err (plain 9) }
-{
-    Err(Refusal {
-        number: 9,
-        entry: None,
-        place: None,
-    })
 }
 
 // Reads the PDU of `bits` bits in `pdu`; its record goes to `record`.
@@ -210,6 +113,7 @@ pub fn boc_read(pdu: &[u8], bits: usize, record: &mut [u32], place: &mut usize) 
 }
 
 // Writes a record as a PDU; its length in bits goes to `bits`.
+#[tactic(auto, unfolding(writer::specs::Write::write_words_is, writer::specs::Write::write_words_out, crate::specs::Calls::write_number, crate::specs::Calls::write_out, crate::specs::Calls::write_bits))]
 pub fn boc_write(record: &[u32], out: &mut [u8], bits: &mut usize) -> u32
     ensures value { result ≡ write_number «record».now out.old }
     ensures out_after { out.new ≡ write_out «record».now out.old }
@@ -250,17 +154,18 @@ pub fn boc_capture(
     entry: &mut usize,
     place: &mut usize,
 ) -> u32
-    ensures value { result ≡ stored_number (capture_answer archive.now pdu.now bits day out.old) }
+    ensures value { result ≡ told_number (capture_answer archive.now pdu.now bits day out.old) }
     ensures out_after { out.new ≡ capture_out archive.now pdu.now bits day out.old }
     ensures length_after { length.new ≡ stored_length (capture_answer archive.now pdu.now bits day out.old) length.old }
-    ensures after { entry.new ≡ stored_entry (capture_answer archive.now pdu.now bits day out.old) entry.old }
-    ensures place_after { place.new ≡ stored_place (capture_answer archive.now pdu.now bits day out.old) place.old }
+    ensures after { entry.new ≡ told_entry (capture_answer archive.now pdu.now bits day out.old) entry.old }
+    ensures place_after { place.new ≡ told_place (capture_answer archive.now pdu.now bits day out.old) place.old }
 {
     let answer = archive::capture(archive, pdu, BitCount(bits), day, out);
-    tell_stored(answer, length, entry, place)
+    tell(answer, length, entry, place)
 }
 
 // The entry at an index: network, SSI and part go to `key`, the length in bits to `bits`, the day to `day`.
+#[tactic(auto, unfolding(crate::specs::Calls::entry_answer))]
 pub fn boc_entry(
     archive: &[u8],
     index: usize,
@@ -270,20 +175,25 @@ pub fn boc_entry(
     entry: &mut usize,
     place: &mut usize,
 ) -> u32
-    ensures value { result ≡ listed_number (entry_answer archive.now index (length key.old)) }
+    ensures value { result ≡ told_number (entry_answer archive.now index (length key.old)) }
     ensures key_after { key.new ≡ listed_key (entry_answer archive.now index (length key.old)) key.old }
     ensures bits_after { bits.new ≡ listed_length (entry_answer archive.now index (length key.old)) bits.old }
     ensures day_after { day.new ≡ listed_day (entry_answer archive.now index (length key.old)) day.old }
-    ensures after { entry.new ≡ listed_entry (entry_answer archive.now index (length key.old)) entry.old }
-    ensures place_after { place.new ≡ listed_place (entry_answer archive.now index (length key.old)) place.old }
+    ensures after { entry.new ≡ told_entry (entry_answer archive.now index (length key.old)) entry.old }
+    ensures place_after { place.new ≡ told_place (entry_answer archive.now index (length key.old)) place.old }
 {
     if key.len() != KEY_WORDS {
-        *entry = NOWHERE;
-        *place = NOWHERE;
-        return 9;
+        return refuse(NO_WORDS, entry, place);
     }
-    let answer = archive::entry(archive, index);
-    tell_listed(answer, key, bits, day, entry, place)
+    match archive::entry(archive, index) {
+        Ok(listed) => {
+            store_key(listed.key, key);
+            *bits = listed.bits.0;
+            *day = listed.day;
+            0
+        },
+        Err(unlisted) => refuse(unlisted, entry, place),
+    }
 }
 
 // Restores the PDU held for a user and part; its length in bits goes to `bits`, its day to `day`.
@@ -298,16 +208,43 @@ pub fn boc_restore(
     entry: &mut usize,
     place: &mut usize,
 ) -> u32
-    ensures value { result ≡ restored_number (restore_answer archive.now network ssi part out.old) }
+    ensures value { result ≡ told_number (restore_answer archive.now network ssi part out.old) }
     ensures out_after { out.new ≡ restore_out archive.now (key_of network ssi part) out.old }
     ensures bits_after { bits.new ≡ restored_length (restore_answer archive.now network ssi part out.old) bits.old }
     ensures day_after { day.new ≡ restored_day (restore_answer archive.now network ssi part out.old) day.old }
-    ensures after { entry.new ≡ restored_entry (restore_answer archive.now network ssi part out.old) entry.old }
-    ensures place_after { place.new ≡ restored_place (restore_answer archive.now network ssi part out.old) place.old }
+    ensures after { entry.new ≡ told_entry (restore_answer archive.now network ssi part out.old) entry.old }
+    ensures place_after { place.new ≡ told_place (restore_answer archive.now network ssi part out.old) place.old }
 {
     let key = Key { network, ssi, part };
-    let answer = archive::restore(archive, key, out);
-    tell_restored(answer, bits, day, entry, place)
+    match archive::restore(archive, key, out) {
+        Ok(restored) => {
+            *bits = restored.bits.0;
+            *day = restored.day;
+            0
+        },
+        Err(unrestored) => refuse(unrestored, entry, place),
+    }
+}
+
+// Puts the part held for a user back; the length of what was written goes to `bits`.
+fn put_back(
+    target: Target,
+    archive: &[u8],
+    key: Key,
+    wanted: Definition,
+    out: &mut [u8],
+    bits: &mut usize,
+    entry: &mut usize,
+    place: &mut usize,
+) -> u32
+    ensures value { result ≡ told_number (reload_is target archive.now key wanted out.old) }
+    ensures out_after { out.new ≡ reload_out target archive.now key wanted out.old }
+    ensures bits_after { bits.new ≡ reloaded_length (reload_is target archive.now key wanted out.old) bits.old }
+    ensures after { entry.new ≡ told_entry (reload_is target archive.now key wanted out.old) entry.old }
+    ensures place_after { place.new ≡ told_place (reload_is target archive.now key wanted out.old) place.old }
+{
+    let answer = reload::reload(target, archive, key, wanted, out);
+    tell(answer.map(|written| written.0), bits, entry, place)
 }
 
 // Writes the DEFINE of the part held for a user; its length in bits goes to `bits`.
@@ -324,11 +261,11 @@ pub fn boc_reload(
     entry: &mut usize,
     place: &mut usize,
 ) -> u32
-    ensures value { result ≡ reloaded_number (reload_answer archive.now network ssi part definition delivery acknowledgement out.old) }
+    ensures value { result ≡ told_number (reload_answer archive.now network ssi part definition delivery acknowledgement out.old) }
     ensures out_after { out.new ≡ reload_leaves archive.now network ssi part definition delivery acknowledgement out.old }
     ensures bits_after { bits.new ≡ reloaded_length (reload_answer archive.now network ssi part definition delivery acknowledgement out.old) bits.old }
-    ensures after { entry.new ≡ reloaded_entry (reload_answer archive.now network ssi part definition delivery acknowledgement out.old) entry.old }
-    ensures place_after { place.new ≡ reloaded_place (reload_answer archive.now network ssi part definition delivery acknowledgement out.old) place.old }
+    ensures after { entry.new ≡ told_entry (reload_answer archive.now network ssi part definition delivery acknowledgement out.old) entry.old }
+    ensures place_after { place.new ≡ told_place (reload_answer archive.now network ssi part definition delivery acknowledgement out.old) place.old }
 {
     let key = Key { network, ssi, part };
     let wanted = Definition {
@@ -336,8 +273,16 @@ pub fn boc_reload(
         delivery,
         acknowledgement,
     };
-    let answer = reload::reload(Target::Define, archive, key, wanted, out);
-    tell_reloaded(answer, bits, entry, place)
+    put_back(
+        Target::Define,
+        archive,
+        key,
+        wanted,
+        out,
+        bits,
+        entry,
+        place,
+    )
 }
 
 // Writes the DEFINE EXTERNAL of the number part held for a user; its length in bits goes to `bits`.
@@ -353,11 +298,11 @@ pub fn boc_reload_external(
     entry: &mut usize,
     place: &mut usize,
 ) -> u32
-    ensures value { result ≡ reloaded_number (external_answer archive.now network ssi definition delivery acknowledgement out.old) }
+    ensures value { result ≡ told_number (external_answer archive.now network ssi definition delivery acknowledgement out.old) }
     ensures out_after { out.new ≡ external_leaves archive.now network ssi definition delivery acknowledgement out.old }
     ensures bits_after { bits.new ≡ reloaded_length (external_answer archive.now network ssi definition delivery acknowledgement out.old) bits.old }
-    ensures after { entry.new ≡ reloaded_entry (external_answer archive.now network ssi definition delivery acknowledgement out.old) entry.old }
-    ensures place_after { place.new ≡ reloaded_place (external_answer archive.now network ssi definition delivery acknowledgement out.old) place.old }
+    ensures after { entry.new ≡ told_entry (external_answer archive.now network ssi definition delivery acknowledgement out.old) entry.old }
+    ensures place_after { place.new ≡ told_place (external_answer archive.now network ssi definition delivery acknowledgement out.old) place.old }
 {
     let key = Key {
         network,
@@ -369,11 +314,20 @@ pub fn boc_reload_external(
         delivery,
         acknowledgement,
     };
-    let answer = reload::reload(Target::DefineExternal, archive, key, wanted, out);
-    tell_reloaded(answer, bits, entry, place)
+    put_back(
+        Target::DefineExternal,
+        archive,
+        key,
+        wanted,
+        out,
+        bits,
+        entry,
+        place,
+    )
 }
 
 // Decides a request; the decision goes to `decision`: 0 to 2 barred with that cause, 3 allowed, 4 not held.
+#[tactic(auto, unfolding(words::specs::RequestWords::given_request, crate::specs::Calls::decide_answer))]
 pub fn boc_decide(
     archive: &[u8],
     request: &[u32],
@@ -381,19 +335,18 @@ pub fn boc_decide(
     entry: &mut usize,
     place: &mut usize,
 ) -> u32
-    ensures value { result ≡ decided_number (decide_answer archive.now request.now) }
+    ensures value { result ≡ told_number (decide_answer archive.now request.now) }
     ensures decision_after { decision.new ≡ decided_verdict (decide_answer archive.now request.now) decision.old }
-    ensures after { entry.new ≡ decided_entry (decide_answer archive.now request.now) entry.old }
-    ensures place_after { place.new ≡ decided_place (decide_answer archive.now request.now) place.old }
+    ensures after { entry.new ≡ told_entry (decide_answer archive.now request.now) entry.old }
+    ensures place_after { place.new ≡ told_place (decide_answer archive.now request.now) place.old }
 {
-    let Some(asked) = request::request_from(request) else {
-        return tell_decided(no_request(), decision, entry, place);
-    };
-    let answer = barring::decide(archive, asked);
-    tell_decided(answer, decision, entry, place)
+    let asked = request::request_from(request).ok_or(NO_WORDS);
+    let answer = asked.and_then(|request| barring::decide(archive, request));
+    tell(answer.map(verdict), decision, entry, place)
 }
 
 // The same without unpacking: the second engine walks the part's bits in the archive.
+#[tactic(auto, unfolding(words::specs::RequestWords::given_request, crate::specs::Calls::decide_answer))]
 pub fn boc_decide_in_place(
     archive: &[u8],
     request: &[u32],
@@ -401,16 +354,14 @@ pub fn boc_decide_in_place(
     entry: &mut usize,
     place: &mut usize,
 ) -> u32
-    ensures value { result ≡ decided_number (decide_answer archive.now request.now) }
+    ensures value { result ≡ told_number (decide_answer archive.now request.now) }
     ensures decision_after { decision.new ≡ decided_verdict (decide_answer archive.now request.now) decision.old }
-    ensures after { entry.new ≡ decided_entry (decide_answer archive.now request.now) entry.old }
-    ensures place_after { place.new ≡ decided_place (decide_answer archive.now request.now) place.old }
+    ensures after { entry.new ≡ told_entry (decide_answer archive.now request.now) entry.old }
+    ensures place_after { place.new ≡ told_place (decide_answer archive.now request.now) place.old }
 {
-    let Some(asked) = request::request_from(request) else {
-        return tell_decided(no_request(), decision, entry, place);
-    };
-    let walked = in_place::decide(archive, asked);
-    tell_decided(walked, decision, entry, place)
+    let asked = request::request_from(request).ok_or(NO_WORDS);
+    let walked = asked.and_then(|request| in_place::decide(archive, request));
+    tell(walked.map(verdict), decision, entry, place)
 }
 
 // Lists an archive as text; its length in bytes goes to `length`.
@@ -421,12 +372,12 @@ pub fn boc_contents(
     entry: &mut usize,
     place: &mut usize,
 ) -> u32
-    ensures value { result ≡ stored_number (contents_answer archive.now out.old) }
+    ensures value { result ≡ told_number (contents_answer archive.now out.old) }
     ensures out_after { out.new ≡ list_out archive.now out.old }
     ensures length_after { length.new ≡ stored_length (contents_answer archive.now out.old) length.old }
-    ensures after { entry.new ≡ stored_entry (contents_answer archive.now out.old) entry.old }
-    ensures place_after { place.new ≡ stored_place (contents_answer archive.now out.old) place.old }
+    ensures after { entry.new ≡ told_entry (contents_answer archive.now out.old) entry.old }
+    ensures place_after { place.new ≡ told_place (contents_answer archive.now out.old) place.old }
 {
     let answer = listing::list(archive, out);
-    tell_stored(answer, length, entry, place)
+    tell(answer, length, entry, place)
 }

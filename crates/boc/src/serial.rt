@@ -11,7 +11,7 @@ pub fn boc_terminal_reset(table: &mut [u8]) -> u32
 {
     match terminals::reset(table) {
         Ok(()) => 0,
-        Err(number) => number,
+        Err(refusal) => u32::from(refusal),
     }
 }
 
@@ -28,6 +28,6 @@ pub fn boc_terminal_line(line: &[u8], table: &mut [u8], out: &mut [u8], length: 
             *length = bytes;
             0
         },
-        Err(number) => number,
+        Err(refusal) => u32::from(refusal),
     }
 }

@@ -6,12 +6,12 @@ ghost use Rattle.reader.specs.Words.{read_words};
 ghost use Rattle.archive.specs.Keeping.{empty_out, capture_out};
 ghost use Rattle.archive.specs.Restoring.{restore_out};
 ghost use Rattle.archive.specs.Listing.{list_out};
-ghost use Rattle.boc.specs.Calls.{read_number, read_place, write_number, write_out, write_bits, empty_number, empty_length, stored_number};
-ghost use Rattle.boc.specs.Calls.{stored_length, stored_entry, stored_place, capture_answer, contents_answer, listed_number, listed_key};
-ghost use Rattle.boc.specs.Calls.{listed_length, listed_day, listed_entry, listed_place, entry_answer, restored_number, restored_length};
-ghost use Rattle.boc.specs.Calls.{restored_day, restored_entry, restored_place, key_of, restore_answer, reloaded_number, reloaded_length};
-ghost use Rattle.boc.specs.Calls.{reloaded_entry, reloaded_place, reload_answer, reload_leaves, external_answer, external_leaves};
-ghost use Rattle.boc.specs.Calls.{decided_number, decided_verdict, decided_entry, decided_place, decide_answer};
+ghost use Rattle.boc.specs.Calls.{told_number, told_entry, told_place, read_number, read_place, write_number, write_out, write_bits};
+ghost use Rattle.boc.specs.Calls.{empty_number, empty_length, stored_length, capture_answer, contents_answer};
+ghost use Rattle.boc.specs.Calls.{listed_key, listed_length, listed_day, entry_answer};
+ghost use Rattle.boc.specs.Calls.{key_of, restored_length, restored_day, restore_answer};
+ghost use Rattle.boc.specs.Calls.{reloaded_length, reload_answer, reload_leaves, external_answer, external_leaves};
+ghost use Rattle.boc.specs.Calls.{decided_verdict, decide_answer};
 ghost use Rattle.terminals.specs.Profiles.{reset_is, reset_out};
 ghost use Rattle.terminals.specs.Answers.{table_after, out_after};
 ghost use Rattle.boc.specs.Serial.{returned, line_answer, line_length};
@@ -58,11 +58,11 @@ pub extern "C" fn boc_capture(
     entry: &mut usize,
     place: &mut usize,
 ) -> u32
-    ensures value { result ≡ stored_number (capture_answer archive.now pdu.now bits day out.old) }
+    ensures value { result ≡ told_number (capture_answer archive.now pdu.now bits day out.old) }
     ensures out_after { out.new ≡ capture_out archive.now pdu.now bits day out.old }
     ensures length_after { length.new ≡ stored_length (capture_answer archive.now pdu.now bits day out.old) length.old }
-    ensures after { entry.new ≡ stored_entry (capture_answer archive.now pdu.now bits day out.old) entry.old }
-    ensures place_after { place.new ≡ stored_place (capture_answer archive.now pdu.now bits day out.old) place.old }
+    ensures after { entry.new ≡ told_entry (capture_answer archive.now pdu.now bits day out.old) entry.old }
+    ensures place_after { place.new ≡ told_place (capture_answer archive.now pdu.now bits day out.old) place.old }
 {
     boc::boc_capture(archive, pdu, bits, day, out, length, entry, place)
 }
@@ -78,12 +78,12 @@ pub extern "C" fn boc_entry(
     entry: &mut usize,
     place: &mut usize,
 ) -> u32
-    ensures value { result ≡ listed_number (entry_answer archive.now index (length key.old)) }
+    ensures value { result ≡ told_number (entry_answer archive.now index (length key.old)) }
     ensures key_after { key.new ≡ listed_key (entry_answer archive.now index (length key.old)) key.old }
     ensures bits_after { bits.new ≡ listed_length (entry_answer archive.now index (length key.old)) bits.old }
     ensures day_after { day.new ≡ listed_day (entry_answer archive.now index (length key.old)) day.old }
-    ensures after { entry.new ≡ listed_entry (entry_answer archive.now index (length key.old)) entry.old }
-    ensures place_after { place.new ≡ listed_place (entry_answer archive.now index (length key.old)) place.old }
+    ensures after { entry.new ≡ told_entry (entry_answer archive.now index (length key.old)) entry.old }
+    ensures place_after { place.new ≡ told_place (entry_answer archive.now index (length key.old)) place.old }
 {
     boc::boc_entry(archive, index, key, bits, day, entry, place)
 }
@@ -101,12 +101,12 @@ pub extern "C" fn boc_restore(
     entry: &mut usize,
     place: &mut usize,
 ) -> u32
-    ensures value { result ≡ restored_number (restore_answer archive.now network ssi part out.old) }
+    ensures value { result ≡ told_number (restore_answer archive.now network ssi part out.old) }
     ensures out_after { out.new ≡ restore_out archive.now (key_of network ssi part) out.old }
     ensures bits_after { bits.new ≡ restored_length (restore_answer archive.now network ssi part out.old) bits.old }
     ensures day_after { day.new ≡ restored_day (restore_answer archive.now network ssi part out.old) day.old }
-    ensures after { entry.new ≡ restored_entry (restore_answer archive.now network ssi part out.old) entry.old }
-    ensures place_after { place.new ≡ restored_place (restore_answer archive.now network ssi part out.old) place.old }
+    ensures after { entry.new ≡ told_entry (restore_answer archive.now network ssi part out.old) entry.old }
+    ensures place_after { place.new ≡ told_place (restore_answer archive.now network ssi part out.old) place.old }
 {
     boc::boc_restore(archive, network, ssi, part, out, bits, day, entry, place)
 }
@@ -126,11 +126,11 @@ pub extern "C" fn boc_reload(
     entry: &mut usize,
     place: &mut usize,
 ) -> u32
-    ensures value { result ≡ reloaded_number (reload_answer archive.now network ssi part definition delivery acknowledgement out.old) }
+    ensures value { result ≡ told_number (reload_answer archive.now network ssi part definition delivery acknowledgement out.old) }
     ensures out_after { out.new ≡ reload_leaves archive.now network ssi part definition delivery acknowledgement out.old }
     ensures bits_after { bits.new ≡ reloaded_length (reload_answer archive.now network ssi part definition delivery acknowledgement out.old) bits.old }
-    ensures after { entry.new ≡ reloaded_entry (reload_answer archive.now network ssi part definition delivery acknowledgement out.old) entry.old }
-    ensures place_after { place.new ≡ reloaded_place (reload_answer archive.now network ssi part definition delivery acknowledgement out.old) place.old }
+    ensures after { entry.new ≡ told_entry (reload_answer archive.now network ssi part definition delivery acknowledgement out.old) entry.old }
+    ensures place_after { place.new ≡ told_place (reload_answer archive.now network ssi part definition delivery acknowledgement out.old) place.old }
 {
     boc::boc_reload(
         archive,
@@ -161,11 +161,11 @@ pub extern "C" fn boc_reload_external(
     entry: &mut usize,
     place: &mut usize,
 ) -> u32
-    ensures value { result ≡ reloaded_number (external_answer archive.now network ssi definition delivery acknowledgement out.old) }
+    ensures value { result ≡ told_number (external_answer archive.now network ssi definition delivery acknowledgement out.old) }
     ensures out_after { out.new ≡ external_leaves archive.now network ssi definition delivery acknowledgement out.old }
     ensures bits_after { bits.new ≡ reloaded_length (external_answer archive.now network ssi definition delivery acknowledgement out.old) bits.old }
-    ensures after { entry.new ≡ reloaded_entry (external_answer archive.now network ssi definition delivery acknowledgement out.old) entry.old }
-    ensures place_after { place.new ≡ reloaded_place (external_answer archive.now network ssi definition delivery acknowledgement out.old) place.old }
+    ensures after { entry.new ≡ told_entry (external_answer archive.now network ssi definition delivery acknowledgement out.old) entry.old }
+    ensures place_after { place.new ≡ told_place (external_answer archive.now network ssi definition delivery acknowledgement out.old) place.old }
 {
     boc::boc_reload_external(
         archive,
@@ -190,10 +190,10 @@ pub extern "C" fn boc_decide(
     entry: &mut usize,
     place: &mut usize,
 ) -> u32
-    ensures value { result ≡ decided_number (decide_answer archive.now request.now) }
+    ensures value { result ≡ told_number (decide_answer archive.now request.now) }
     ensures decision_after { decision.new ≡ decided_verdict (decide_answer archive.now request.now) decision.old }
-    ensures after { entry.new ≡ decided_entry (decide_answer archive.now request.now) entry.old }
-    ensures place_after { place.new ≡ decided_place (decide_answer archive.now request.now) place.old }
+    ensures after { entry.new ≡ told_entry (decide_answer archive.now request.now) entry.old }
+    ensures place_after { place.new ≡ told_place (decide_answer archive.now request.now) place.old }
 {
     boc::boc_decide(archive, request, decision, entry, place)
 }
@@ -207,10 +207,10 @@ pub extern "C" fn boc_decide_in_place(
     entry: &mut usize,
     place: &mut usize,
 ) -> u32
-    ensures value { result ≡ decided_number (decide_answer archive.now request.now) }
+    ensures value { result ≡ told_number (decide_answer archive.now request.now) }
     ensures decision_after { decision.new ≡ decided_verdict (decide_answer archive.now request.now) decision.old }
-    ensures after { entry.new ≡ decided_entry (decide_answer archive.now request.now) entry.old }
-    ensures place_after { place.new ≡ decided_place (decide_answer archive.now request.now) place.old }
+    ensures after { entry.new ≡ told_entry (decide_answer archive.now request.now) entry.old }
+    ensures place_after { place.new ≡ told_place (decide_answer archive.now request.now) place.old }
 {
     boc::boc_decide_in_place(archive, request, decision, entry, place)
 }
@@ -224,11 +224,11 @@ pub extern "C" fn boc_contents(
     entry: &mut usize,
     place: &mut usize,
 ) -> u32
-    ensures value { result ≡ stored_number (contents_answer archive.now out.old) }
+    ensures value { result ≡ told_number (contents_answer archive.now out.old) }
     ensures out_after { out.new ≡ list_out archive.now out.old }
     ensures length_after { length.new ≡ stored_length (contents_answer archive.now out.old) length.old }
-    ensures after { entry.new ≡ stored_entry (contents_answer archive.now out.old) entry.old }
-    ensures place_after { place.new ≡ stored_place (contents_answer archive.now out.old) place.old }
+    ensures after { entry.new ≡ told_entry (contents_answer archive.now out.old) entry.old }
+    ensures place_after { place.new ≡ told_place (contents_answer archive.now out.old) place.old }
 {
     boc::boc_contents(archive, out, length, entry, place)
 }

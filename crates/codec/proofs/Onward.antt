@@ -69,25 +69,32 @@ reached-said o e = ap reached (sym (goes-on o got e) ∙ next-got o)
 pub reached-ends : {A : Type 0} (o : Found A) {e : Stop} → Err e ≡ said o → Err e ≡ reached o
 reached-ends o e = ap reached (sym (ends o got e) ∙ next-got o)
 
--- an element's test
-pub tested-some : (at : Cursor) (k : ℕ) → (k ≡ 0 → ⊥) → Err (record { number = k; at = at.at }) ≡ tested_is at k
-unfolding tested_is
-tested-some at zero h = absurd (h refl)
-tested-some at (suc k) h = refl
+-- an element's test, of what was read
+module _ (at : Cursor) (read : ℕ × Cursor) where
+  pub tested-some : (k : ℕ) → (k ≡ 0 → ⊥) → Err (record { number = k; at = at.at }) ≡ tested_is (Ok at) (Ok read) k
+  unfolding tested_is
+  tested-some zero h = absurd (h refl)
+  tested-some (suc k) h = refl
 
-pub passes-test : {A : Type 0} (at : Cursor) (k : ℕ) (o : Found A) → Ok tt ≡ tested_is at k → unless_at k at.at o ≡ o
-unfolding tested_is
-passes-test at zero o e = refl
-passes-test at (suc k) o e = never cc
+  pub tested-at : (k : ℕ) → tested_is (Ok at) (Ok read) k ≡ said (unless_at k at.at (got read.0 read.1.at))
+  unfolding tested_is
+  tested-at zero = refl
+  tested-at (suc k) = refl
 
-pub fails-test : {A : Type 0} (at : Cursor) (k : ℕ) (o : Found A) {e : Stop} → Err e ≡ tested_is at k → unless_at k at.at o ≡ refused e.number e.at
-unfolding tested_is
-fails-test at zero o h = never cc
-fails-test {A} at (suc k) o h = ap {B = Found A} (λ (r : Result (Unit {0}) Stop). next r) (sym h)
-  where
-    next : Result (Unit {0}) Stop → Found A
-    next (Ok t) = refused 0 0
-    next (Err e) = refused e.number e.at
+  module _ {A : Type 0} (o : Found A) where
+    pub passes-test : (k : ℕ) {found : ℕ × Cursor} → Ok found ≡ tested_is (Ok at) (Ok read) k → (unless_at k at.at o ≡ o) × (found ≡ read)
+    unfolding tested_is
+    passes-test zero e = (refl, cc)
+    passes-test (suc k) e = never cc
+
+    pub fails-test : (k : ℕ) {e : Stop} → Err e ≡ tested_is (Ok at) (Ok read) k → unless_at k at.at o ≡ refused e.number e.at
+    unfolding tested_is
+    fails-test zero h = never cc
+    fails-test (suc k) h = ap {B = Found A} (λ (r : Result (ℕ × Cursor) Stop). next r) (sym h)
+      where
+        next : Result (ℕ × Cursor) Stop → Found A
+        next (Ok p) = refused 0 0
+        next (Err e) = refused e.number e.at
 
 -- a number's reader reads the codec's
 pub number-at : (s : List ℕ) (n w at : ℕ) → 1 ≤ w → w ≤ 32 → element_of s n w at ≡ read_at (number w) (bits_in n s) at

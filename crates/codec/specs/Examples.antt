@@ -75,11 +75,13 @@ elements : (element_of (0x49 ∷ 0x80 ∷ []) 11 5 6 ≡ got 12 11)
 unfolding element_of read_at number bits bits_of value
 elements = (refl, refl, refl, refl)
 
--- an element that begins at place 6, under its test: passed; refused where it begins
-tested-elements : (tested_is (record { at = 6 }) 0 ≡ Ok tt)
-    × (tested_is (record { at = 6 }) 10 ≡ Err (record { number = 10; at = 6 }))
+-- a number that was read from place 6 to 11, under its test: passed; refused where it begins; what stood before is passed on
+tested-numbers : (tested_is (Ok (record { at = 6 })) (Ok (12, record { at = 11 })) 0 ≡ Ok (12, record { at = 11 }))
+    × (tested_is (Ok (record { at = 6 })) (Ok (13, record { at = 11 })) 10 ≡ Err (record { number = 10; at = 6 }))
+    × (tested_is (Ok (record { at = 6 })) (Err (record { number = 2; at = 6 })) 3 ≡ Err (record { number = 2; at = 6 }))
+    × (tested_is (Err (record { number = 3; at = 0 })) (Err (record { number = 3; at = 0 })) 10 ≡ Err (record { number = 3; at = 0 }))
 unfolding tested_is
-tested-elements = (refl, refl)
+tested-numbers = (refl, refl, refl, refl)
 
 -- a reader's result: the value and the cursor after it, or where it stops
 results : (said (element_of (0x49 ∷ 0x80 ∷ []) 11 5 6) ≡ Ok (12, record { at = 11 }))

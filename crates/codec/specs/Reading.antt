@@ -41,11 +41,20 @@ abbrev pub reached : {A : Type 0} → Found A → Result Cursor Stop
 reached (got a at) = Ok (record { at = at })
 reached (refused n p) = Err (record { number = n; at = p })
 
+-- ---- from one reader to the next
+
+-- reading goes on from where it stands; a refusal is passed on
+unfoldable pub resume : {A : Type 0} → Result Cursor Stop → (ℕ → Found A) → Found A
+resume (Ok c) f = f c.at
+resume (Err e) f = refused e.number e.at
+
 -- the number of w bits at a place of the n bits in s; no element has none, or more than 32
 unfoldable pub element_of : List ℕ → ℕ → ℕ → ℕ → Found ℕ
 element_of s n w at = pick (leb 1 w && leb w 32) (read_at (number w) (bits_in n s) at) (refused 2 at)
 
--- an element that begins at a cursor, under a refusal number
-unfoldable pub tested_is : Cursor → ℕ → Result (Unit {0}) Stop
-tested_is at zero = Ok tt
-tested_is at (suc n) = Err (record { number = suc n; at = at.at })
+-- a number that was read from a cursor on, under a refusal number
+unfoldable pub tested_is : Result Cursor Stop → Result (ℕ × Cursor) Stop → ℕ → Result (ℕ × Cursor) Stop
+tested_is (Ok c) (Ok read) zero = Ok read
+tested_is (Ok c) (Ok read) (suc n) = Err (record { number = suc n; at = c.at })
+tested_is (Ok c) (Err e) k = Err e
+tested_is (Err e) read k = Err e

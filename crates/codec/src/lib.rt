@@ -1,8 +1,8 @@
-// Reading a PDU element by element, left to right, from a cursor; the first refusal ends it.
+// Reading a PDU element by element, left to right: each reader goes on from where the one before it stands, and passes its refusal on.
 #![tactic(auto)]
 
 ghost use Rattle.std.specs.Prelude.{◌≡◌};
-ghost use Rattle.codec.specs.Reading.{element_of, said, tested_is};
+ghost use Rattle.codec.specs.Reading.{resume, element_of, said, tested_is};
 
 use bits::{BitCount, Cursor};
 
@@ -14,21 +14,33 @@ pub struct Stop {
 }
 
 // The number of `width` bits, 1 to 32, that stands next in the PDU of n bits in s, and the cursor after it; 2 if the PDU ends before or inside it.
-pub fn number(s: &[u8], n: BitCount, at: Cursor, width: usize) -> Result<(u32, Cursor), Stop>
-    ensures { result ≡ said (element_of s.now n.0 width at.at) }
+pub fn number(
+    s: &[u8],
+    n: BitCount,
+    start: Result<Cursor, Stop>,
+    width: usize,
+) -> Result<(u32, Cursor), Stop>
+    ensures { result ≡ said (resume start (element_of s.now n.0 width)) }
 {
+    let at = start?;
     at.take(s, n, width).ok_or(Stop {
         number: 2,
         at: at.at,
     })
 }
 
-// An element that begins at a cursor, refused there with `refusal` unless that is 0.
-pub fn tested(at: Cursor, refusal: u32) -> Result<(), Stop>
-    ensures { result ≡ tested_is at refusal }
+// A number that was read from `start` on, refused there with `refusal` unless that is 0.
+pub fn tested(
+    start: Result<Cursor, Stop>,
+    read: Result<(u32, Cursor), Stop>,
+    refusal: u32,
+) -> Result<(u32, Cursor), Stop>
+    ensures { result ≡ tested_is start read refusal }
 {
+    let at = start?;
+    let found = read?;
     if refusal == 0 {
-        return Ok(());
+        return Ok(found);
     }
     Err(Stop {
         number: refusal,

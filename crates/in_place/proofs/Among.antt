@@ -108,12 +108,3 @@ module _ {A : Type 0} {c z : Codec A} {test : A → Bool} {m n : ℕ} {s : List 
         nothing : (p : Bool) → p || false ≡ p
         nothing true = refl
         nothing false = refl
-
--- a hit is kept, and a miss changes nothing
-pub kept : (has : Bool) {hit now : Bool} → hit ≡ true → now ≡ true → now ≡ has || hit
-kept true e f = f
-kept false e f = f ∙ sym e
-
-pub missed : (has : Bool) {hit now : Bool} → hit ≡ false → now ≡ has → now ≡ has || hit
-missed true e f = f
-missed false e f = f ∙ sym e

@@ -8,6 +8,7 @@ use native.Mathlib.Omega.{arith}
 use lib.ListN.{length, take, drop}
 use Rattle.bits.specs.Bits.{bits, value}
 use Rattle.bits.proofs.Numbers.{length-bits_of}
+use Rattle.codec.specs.Codec.{Codec}
 use Rattle.codec.specs.Parts.{tested}
 use Rattle.codec.specs.Places.{places}
 use Rattle.codec.proofs.Reading.{read_at-legal}
@@ -88,15 +89,17 @@ module _ (s : List ℕ) (r : Record) {end : ℕ} (x : Read pdu (bits s) 0 r end)
 
 -- ---- the lists of a part
 
-pub record IdentityLists (s : List Bool) (at : ℕ) (l : Lists) : Type 0 where
+-- the groups, then the restricted and the exceptions, of identities or of numbers
+pub record PartLists {A : Type 0} (c : Codec A) (s : List Bool) (at : ℕ) (g : Identities) (r x : A) : Type 0 where
   pub restricted-at : ℕ
   pub exceptions-at : ℕ
   pub end : ℕ
-  pub groups : Read (identities of.Identities) s at l.groups restricted-at
-  pub restricted : Read (identities of.Identities) s restricted-at l.restricted exceptions-at
-  pub exceptions : Read (identities of.Identities) s exceptions-at l.exceptions end
+  pub groups : Read (identities of.Identities) s at g restricted-at
+  pub restricted : Read c s restricted-at r exceptions-at
+  pub exceptions : Read c s exceptions-at x end
 
-pub identity-lists : {s : List Bool} {at end result : ℕ} {l : Lists} → result ≡ 1 → Read (part_of result) s at l end → IdentityLists s at l
+pub identity-lists : {s : List Bool} {at end result : ℕ} {l : Lists} → result ≡ 1 → Read (part_of result) s at l end
+    → PartLists (identities of.Identities) s at l.groups l.restricted l.exceptions
 unfolding identity_part
 identity-lists e r =
     let g = split-seq _ _ (split-shaped _ _ _ _ _ (rw e at r)) in
@@ -111,19 +114,12 @@ identity-lists e r =
       exceptions = x.first;
     }
 
-pub record NumberLists (s : List Bool) (at : ℕ) (l : Lists) : Type 0 where
-  pub numbers-at : ℕ
-  pub excepted-at : ℕ
-  pub end : ℕ
-  pub groups : Read (identities of.Identities) s at l.groups numbers-at
-  pub numbers : Read externals s numbers-at l.numbers excepted-at
-  pub excepted : Read externals s excepted-at l.excepted end
-
 -- a list that is not carried ends where it begins
 nowhere : {s : List Bool} {at end : ℕ} {l : Identities} → Read no_identities s at l end → end ≡ at
 nowhere {s} {at} r = (read-once r (record { same = no_identities-at s at })).1
 
-pub number-lists : {s : List Bool} {at end result : ℕ} {l : Lists} → result ≡ 2 → Read (part_of result) s at l end → NumberLists s at l
+pub number-lists : {s : List Bool} {at end result : ℕ} {l : Lists} → result ≡ 2 → Read (part_of result) s at l end
+    → PartLists externals s at l.groups l.numbers l.excepted
 unfolding number_part
 number-lists {s} {at} {end} {l = l} e r =
     let g = split-seq _ _ (split-shaped _ _ _ _ _ (rw e at r)) in
@@ -132,12 +128,12 @@ number-lists {s} {at} {end} {l = l} e r =
     let n = split-seq _ _ x.then in
     let p : x.middle ≡ g.middle = nowhere x.first ∙ nowhere t.first in
     record {
-      numbers-at = g.middle;
-      excepted-at = n.middle;
+      restricted-at = g.middle;
+      exceptions-at = n.middle;
       end = end;
       groups = g.first;
-      numbers = subst (λ (k : ℕ). Read externals s k l.numbers n.middle) p n.first;
-      excepted = n.then;
+      restricted = subst (λ (k : ℕ). Read externals s k l.numbers n.middle) p n.first;
+      exceptions = n.then;
     }
 
 -- either begins with the groups
@@ -149,4 +145,4 @@ pub grouped : (d : Destination) {s : List Bool} {at end result : ℕ} {l : Lists
     → Grouped s at l
 unfolding part_for
 grouped (Identity u) e r = let x = identity-lists e r in record { end = x.restricted-at; groups = x.groups }
-grouped (Number n) e r = let x = number-lists e r in record { end = x.numbers-at; groups = x.groups }
+grouped (Number n) e r = let x = number-lists e r in record { end = x.restricted-at; groups = x.groups }

@@ -1,122 +1,139 @@
 -- A list by its range type: what its entries say, it says. Assumes nothing.
 use mathlib.Core.Path.{◌≡◌, refl, sym, ap, ◌∙◌, subst}
 use mathlib.Core.Bool.{Bool, true, false}
-use mathlib.Core.List.{List}
-use Prim.Native.Nat.{ℕ, ◌+◌, ◌/◌, ◌^◌, ◌≤◌}
+use mathlib.Core.List.{List, [], ◌∷◌}
+use Prim.Native.Nat.{ℕ, zero, suc, ◌+◌, ◌≤◌}
 use native.Mathlib.Omega.{arith}
 use lib.ListN.{length, take, get_or}
-use lib.Dec.{eqb}
-use borrow.Author.Tests.{ne_eqb, le-leb}
+use lib.Dec.{leb}
+use borrow.Author.Tests.{ne_eqb, le-leb, leb-true, leb-false}
 use Rattle.std.proofs.Common.{Option, Some, None}
 use Rattle.bits.specs.Bits.{bits}
-use Rattle.bits.specs.Element.{window_at}
 use Rattle.bits.specs.Lists.{some}
-use Rattle.codec.specs.Parts.{tested}
+use Rattle.codec.specs.Codec.{Codec}
+use Rattle.codec.specs.Parts.{number, tested}
 use Rattle.codec.specs.Places.{places}
-use Rattle.codec.proofs.Filling.{places-rest}
 use Rattle.grammar.specs.SiteSheet.{range_type, row_of, entries_of, range_refusal}
 use Rattle.grammar.specs.Grammar.{identity, no_identity, zero_identity, range_ends, second_end, identities, external, no_external, externals}
+use Rattle.grammar.specs.declared.record.Identities.{Identities}
+use Rattle.grammar.specs.declared.record.Number.{Number}
 use Rattle.grammar.specs.declared.site.ListKind.TheVariants as of
 use Rattle.grammar.proofs.Codes.{single}
-use Rattle.grammar.proofs.Steps.{no_identity-at}
 use Rattle.walk.proofs.Sights.{legal-code, single-code}
 use Rattle.reader.specs.Inner.{Read, Reads}
-use Rattle.reader.proofs.Elements.{number_fits}
 use Rattle.rules.specs.Matching.{is_entry, in_range, identity_among, is_number, number_among}
 use Rattle.rules.specs.declared.request.User.{User}
 use Rattle.rules.specs.Rule.{is_empty, in_groups}
-use Rattle.in_place.specs.Inner.{Ends, Says, Sees}
+use Rattle.in_place.specs.Inner.{Says, Sees, seen}
+use Rattle.in_place.specs.declared.Passed.{Passed}
 use Rattle.in_place.specs.declared.Seen.{Seen}
-use Rattle.in_place.proofs.Windows.{front-is}
 use Rattle.in_place.proofs.Splits.{read-once, says_is, Headed, split-headed, split-shaped, split-tested}
 
-module _ (s : List ℕ) (start : ℕ) (r : Reads (identities of.Identities) (bits s) start) where
-  abbrev code : ℕ
-  code = r.value.code
+-- what is said of the entries of a list, by its range type, is said of the list
+pub list_seen : {A L : Type 0} (whole : Codec L) {entries : Codec (List A)} (of-list : L → List A) (code : L → ℕ)
+    {says : List A → Bool} {test : L → Bool}
+    {s : List Bool} {start at end n : ℕ} {l : L} {passed : Passed} → Read whole s start l end → Read entries s at (of-list l) end → n ≡ code l
+    → Says entries says s at passed.has passed.end → says (of-list l) ≡ test l → Sees whole test code s start (seen passed n)
+list_seen whole of-list code {l = l} r e is p t =
+    let o = says_is p e in
+    record { value = l; read = rw (← o.1) at r; has = o.0 ∙ t; empty = ap is_empty is }
 
-  parts : Headed 4 (range_refusal of.Identities) (λ n. tested (places identity no_identity 8 (entries_of n)) (range_ends n) second_end) (bits s) start code
-      r.value.entries r.end
+-- nothing is found where nothing is looked for
+none-some : {A : Type 0} (l : List A) → some (λ a. false) l ≡ false
+unfolding some
+none-some [] = refl
+none-some (a ∷ l) = none-some l
+
+-- single entries have what the list has
+singles-among : (missing : ℕ) (u : User) (l : Identities) (n : ℕ) → n ≤ 8 → n ≡ l.code
+    → some (is_entry missing u) (take n l.entries) ≡ identity_among missing l u
+unfolding identity_among range_type some
+singles-among missing u l zero h e = rw (← e)
+singles-among missing u l (suc k) h e = rw (← e, ne_eqb (suc k) 0 (λ z. omega arith), le-leb (suc k) 8 h)
+
+-- no range type has more than eight
+of-nine : entries_of 9 ≤ 8
+unfolding row_of range_type
+of-nine = omega arith
+
+few-of : (code : ℕ) → code ≤ 9 → entries_of code ≤ 8
+few-of code h = go (leb code 8) refl
+  where
+    go : (t : Bool) → leb code 8 ≡ t → entries_of code ≤ 8
+    go true e = let few = leb-true code 8 e in rw (single code few).2 few
+    go false e = let nine : code ≡ 9 = omega (arith, leb-false code 8 e) in rw nine of-nine
+
+module _ (s : List ℕ) (start : ℕ) (r : Reads (identities of.Identities) (bits s) start) where
+  parts : Headed 4 (range_refusal of.Identities) (λ n. tested (places identity no_identity 8 (entries_of n)) (range_ends n) second_end) (bits s) start
+      r.value.code r.value.entries r.end
   unfolding identities
   parts = split-headed 4 (range_refusal of.Identities) (λ n. tested (places identity no_identity 8 (entries_of n)) (range_ends n) second_end)
       (split-shaped _ _ _ _ _ r.read)
 
-  -- the range type in the window at its place
-  pub code_is : {x : ℕ} → x ≡ window_at s start → x / 2 ^ 53 ≡ code
-  code_is e = front-is s start e 4 (omega arith) (omega arith) parts.head
+  pub list-head : Reads (number 4) (bits s) start
+  list-head = record { value = _; end = _; read = parts.head }
 
-  pub list-near : length s ≤ 512 → start + 4 ≤ 4096
-  list-near few = number_fits s start 4 (omega arith) few (record { value = _; end = _; read = parts.head })
+  -- by the range type that is read
+  module _ {n at : ℕ} (f : Read (number 4) (bits s) start n at) where
+    is : (n ≡ r.value.code) × (at ≡ start + 4)
+    is = read-once f parts.head
 
-  pub code-legal : code ≤ 9
-  code-legal = legal-code of.Identities code parts.legal
+    pub code-legal : n ≤ 9
+    code-legal = rw is.0 (legal-code of.Identities r.value.code parts.legal)
 
-  entries-read : {n : ℕ} → entries_of code ≡ n → Read (places identity no_identity 8 n) (bits s) (start + 4) r.value.entries r.end
-  entries-read e = rw e at (split-tested _ _ _ parts.rest).0
+    entries-read : {m : ℕ} → m ≡ entries_of n → Read (places identity no_identity 8 m) (bits s) at r.value.entries r.end
+    entries-read e = rw (e, is.0, is.1) (split-tested _ _ _ parts.rest).0
 
-  pub range-reads : code ≡ 9 → Reads (places identity no_identity 8 2) (bits s) (start + 4)
-  unfolding range_type row_of
-  range-reads e = record { value = _; end = _; read = entries-read (ap (λ (n : ℕ). entries_of n) e) }
+    pub few-entries : {m : ℕ} → m ≡ entries_of n → m ≤ 8
+    few-entries e = rw e (few-of n code-legal)
 
-  pub singles-reads : {n : ℕ} → n ≡ code → n ≤ 8 → Reads (places identity no_identity 8 n) (bits s) (start + 4)
-  singles-reads {n} e few = record { value = _; end = _; read = entries-read (ap (λ (m : ℕ). entries_of m) (sym e) ∙ (single n few).2) }
+    pub entries-reads : {m : ℕ} → m ≡ entries_of n → Reads (places identity no_identity 8 m) (bits s) at
+    entries-reads e = record { value = _; end = _; read = entries-read e }
 
-  -- passed over
-  over : {n end : ℕ} → entries_of code ≡ n → Ends (places identity no_identity 8 n) (bits s) (start + 4) end → {empty : Bool} → empty ≡ is_empty code
-      → Sees (identities of.Identities) (λ l. false) (λ l. l.code) (bits s) start (record { has = false; empty = empty; end = end })
-  over e p f = record { value = r.value; read = rw (read-once (entries-read e) p.read).1 at r.read; has = refl; empty = f }
+    two : n ≡ 9 → 2 ≡ entries_of n
+    unfolding range_type row_of
+    two e = rw e
 
-  pub range-over : {end : ℕ} → code ≡ 9 → Ends (places identity no_identity 8 2) (bits s) (start + 4) end
-      → Sees (identities of.Identities) (λ l. false) (λ l. l.code) (bits s) start (record { has = false; empty = false; end = end })
-  unfolding range_type row_of
-  range-over e p = over (ap (λ (n : ℕ). entries_of n) e) p (rw e)
+    pub range-reads : n ≡ 9 → Reads (places identity no_identity 8 2) (bits s) at
+    range-reads e = entries-reads (two e)
 
-  pub singles-over : {n end : ℕ} → n ≡ code → n ≤ 8 → Ends (places identity no_identity 8 n) (bits s) (start + 4) end
-      → Sees (identities of.Identities) (λ l. false) (λ l. l.code) (bits s) start (record { has = false; empty = eqb n 0; end = end })
-  singles-over {n} e few p = over (ap (λ (m : ℕ). entries_of m) (sym e) ∙ (single n few).2) p (ap (λ (m : ℕ). eqb m 0) e)
+    pub singles-reads : n ≤ 8 → Reads (places identity no_identity 8 n) (bits s) at
+    singles-reads few = entries-reads (sym (single n few).2)
 
-  module _ (missing : ℕ) (u : User) where
-    abbrev SeenAs : Bool → Bool → ℕ → Type 0
-    SeenAs has empty end =
-        Sees (identities of.Identities) (λ l. identity_among missing l u) (λ l. l.code) (bits s) start
-        (record { has = has; empty = empty; end = end })
+    pub over : {m : ℕ} {passed : Passed} → m ≡ entries_of n
+        → Says (places identity no_identity 8 m) (λ l. some (λ e. false) (take m l)) (bits s) at passed.has passed.end
+        → Sees (identities of.Identities) (λ l. false) (λ l. l.code) (bits s) start (seen passed n)
+    over {m} e p =
+        list_seen (identities of.Identities) (λ l. l.entries) (λ l. l.code) r.read (entries-read e) is.0 p (none-some (take m r.value.entries))
 
-    pub none_seen : code ≡ 0 → SeenAs false true (start + 4)
-    unfolding identity_among range_type row_of
-    none_seen e =
-        let none = places-rest identity no_identity (bits s) zero_identity (no_identity-at (bits s)) 8 (start + 4) in
-        let l = entries-read (ap (λ (n : ℕ). entries_of n) e) in
-        let end : r.end ≡ start + 4 = cc (l.same, none) in
-        record { value = r.value; read = rw end at r.read; has = rw e; empty = rw e }
+    module _ (missing : ℕ) (u : User) where
+      abbrev SeenAs : Passed → Type 0
+      SeenAs passed = Sees (identities of.Identities) (λ l. identity_among missing l u) (λ l. l.code) (bits s) start (seen passed n)
 
-    pub range_seen : {has : Bool} {end : ℕ} → code ≡ 9
-        → Says (places identity no_identity 8 2) (λ l. in_range missing u (get_or l 0 zero_identity) (get_or l 1 zero_identity)) (bits s) (start + 4) has end
-        → SeenAs has false end
-    unfolding identity_among range_type row_of
-    range_seen e p =
-        let o = says_is p (entries-read (ap (λ (n : ℕ). entries_of n) e)) in
-        record { value = r.value; read = rw (← o.1) at r.read; has = rw e o.0; empty = rw e }
+      pub range_seen : {passed : Passed} → n ≡ 9
+          → Says (places identity no_identity 8 2) (λ l. in_range missing u (get_or l 0 zero_identity) (get_or l 1 zero_identity)) (bits s) at
+          passed.has passed.end
+          → SeenAs passed
+      unfolding identity_among range_type
+      range_seen e p =
+          let nine : r.value.code ≡ 9 = sym is.0 ∙ e in
+          list_seen (identities of.Identities) (λ l. l.entries) (λ l. l.code) r.read (entries-read (two e)) is.0 p (rw nine)
 
-    pub singles_seen : {has : Bool} {end n : ℕ} → n ≡ code → (n ≡ 0 → ⊥) → n ≤ 8
-        → Says (places identity no_identity 8 n) (λ l. some (is_entry missing u) (take n l)) (bits s) (start + 4) has end → SeenAs has false end
-    unfolding identity_among range_type
-    singles_seen {n = n} e some few p =
-        let o = says_is p (entries-read (ap (λ (m : ℕ). entries_of m) (sym e) ∙ (single n few).2)) in
-        record {
-          value = r.value;
-          read = rw (← o.1) at r.read;
-          has = rw (← e, ne_eqb n 0 some, le-leb n 8 few) o.0;
-          empty = rw (← e) (sym (ne_eqb n 0 some));
-        }
+      pub singles_seen : {passed : Passed} → n ≤ 8
+          → Says (places identity no_identity 8 n) (λ l. some (is_entry missing u) (take n l)) (bits s) at passed.has passed.end → SeenAs passed
+      singles_seen few p =
+          list_seen (identities of.Identities) (λ l. l.entries) (λ l. l.code) r.read (entries-read (sym (single n few).2)) is.0 p
+          (singles-among missing u r.value n few is.0)
 
 -- ---- the call's group
 
-module _ (missing : ℕ) {s : List Bool} {start : ℕ} {group : Option User} {seen : Seen} where
-  pub group_seen : {u : User} → group ≡ Some u → Sees (identities of.Identities) (λ l. identity_among missing l u) (λ l. l.code) s start seen
-      → Sees (identities of.Identities) (λ l. in_groups missing l group) (λ l. l.code) s start seen
+module _ (missing : ℕ) {s : List Bool} {start : ℕ} {group : Option User} {answer : Seen} where
+  pub group_seen : {u : User} → group ≡ Some u → Sees (identities of.Identities) (λ l. identity_among missing l u) (λ l. l.code) s start answer
+      → Sees (identities of.Identities) (λ l. in_groups missing l group) (λ l. l.code) s start answer
   group_seen e p = record { value = p.value; read = p.read; has = rw e p.has; empty = p.empty }
 
-  pub no-group_seen : group ≡ None → Sees (identities of.Identities) (λ l. false) (λ l. l.code) s start seen
-      → Sees (identities of.Identities) (λ l. in_groups missing l group) (λ l. l.code) s start seen
+  pub no-group_seen : group ≡ None → Sees (identities of.Identities) (λ l. false) (λ l. l.code) s start answer
+      → Sees (identities of.Identities) (λ l. in_groups missing l group) (λ l. l.code) s start answer
   no-group_seen e p = record { value = p.value; read = p.read; has = rw e p.has; empty = p.empty }
 
 -- ---- a list of numbers: its range type is how many entries it has
@@ -127,33 +144,29 @@ module _ (s : List ℕ) (start : ℕ) (r : Reads externals (bits s) start) where
   unfolding externals
   numbers-parts = split-headed 4 (range_refusal of.Numbers) (λ n. places external no_external 8 (entries_of n)) (split-shaped _ _ _ _ _ r.read)
 
-  pub numbers-code : {x : ℕ} → x ≡ window_at s start → x / 2 ^ 53 ≡ r.value.code
-  numbers-code e = front-is s start e 4 (omega arith) (omega arith) numbers-parts.head
+  pub numbers-head : Reads (number 4) (bits s) start
+  numbers-head = record { value = _; end = _; read = numbers-parts.head }
 
-  pub numbers-near : length s ≤ 512 → start + 4 ≤ 4096
-  numbers-near few = number_fits s start 4 (omega arith) few (record { value = _; end = _; read = numbers-parts.head })
+  module _ {n at : ℕ} (f : Read (number 4) (bits s) start n at) where
+    numbered : (n ≡ r.value.code) × (at ≡ start + 4)
+    numbered = read-once f numbers-parts.head
 
-  pub numbers-few : r.value.code ≤ 8
-  numbers-few = single-code r.value.code numbers-parts.legal
+    pub numbers-few : n ≤ 8
+    numbers-few = rw numbered.0 (single-code r.value.code numbers-parts.legal)
 
-  module _ {n : ℕ} (e : n ≡ r.value.code) where
-    entries_are : Read (places external no_external 8 n) (bits s) (start + 4) r.value.entries r.end
-    entries_are =
-        subst (λ (k : ℕ). Read (places external no_external 8 k) (bits s) (start + 4) r.value.entries r.end)
-        ((single r.value.code numbers-few).2 ∙ sym e) numbers-parts.rest
+    -- as many as it says
+    counted : entries_of r.value.code ≡ n
+    counted = (single r.value.code (single-code r.value.code numbers-parts.legal)).2 ∙ sym numbered.0
 
-    pub numbers-reads : Reads (places external no_external 8 n) (bits s) (start + 4)
+    entries_are : Read (places external no_external 8 n) (bits s) at r.value.entries r.end
+    entries_are = rw (numbered.1, ← counted) numbers-parts.rest
+
+    pub numbers-reads : Reads (places external no_external 8 n) (bits s) at
     numbers-reads = record { value = _; end = _; read = entries_are }
 
-    pub numbers_seen : {has : Bool} {end : ℕ} (length : ℕ) (digits : List ℕ)
-        → Says (places external no_external 8 n) (λ l. some (is_number length digits) (take n l)) (bits s) (start + 4) has end
-        → Sees externals (λ l. number_among l length digits) (λ l. l.code) (bits s) start (record { has = has; empty = eqb n 0; end = end })
+    pub numbers_seen : (number : Number) {passed : Passed}
+        → Says (places external no_external 8 n) (λ l. some (is_number number.length.0 number.digits) (take n l)) (bits s) at passed.has passed.end
+        → Sees externals (λ l. number_among l number.length.0 number.digits) (λ l. l.code) (bits s) start (seen passed n)
     unfolding number_among
-    numbers_seen length digits p =
-        let o = says_is p entries_are in
-        record {
-          value = r.value;
-          read = rw (← o.1) at r.read;
-          has = rw ((single r.value.code numbers-few).2, ← e) o.0;
-          empty = ap (λ (k : ℕ). eqb k 0) e;
-        }
+    numbers_seen number p =
+        list_seen externals (λ l. l.entries) (λ l. l.code) r.read entries_are numbered.0 p (rw counted)

@@ -3,6 +3,7 @@ use Rattle.std.specs.Prelude.{◌≡◌, Bool, not, ◌&&◌, List, ℕ, ◌+◌
 use Rattle.bits.specs.Bits.{bits, pick}
 use Rattle.bits.specs.Frame.{bytes_for}
 use Rattle.codec.specs.Codec.{Codec}
+use Rattle.codec.specs.Reading.{got, read_at}
 use Rattle.grammar.specs.Grammar.{pdu}
 use Rattle.grammar.specs.declared.record.Record.{Record}
 use Rattle.reader.specs.Inner.{Read, Reads}
@@ -13,17 +14,13 @@ use Rattle.rules.specs.declared.Cause.TheVariants.{OutsideGroup, RestrictedServi
 use Rattle.rules.specs.declared.request.Request.{Request}
 use Rattle.archive.specs.Reading.{home_of}
 use Rattle.barring.specs.Decide.{part_for}
+use Rattle.in_place.specs.declared.Passed.{Passed}
 use Rattle.in_place.specs.declared.Seen.{Seen}
 
 -- c can be passed: the PDU has at most 512 bytes, and c is read at a place
 pub record Walkable {A : Type 0} (c : Codec A) (s : List ℕ) (at : ℕ) : Type 0 where
   pub few : length s ≤ 512
   pub reads : Reads c (bits s) at
-
--- c is read from `at` to `end`
-pub record Ends {A : Type 0} (c : Codec A) (s : List Bool) (at end : ℕ) : Type 0 where
-  pub value : A
-  pub read : Read c s at value end
 
 -- c is read from `at` to `end`, and `has` is what a test says of its value
 pub record Says {A : Type 0} (c : Codec A) (test : A → Bool) (s : List Bool) (at : ℕ) (has : Bool) (end : ℕ) : Type 0 where
@@ -37,6 +34,15 @@ pub record Sees {A : Type 0} (c : Codec A) (test : A → Bool) (code : A → ℕ
   pub read : Read c s at value seen.end
   pub has : seen.has ≡ test value
   pub empty : seen.empty ≡ is_empty (code value)
+
+-- what was said of all its entries, said of a list of a range type
+abbrev pub seen : Passed → ℕ → Seen
+seen p code = record { has = p.has; empty = is_empty code; end = p.end }
+
+-- nothing is read where a list has no entry
+pub record Blank {A : Type 0} (none : Codec A) : Type 0 where
+  pub value : A
+  pub read : (s : List Bool) (at : ℕ) → read_at none s at ≡ got value at
 
 -- rules 2 to 6, by what the lists say: the group list has the call's group, or is empty; the restricted list has the destination, or is empty;
 -- the exceptions have it

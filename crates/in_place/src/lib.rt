@@ -5,15 +5,17 @@
 mod identities;
 mod numbers;
 mod services;
+mod sought;
 
 ghost use Rattle.std.specs.Prelude.{◌≡◌};
 ghost use Rattle.barring.specs.Decide.{decide_is};
 ghost use Rattle.barring.specs.Inner.{ruling_of_body};
-ghost use Rattle.in_place.specs.Inner.{settled_by, Judging, Ruled, JudgingAt};
+ghost use Rattle.in_place.specs.Inner.{seen, settled_by, Judging, Ruled, JudgingAt};
 
 use archive::Refusal;
 use barring::{Decision, JudgingPart};
-use identities::{groups_at, identities_at};
+use grammar::record::Number;
+use identities::{Wanted, groups_at, identities_at};
 use numbers::numbers_at;
 use rules::Cause;
 use rules::request::{Destination, Request};
@@ -42,7 +44,21 @@ pub struct Passed {
     pub end: usize,
 }
 
+impl Passed {
+    // What was said of all its entries, as said of a list of a range type.
+    fn of_list(self, code: u32) -> Seen
+        ensures { result ≡ seen self code }
+    {
+        Seen {
+            has: self.has,
+            empty: code == 0,
+            end: self.end,
+        }
+    }
+}
+
 // The first of rules 2 to 6 that applies, by what the lists say: groups, restricted, exceptions.
+#[tactic(auto, unfolding(crate::specs::Inner::settled_by))]
 fn settled(groups: Seen, restricted: Seen, exceptions: Seen) -> Option<Cause>
     ensures { result ≡ settled_by groups.has groups.empty restricted.has restricted.empty exceptions.has }
 {
@@ -70,8 +86,7 @@ fn ruling_in(s: &[u8], request: Request) -> Option<Cause>
     requires { Judging s.now request }
     ensures { Ruled s.now request result }
 {
-    let user = request.user;
-    let missing = user.network;
+    let missing = request.user.network;
     let services = services_at(
         s,
         SERVICES + EXTENSION * bits::bit_at(s, PRESENT),
@@ -84,21 +99,24 @@ fn ruling_in(s: &[u8], request: Request) -> Option<Cause>
     let destination = request.destination;
     let groups = groups_at(s, services.end, missing, group);
     match destination {
-        Destination::Identity(u) => {
-            let restricted = identities_at(s, groups.end, missing, u);
-            let exceptions = identities_at(s, restricted.end, missing, u);
+        Destination::Identity(user) => {
+            let wanted = Wanted { user, missing };
+            let restricted = identities_at(s, groups.end, wanted);
+            let exceptions = identities_at(s, restricted.end, wanted);
             settled(groups, restricted, exceptions)
         },
         Destination::Number(length) => {
             let digits = request.digits;
-            let restricted = numbers_at(s, groups.end, length, digits);
-            let exceptions = numbers_at(s, restricted.end, length, digits);
+            let number = Number { length, digits };
+            let restricted = numbers_at(s, groups.end, number);
+            let exceptions = numbers_at(s, restricted.end, number);
             settled(groups, restricted, exceptions)
         },
     }
 }
 
-// The same of the body of a part in the archive.
+// The same of the body of a part in the archive. Each engine cuts it out: one public function for both would have to answer for bodies that end
+// outside, which no part that is held does.
 fn ruling_of_body(archive: &[u8], part: JudgingPart, request: Request) -> Option<Cause>
     requires { JudgingAt archive.now part.at part.length.0 request }
     ensures { result ≡ ruling_of_body archive.now part.at part.length.0 request }

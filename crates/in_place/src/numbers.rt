@@ -1,16 +1,17 @@
 // An external number looked for in a list of numbers: the same length, then the same digits.
 ghost use Rattle.std.specs.Prelude.{◌+◌, ◌*◌, ◌≤◌, take};
 ghost use Rattle.bits.specs.Bits.{bits};
-ghost use Rattle.bits.specs.Lists.{some};
 ghost use Rattle.codec.specs.Parts.{absent, element};
 ghost use Rattle.codec.specs.Places.{places};
 ghost use Rattle.grammar.specs.SiteSheet.{digit_refusal};
 ghost use Rattle.grammar.specs.Grammar.{external, no_external, externals};
 ghost use Rattle.rules.specs.Matching.{same, is_number, number_among};
 ghost use Rattle.in_place.specs.Inner.{Walkable, Says, Sees};
+ghost use Rattle.in_place.specs.Blanks.{no_external_blank};
 
+use crate::sought::{Sought, among, front_at};
 use crate::{Passed, Seen};
-use bits::DigitCount;
+use grammar::record::Number;
 
 // Whether so many digits from a place on are these.
 fn are_digits(s: &[u8], at: usize, count: usize, digits: [u8; 24]) -> bool
@@ -25,50 +26,38 @@ fn are_digits(s: &[u8], at: usize, count: usize, digits: [u8; 24]) -> bool
     true
 }
 
-// Whether an entry is this number.
-fn number_at(s: &[u8], at: usize, length: DigitCount, digits: [u8; 24]) -> Passed
-    requires { Walkable external s.now at }
-    ensures { Says external (is_number length.0 digits) (bits s.now) at result.has result.end }
-{
-    let count = (bits::window(s, at) >> 52u32) as usize;
-    let start = at + 5;
-    let end = start + 4 * count;
-    if count != length.0 as usize {
-        return Passed { has: false, end };
-    }
-    Passed {
-        has: are_digits(s, start, count, digits),
-        end,
-    }
-}
+impl Sought for Number {
+    type Entry = Number;
 
-// Whether one of so many entries is this number.
-fn entries_at(s: &[u8], start: usize, count: u32, length: DigitCount, digits: [u8; 24]) -> Passed
-    requires { (count ≤ 8) × Walkable (places external no_external 8 count) s.now start }
-    ensures { Says (places external no_external 8 count) (λ l. some (is_number length.0 digits) (take count l)) (bits s.now) start result.has result.end }
-{
-    let mut has = false;
-    let mut at = start;
-    for _ in 0..count {
-        let entry = number_at(s, at, length, digits);
-        if entry.has {
-            has = true;
+    ghost part = { external };
+
+    ghost none = { no_external };
+
+    ghost is = { λ n. is_number n.length.0 n.digits };
+
+    ghost blank = { no_external_blank };
+
+    fn at(self, s: &[u8], at: usize) -> Passed {
+        let length = self.length;
+        let count = (bits::window(s, at) >> 52u32) as usize;
+        let start = at + 5;
+        let end = start + 4 * count;
+        if count != length.0 as usize {
+            return Passed { has: false, end };
         }
-        at = entry.end;
+        Passed {
+            has: are_digits(s, start, count, self.digits),
+            end,
+        }
     }
-    Passed { has, end: at }
 }
 
 // Whether a list has this number. Its range type is how many entries it has.
-pub(crate) fn numbers_at(s: &[u8], start: usize, length: DigitCount, digits: [u8; 24]) -> Seen
+pub(crate) fn numbers_at(s: &[u8], start: usize, number: Number) -> Seen
     requires { Walkable externals s.now start }
-    ensures { Sees externals (λ l. number_among l length.0 digits) (λ l. l.code) (bits s.now) start result }
+    ensures { Sees externals (λ l. number_among l number.length.0 number.digits) (λ l. l.code) (bits s.now) start result }
 {
-    let code = (bits::window(s, start) >> 53u32) as u32;
-    let entries = entries_at(s, start + 4, code, length, digits);
-    Seen {
-        has: entries.has,
-        empty: code == 0,
-        end: entries.end,
-    }
+    let front = front_at(s, start);
+    let code = front.code;
+    among(s, front.at, code as usize, number).of_list(code)
 }

@@ -1,5 +1,5 @@
 // Judging an accepted PDU: whether an archive may hold it, for which user, and as which part.
-#![tactic(auto)]
+#![tactic(auto, unfolding(crate::specs::Judge::judged_is))]
 
 ghost use Rattle.std.specs.Prelude.{◌≡◌};
 ghost use Rattle.judging.specs.Judge.{judged_is};
@@ -11,17 +11,6 @@ use walk::Head;
 pub fn judge(head: Head) -> Option<(Identity, u32)>
     ensures { result ≡ judged_is head }
 {
-    if head.kind != 12 {
-        return None;
-    }
-    if head.result < 1 {
-        return None;
-    }
-    if 2 < head.result {
-        return None;
-    }
-    if head.code != 1 {
-        return None;
-    }
-    Some((head.user, head.result))
+    let holdable = head.kind == 12 && 1 <= head.result && head.result <= 2 && head.code == 1;
+    holdable.then_some((head.user, head.result))
 }

@@ -19,26 +19,25 @@ use Rattle.writer.specs.Write.{write_is, out_is, written_number}
 use Rattle.rules.specs.Request.{request_refusal}
 use Rattle.archive.specs.Refusals.{plain}
 use Rattle.archive.specs.Checking.{check_is, if_archive}
-use Rattle.archive.specs.Keeping.{stored_refusal, empty_is}
-use Rattle.archive.specs.Restoring.{entry_is, listed_refusal, restored_refusal}
+use Rattle.archive.specs.Keeping.{empty_is}
+use Rattle.archive.specs.Restoring.{entry_is}
 use Rattle.archive.specs.declared.refusal.Refusal.{Refusal}
 use Rattle.archive.specs.declared.Restored.{Restored}
 use Rattle.archive.specs.declared.contents.Key.{Key}
-use Rattle.reload.specs.Reload.{reloaded_refusal, reload_is}
+use Rattle.reload.specs.Reload.{reload_is}
 use Rattle.reload.specs.declared.Definition.{Definition}
 use Rattle.reload.specs.declared.Target.{Target}
 use Rattle.words.specs.RecordWords.{record_words, record_from}
 use Rattle.words.specs.RequestWords.{is_request, request_from}
 use Rattle.barring.specs.Decide.{part_in, decide_is}
-use Rattle.barring.specs.Decision.{decided_refusal}
 use Rattle.barring.specs.declared.Decision.{Decision}
-use Rattle.boc.specs.Calls.{place_word, read_place_of, written_length, write_number, write_out, write_bits}
+use Rattle.boc.specs.Calls.{told_refusal, place_word, read_place_of, written_length, write_number, write_out, write_bits}
 use Rattle.barring.specs.declared.Decision.TheVariants.{NotHeld}
-use Rattle.boc.specs.Calls.{stored_number, stored_length, stored_entry, stored_place, capture_answer, contents_answer}
-use Rattle.boc.specs.Calls.{listed_number, listed_key, listed_length, listed_day, listed_entry, listed_place, entry_answer}
-use Rattle.boc.specs.Calls.{restored_number, restored_length, restored_day, restored_entry, restored_place, key_of, restore_answer}
-use Rattle.boc.specs.Calls.{reloaded_number, reloaded_length, reloaded_entry, reloaded_place}
-use Rattle.boc.specs.Calls.{decided_number, decided_verdict, decided_entry, decided_place, decide_answer}
+use Rattle.boc.specs.Calls.{told_number, stored_length, told_entry, told_place, capture_answer, contents_answer}
+use Rattle.boc.specs.Calls.{listed_key, listed_length, listed_day, entry_answer}
+use Rattle.boc.specs.Calls.{restored_length, restored_day, key_of, restore_answer}
+use Rattle.boc.specs.Calls.{reloaded_length}
+use Rattle.boc.specs.Calls.{decided_verdict, decide_answer}
 use Rattle.promises.specs.Answers.{Exactly}
 use Rattle.promises.specs.Calls as call
 use Rattle.promises.specs.Calls.{Read, Write, Empty, Capture, Restore, Reloads, Decide, Contents}
@@ -68,40 +67,19 @@ written-refusal : (a : Result BitCount ℕ) → (written_number a ≡ 0 → ⊥)
 written-refusal (Ok n) h = absurd (h refl)
 written-refusal (Err k) h = (k, refl)
 
+-- a refusal's number, entry and place are told
+refused : (entry place : ℕ) {A : Type 0} (a : Result A Refusal) → (told_number a ≡ 0 → ⊥) → (f : Refusal) × (a ≡ Err f)
+    × (told_entry a entry ≡ place_word (told_refusal a).entry) × (told_place a place ≡ place_word (told_refusal a).place)
+refused entry place (Ok x) h = absurd (h refl)
+refused entry place (Err f) h = (f, refl, refl, refl)
+
+-- what a pointer shows after an answer
+shown : {A B : Type 0} (f : A → B → B) (old : B) {a is : A} → a ≡ is → f a old ≡ f is old
+shown f old e = ap (λ x. f x old) e
+
 module _ (old entry place : ℕ) where
-  stored-refusal : (a : Result ℕ Refusal) → (stored_number a ≡ 0 → ⊥) → (f : Refusal) × (a ≡ Err f)
-      × (stored_length a old ≡ old) × (stored_entry a entry ≡ place_word (stored_refusal a).entry) × (stored_place a place ≡ place_word (stored_refusal a).place)
-  stored-refusal (Ok n) h = absurd (h refl)
-  stored-refusal (Err f) h = (f, refl, refl, refl, refl)
-
-  stored-success : (a : Result ℕ Refusal) {n : ℕ} → a ≡ Ok n → (stored_length a old ≡ n) × (stored_entry a entry ≡ entry) × (stored_place a place ≡ place)
-  stored-success a e =
-      (ap (λ (x : Result ℕ Refusal). stored_length x old) e, ap (λ (x : Result ℕ Refusal). stored_entry x entry) e, ap (λ (x : Result ℕ Refusal). stored_place x place) e)
-
-  listed-refusal : (key : List ℕ) (old_day : ℕ) (a : Result Entry Refusal) → (listed_number a ≡ 0 → ⊥)
-      → (listed_key a key ≡ key) × (listed_length a old ≡ old) × (listed_day a old_day ≡ old_day)
-      × (listed_entry a entry ≡ place_word (listed_refusal a).entry) × (listed_place a place ≡ place_word (listed_refusal a).place)
-  listed-refusal key old_day (Ok e) h = absurd (h refl)
-  listed-refusal key old_day (Err f) h = (refl, refl, refl, refl, refl)
-
-  restored-refusal : (old_day : ℕ) (a : Result Restored Refusal) → (restored_number a ≡ 0 → ⊥) → (f : Refusal) × (a ≡ Err f)
-      × (restored_length a old ≡ old) × (restored_day a old_day ≡ old_day)
-      × (restored_entry a entry ≡ place_word (restored_refusal a).entry) × (restored_place a place ≡ place_word (restored_refusal a).place)
-  restored-refusal old_day (Ok r) h = absurd (h refl)
-  restored-refusal old_day (Err f) h = (f, refl, refl, refl, refl, refl)
-
-  reloaded-refusal : (a : Result BitCount Refusal) → (reloaded_number a ≡ 0 → ⊥) → (f : Refusal) × (a ≡ Err f) × (reloaded_length a old ≡ old)
-      × (reloaded_entry a entry ≡ place_word (reloaded_refusal a).entry) × (reloaded_place a place ≡ place_word (reloaded_refusal a).place)
-  reloaded-refusal (Ok n) h = absurd (h refl)
-  reloaded-refusal (Err f) h = (f, refl, refl, refl, refl)
-
-  decided-refusal : (d : Result Decision Refusal) → (decided_number d ≡ 0 → ⊥) → (decided_verdict d old ≡ old)
-      × (decided_entry d entry ≡ place_word (decided_refusal d).entry) × (decided_place d place ≡ place_word (decided_refusal d).place)
-  decided-refusal (Ok d) h = absurd (h refl)
-  decided-refusal (Err f) h = (refl, refl, refl)
-
   -- a decision's number is told, and entry and place are left
-  decided-success : {n : ℕ} {d : Result Decision Refusal} → decision.Verdict n d → (decided_verdict d old ≡ n) × (decided_entry d entry ≡ entry) × (decided_place d place ≡ place)
+  decided-success : {n : ℕ} {d : Result Decision Refusal} → decision.Verdict n d → (decided_verdict d old ≡ n) × (told_entry d entry ≡ entry) × (told_place d place ≡ place)
   decided-success decision.outside-group = (refl, refl, refl)
   decided-success decision.restricted-service = (refl, refl, refl)
   decided-success decision.restricted-address = (refl, refl, refl)
@@ -171,8 +149,8 @@ module _ (home : ℕ) (out : List ℕ) (old : ℕ) where
   pub empty-kept : Empty home out old
   empty-kept = record {
     table = (empty.promise).table home (length out);
-    success = λ e. let p = (empty.promise).success home out e in (p.1, (stored-success old 0 0 _ p.0).0);
-    refusal = λ h. let r = stored-refusal old 0 0 (empty_is home (length out)) h in ((empty.promise).refusal home out r.0 r.1, r.2);
+    success = λ e. let p = (empty.promise).success home out e in (p.1, shown stored_length old p.0);
+    refusal = λ h. let r = refused 0 0 (empty_is home (length out)) h in ((empty.promise).refusal home out r.0 r.1, shown stored_length old r.1);
   }
 
 module _ (b s : List ℕ) (n day : ℕ) (out : List ℕ) (old entry place : ℕ) where
@@ -181,21 +159,20 @@ module _ (b s : List ℕ) (n day : ℕ) (out : List ℕ) (old entry place : ℕ)
     table = (capture.promise).table b s n day (length out);
     success = λ e.
         let p = (capture.promise).success b s n day out e in
-        let q = stored-success old entry place _ p.0 in
-        (p.1, q.0, q.1, q.2);
+        (p.1, shown stored_length old p.0, shown told_entry entry p.0, shown told_place place p.0);
     refusal = λ h.
-        let r = stored-refusal old entry place (capture_answer b s n day out) h in
-        ((capture.promise).refusal b s n day out r.0 r.1, r.2, r.3, r.4);
+        let r = refused entry place (capture_answer b s n day out) h in
+        ((capture.promise).refusal b s n day out r.0 r.1, shown stored_length old r.1, r.2, r.3);
   }
 
 module _ (b : List ℕ) (index : ℕ) (key : List ℕ) (old old_day entry place : ℕ) where
   -- an entry is given to three words
-  given-entry : listed_number (entry_answer b index (length key)) ≡ 0 → (eqb (length key) 3 ≡ true) × (listed_number (entry_is b index) ≡ 0)
+  given-entry : told_number (entry_answer b index (length key)) ≡ 0 → (eqb (length key) 3 ≡ true) × (told_number (entry_is b index) ≡ 0)
   unfolding entry_answer
   given-entry = go (eqb (length key) 3) refl
     where
-      go : (t : Bool) → eqb (length key) 3 ≡ t → listed_number (pick t (entry_is b index) (Err (plain 9))) ≡ 0
-          → (eqb (length key) 3 ≡ true) × (listed_number (entry_is b index) ≡ 0)
+      go : (t : Bool) → eqb (length key) 3 ≡ t → told_number (pick t (entry_is b index) (Err (plain 9))) ≡ 0
+          → (eqb (length key) 3 ≡ true) × (told_number (entry_is b index) ≡ 0)
       go true f e = (f, e)
       go false f e = absurd (omega (arith, e))
 
@@ -204,9 +181,9 @@ module _ (b : List ℕ) (index : ℕ) (key : List ℕ) (old old_day entry place 
   entry_kept = record {
     table =
         subst (λ (f : Refusal). Exactly number_of f (0 ∷ 7 ∷ 11 ∷ 9 ∷ []) (call.Checked (plain 9) (length key ≡ 3) (entries.Given b index)))
-        (sym (pick-ap listed_refusal (eqb (length key) 3) (entry_is b index) (Err (plain 9))))
+        (sym (pick-ap told_refusal (eqb (length key) 3) (entry_is b index) (Err (plain 9))))
         (looked-at (eqb (length key) 3) (eqb-true (length key) 3) (eq-eqb (length key) 3) refl
-        (wider (0 ∷ 7 ∷ 11 ∷ []) (9 ∷ []) (listed_refusal (entry_is b index)).number) ((entries-kept.promise).table b index));
+        (wider (0 ∷ 7 ∷ 11 ∷ []) (9 ∷ []) (told_refusal (entry_is b index)).number) ((entries-kept.promise).table b index));
     success = λ e.
         let k = given-entry e in
         let p = (entries-kept.promise).success b index k.1 in
@@ -214,13 +191,15 @@ module _ (b : List ℕ) (index : ℕ) (key : List ℕ) (old old_day entry place 
           p.0,
           p.1,
           p.2,
-          ap (λ (x : Result Entry Refusal). listed_key x key) p.3,
-          ap (λ (x : Result Entry Refusal). listed_length x old) p.3,
-          ap (λ (x : Result Entry Refusal). listed_day x old_day) p.3,
-          ap (λ (x : Result Entry Refusal). listed_entry x entry) p.3,
-          ap (λ (x : Result Entry Refusal). listed_place x place) p.3,
+          shown listed_key key p.3,
+          shown listed_length old p.3,
+          shown listed_day old_day p.3,
+          shown told_entry entry p.3,
+          shown told_place place p.3,
         );
-    refusal = listed-refusal old entry place key old_day (entry_answer b index (length key));
+    refusal = λ h.
+        let r = refused entry place (entry_answer b index (length key)) h in
+        (shown listed_key key r.1, shown listed_length old r.1, shown listed_day old_day r.1, r.2, r.3);
   }
 
 module _ (b : List ℕ) (network ssi part : ℕ) (out : List ℕ) (old old_day entry place : ℕ) where
@@ -233,14 +212,14 @@ module _ (b : List ℕ) (network ssi part : ℕ) (out : List ℕ) (old old_day e
           p.1,
           p.2,
           p.4,
-          ap (λ (x : Result Restored Refusal). restored_length x old) p.3,
-          ap (λ (x : Result Restored Refusal). restored_day x old_day) p.3,
-          ap (λ (x : Result Restored Refusal). restored_entry x entry) p.3,
-          ap (λ (x : Result Restored Refusal). restored_place x place) p.3,
+          shown restored_length old p.3,
+          shown restored_day old_day p.3,
+          shown told_entry entry p.3,
+          shown told_place place p.3,
         );
     refusal = λ h.
-        let r = restored-refusal old entry place old_day (restore_answer b network ssi part out) h in
-        ((restore.promise).refusal b (key_of network ssi part) out r.0 r.1, r.2, r.3, r.4, r.5);
+        let r = refused entry place (restore_answer b network ssi part out) h in
+        ((restore.promise).refusal b (key_of network ssi part) out r.0 r.1, shown restored_length old r.1, shown restored_day old_day r.1, r.2, r.3);
   }
 
 module _ (t : Target) (b : List ℕ) (key : Key) (d : Definition) (out : List ℕ) (old entry place : ℕ) where
@@ -253,13 +232,13 @@ module _ (t : Target) (b : List ℕ) (key : Key) (d : Definition) (out : List �
           p.1,
           p.2,
           p.5,
-          ap (λ (x : Result BitCount Refusal). reloaded_length x old) p.4,
-          ap (λ (x : Result BitCount Refusal). reloaded_entry x entry) p.4,
-          ap (λ (x : Result BitCount Refusal). reloaded_place x place) p.4,
+          shown reloaded_length old p.4,
+          shown told_entry entry p.4,
+          shown told_place place p.4,
         );
     refusal = λ h.
-        let r = reloaded-refusal old entry place (reload_is t b key d out) h in
-        ((reload.promise).refusal t b key d out r.0 r.1, r.2, r.3, r.4);
+        let r = refused entry place (reload_is t b key d out) h in
+        ((reload.promise).refusal t b key d out r.0 r.1, shown reloaded_length old r.1, r.2, r.3);
   }
 
 module _ (b out : List ℕ) (old entry place : ℕ) where
@@ -268,17 +247,16 @@ module _ (b out : List ℕ) (old entry place : ℕ) where
     table = (listing.promise).table b (length out);
     success = λ e.
         let p = (listing.promise).success b out e in
-        let q = stored-success old entry place _ p.1 in
-        (p.0, p.2, q.0, q.1, q.2);
+        (p.0, p.2, shown stored_length old p.1, shown told_entry entry p.1, shown told_place place p.1);
     refusal = λ h.
-        let r = stored-refusal old entry place (contents_answer b out) h in
-        ((listing.promise).refusal b out r.0 r.1, r.2, r.3, r.4);
+        let r = refused entry place (contents_answer b out) h in
+        ((listing.promise).refusal b out r.0 r.1, shown stored_length old r.1, r.2, r.3);
   }
 
 -- ---- boc_decide
 
 module _ (b w : List ℕ) (old entry place : ℕ) where
-  by-nothing : decided_number (decide_is b (request_from w)) ≡ 0 → part_in b (request_from w) ≡ None → decided_verdict (decide_is b (request_from w)) old ≡ 4
+  by-nothing : told_number (decide_is b (request_from w)) ≡ 0 → part_in b (request_from w) ≡ None → decided_verdict (decide_is b (request_from w)) old ≡ 4
   unfolding decide_is
   by-nothing e h = rw h (go (eqb r 0) refl (check_is b) refl (rw h at e))
     where
@@ -286,7 +264,7 @@ module _ (b w : List ℕ) (old entry place : ℕ) where
       r = request_refusal (request_from w)
 
       go : (p : Bool) → eqb r 0 ≡ p → (c : Result (Unit {0}) Refusal) → check_is b ≡ c
-          → decided_number (pick p (if_archive c Err (Ok NotHeld)) (Err (plain r))) ≡ 0
+          → told_number (pick p (if_archive c Err (Ok NotHeld)) (Err (plain r))) ≡ 0
           → decided_verdict (pick p (if_archive c Err (Ok NotHeld)) (Err (plain r))) old ≡ 4
       go true f (Ok _) g e = refl
       go true f (Err x) g e = absurd (omega (arith, seven (((broken.promise).refuses b x).0 g), e))
@@ -297,7 +275,7 @@ module _ (b w : List ℕ) (old entry place : ℕ) where
   decide-kept = record {
     table =
         subst (λ (f : Refusal). Exactly number_of f (0 ∷ 9 ∷ 7 ∷ []) (call.Checked (plain 9) (call.OfRequest w) (decision.Given b (request_from w))))
-        (sym (pick-ap decided_refusal (is_request w) (decide_is b (request_from w)) (Err (plain 9))))
+        (sym (pick-ap told_refusal (is_request w) (decide_is b (request_from w)) (Err (plain 9))))
         (looked-at (is_request w) (request-of w) (of_request w) refl (λ x. x) ((deciding.promise).table b (request_from w)));
     success = λ e.
         let k = asked b w e in
@@ -305,5 +283,7 @@ module _ (b w : List ℕ) (old entry place : ℕ) where
         let t = decided-success old entry place v in
         rw k.0 (subst (λ (n : ℕ). decision.Verdict n (decide_is b (request_from w))) (sym t.0) v, t.1, t.2);
     not-held = λ e h. let k = asked b w e in rw k.0 (by-nothing k.1 h);
-    refusal = decided-refusal old entry place (decide_answer b w);
+    refusal = λ h.
+        let r = refused entry place (decide_answer b w) h in
+        (shown decided_verdict old r.1, r.2, r.3);
   }

@@ -23,7 +23,7 @@ use Rattle.archive.specs.Reading.{reading}
 use Rattle.archive.specs.Filing.{same_key}
 use Rattle.archive.specs.Refusals.{plain}
 use Rattle.archive.specs.Checking.{check_is, if_archive}
-use Rattle.archive.specs.Keeping.{stored_refusal, over, empty_is, empty_out, capture_out}
+use Rattle.archive.specs.Keeping.{over, empty_is, empty_out, capture_out}
 use Rattle.archive.specs.Restoring.{restore_out}
 use Rattle.archive.specs.History.{Offer, kept_of, answer_to, after, after_all, offered_for, latest, last_accepted}
 use Rattle.archive.specs.declared.contents.Key.{Key}
@@ -37,9 +37,9 @@ use Rattle.reload.specs.declared.Target.{Target}
 use Rattle.words.specs.RequestWords.{request_from}
 use Rattle.barring.specs.Decide.{key_for, part_in, judged_by, decide_is}
 use Rattle.barring.specs.Decision.{decision_of, verdict_of}
-use Rattle.boc.specs.Calls.{stored_number, stored_length, empty_number, restored_number, restored_length, restored_day, key_of, restore_answer}
-use Rattle.boc.specs.Calls.{reloaded_number, reloaded_length}
-use Rattle.boc.specs.Calls.{decided_number, decided_verdict, decide_answer}
+use Rattle.boc.specs.Calls.{told_refusal, told_number, stored_length, empty_number, restored_length, restored_day, key_of, restore_answer}
+use Rattle.boc.specs.Calls.{reloaded_length}
+use Rattle.boc.specs.Calls.{decided_verdict, decide_answer}
 use Rattle.promises.specs.Sequences.{Call, returned, gone_on, gone_on_all, last_zero, begun, Promise}
 use Rattle.promises.specs.Demand1.Decision.{Verdict, outside-group, restricted-service, restricted-address, allowed, not-held}
 use Rattle.promises.specs.Archive as archive
@@ -61,16 +61,16 @@ archives = archive-kept.promise
 -- no capture is refused with 0
 zero-taken : (b : List ℕ) (o : Offer) (f : Refusal) → answer_to b o ≡ Err f → f.number ≡ 0 → ⊥
 zero-taken b o f e z =
-    let w = ((capture.promise).success b o.pdu o.bits o.day o.lent (ap (λ (a : Result ℕ Refusal). (stored_refusal a).number) e ∙ z)).0 in
+    let w = ((capture.promise).success b o.pdu o.bits o.day o.lent (ap (λ (a : Result ℕ Refusal). (told_refusal a).number) e ∙ z)).0 in
     never cc
 
 goes : (a : Result ℕ Refusal) (b out : List ℕ) (old : ℕ) → ((f : Refusal) → a ≡ Err f → f.number ≡ 0 → ⊥)
-    → pick (eqb (stored_number a) 0) (take (stored_length a old) out) b ≡ kept_of a b out
+    → pick (eqb (told_number a) 0) (take (stored_length a old) out) b ≡ kept_of a b out
 goes (Ok n) b out old h = refl
 goes (Err f) b out old h = rw (ne_eqb f.number 0 (h f refl))
 
 counts : (a : Result ℕ Refusal) (same : Bool) (o : Offer) (last : Option Offer) → ((f : Refusal) → a ≡ Err f → f.number ≡ 0 → ⊥)
-    → pick (eqb (stored_number a) 0 && same) (Some o) last ≡ latest a same o last
+    → pick (eqb (told_number a) 0 && same) (Some o) last ≡ latest a same o last
 counts (Ok n) true o last h = refl
 counts (Ok n) false o last h = refl
 counts (Err f) same o last h = rw (ne_eqb f.number 0 (h f refl))
@@ -101,11 +101,11 @@ module _ (k : Key) where
 -- ---- restore and decide
 
 -- a request that is decided is in its range
-request-zero : (b : List ℕ) (q : Request) → decided_number (decide_is b q) ≡ 0 → request_refusal q ≡ 0
+request-zero : (b : List ℕ) (q : Request) → told_number (decide_is b q) ≡ 0 → request_refusal q ≡ 0
 unfolding decide_is
 request-zero b q = go (eqb (request_refusal q) 0) refl (if_archive (check_is b) Err (Ok (judged_by (reading b).home q (part_in b q))))
   where
-    go : (p : Bool) → eqb (request_refusal q) 0 ≡ p → (d : Result Decision Refusal) → decided_number (pick p d (Err (plain (request_refusal q)))) ≡ 0
+    go : (p : Bool) → eqb (request_refusal q) 0 ≡ p → (d : Result Decision Refusal) → told_number (pick p d (Err (plain (request_refusal q)))) ≡ 0
         → request_refusal q ≡ 0
     go true f d e = eqb-true (request_refusal q) 0 f
     go false f d e = e
@@ -118,12 +118,12 @@ verdict-is allowed = refl
 verdict-is not-held = refl
 
 -- what boc_decide tells is the number of the decision
-decision-is : (b w : List ℕ) (old : ℕ) → decided_number (decide_answer b w) ≡ 0
+decision-is : (b w : List ℕ) (old : ℕ) → told_number (decide_answer b w) ≡ 0
     → decided_verdict (decide_answer b w) old ≡ verdict_of (decide_is b (request_from w))
 decision-is b w old e = verdict-is ((decide-kept b w old 0 0).success e).0
 
 -- it is a request in its range
-in_its-range : (b w : List ℕ) → decided_number (decide_answer b w) ≡ 0 → request_refusal (request_from w) ≡ 0
+in_its-range : (b w : List ℕ) → told_number (decide_answer b w) ≡ 0 → request_refusal (request_from w) ≡ 0
 in_its-range b w e = request-zero b (request_from w) (asked b w e).1
 
 module _ (home : ℕ) (lent : List ℕ) (old : ℕ) (calls : List Call) (e : empty_number home lent ≡ 0) where
@@ -156,7 +156,7 @@ module _ (home : ℕ) (lent : List ℕ) (old : ℕ) (calls : List Call) (e : emp
   module _ (network ssi part : ℕ) (r : in_range (key_of network ssi part) ≡ true) (out : List ℕ) (bits day : ℕ) where
     abbrev Gives : ℕ → ℕ → ℕ → List ℕ → List ℕ → Type 0
     Gives k n taken left b = let answer = restore_answer b network ssi part out in
-        (restored_number answer ≡ k) × (restored_length answer bits ≡ n) × (restored_day answer day ≡ taken)
+        (told_number answer ≡ k) × (restored_length answer bits ≡ n) × (restored_day answer day ≡ taken)
         × (restore_out b (key_of network ssi part) out ≡ left)
 
     restored : (o : Offer) → last (key_of network ssi part) ≡ Some o → bytes_for o.bits ≤ length out
@@ -164,13 +164,13 @@ module _ (home : ℕ) (lent : List ℕ) (old : ℕ) (calls : List Call) (e : emp
     restored o l h =
         let p = demand3.restores_the-last home lent m written (offers calls) (key_of network ssi part) r out o (last-is (key_of network ssi part) ∙ l) h in
         subst (Gives 0 o.bits o.day (over o.pdu out)) archive-is
-        (ap restored_number p.0, ap (λ (x : Result Restored Refusal). restored_length x bits) p.0, ap (λ (x : Result Restored Refusal). restored_day x day) p.0, p.1)
+        (ap told_number p.0, ap (λ (x : Result Restored Refusal). restored_length x bits) p.0, ap (λ (x : Result Restored Refusal). restored_day x day) p.0, p.1)
 
     none-held : last (key_of network ssi part) ≡ None → Gives 11 bits day out b
     none-held l =
         let p = demand3.restores-nothing_else home lent m written (offers calls) (key_of network ssi part) r out (last-is (key_of network ssi part) ∙ l) in
         subst (Gives 11 bits day out) archive-is
-        (ap restored_number p.0, ap (λ (x : Result Restored Refusal). restored_length x bits) p.0, ap (λ (x : Result Restored Refusal). restored_day x day) p.0, p.1)
+        (ap told_number p.0, ap (λ (x : Result Restored Refusal). restored_length x bits) p.0, ap (λ (x : Result Restored Refusal). restored_day x day) p.0, p.1)
 
   module _ (t : Target) (k : Key) (d : Definition) (r : Ranged k) (a : Asked d) (out : List ℕ) where
     abbrev Answers : Result BitCount Refusal → List ℕ → List ℕ → Type 0
@@ -183,13 +183,13 @@ module _ (home : ℕ) (lent : List ℕ) (old : ℕ) (calls : List Call) (e : emp
         (demand3.reloads_the-last home lent m written (offers calls) t k ((archives.in-range k).1 r) d (asked_is d a) out o (last-is k ∙ l))
 
     none-reloaded : (bits : ℕ) → last k ≡ None
-        → (reloaded_number (reload_is t b k d out) ≡ 11) × (reloaded_length (reload_is t b k d out) bits ≡ bits) × (reload_out t b k d out ≡ out)
+        → (told_number (reload_is t b k d out) ≡ 11) × (reloaded_length (reload_is t b k d out) bits ≡ bits) × (reload_out t b k d out ≡ out)
     none-reloaded bits l =
         let p = subst (Answers _ _) archive-is
         (demand3.reloads-nothing_else home lent m written (offers calls) t k ((archives.in-range k).1 r) d (asked_is d a) out (last-is k ∙ l)) in
-        (ap reloaded_number p.0, ap (λ (x : Result BitCount Refusal). reloaded_length x bits) p.0, p.1)
+        (ap told_number p.0, ap (λ (x : Result BitCount Refusal). reloaded_length x bits) p.0, p.1)
 
-  module _ (w : List ℕ) (before : ℕ) (d : decided_number (decide_answer b w) ≡ 0) where
+  module _ (w : List ℕ) (before : ℕ) (d : told_number (decide_answer b w) ≡ 0) where
     abbrev q : Request
     q = request_from w
 

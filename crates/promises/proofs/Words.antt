@@ -11,7 +11,7 @@ use Rattle.words.specs.Places.{record_width, request_width}
 use Rattle.words.specs.RecordWords.{record_words, record_from}
 use Rattle.words.specs.RequestWords.{are_request, request_words, request_from}
 use Rattle.words.proofs.LegalWords.{legal_words, ranged_words}
-use Rattle.boc.specs.Calls.{write_number, decided_number, decide_answer}
+use Rattle.boc.specs.Calls.{write_number, told_number, decide_answer}
 use Rattle.boc.proofs.Again as again
 use Rattle.promises.specs.Words.{Promise}
 use Rattle.promises.specs.Demand1.Decision as decision
@@ -30,7 +30,7 @@ written_words w out e =
     let k = picked (eqb (length w) record_width) e (λ x. omega arith) in
     legal_words w (eqb-true (length w) record_width k.0) (writing.accepted r out 0 ((((writing.promise).table r out).exactly 0).0 k.1) refl).0
 
-decided_words : (b w : List ℕ) → decided_number (decide_answer b w) ≡ 0 → request_words (request_from w) ≡ w
+decided_words : (b w : List ℕ) → told_number (decide_answer b w) ≡ 0 → request_words (request_from w) ≡ w
 decided_words b w e =
     let q = request_from w in
     let k = asked b w e in

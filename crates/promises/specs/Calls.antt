@@ -10,26 +10,25 @@ use Rattle.reader.specs.Words.{read_words_is, read_words}
 use Rattle.writer.specs.Write.{length_of}
 use Rattle.archive.specs.Model.{Held, bytes_of}
 use Rattle.archive.specs.Refusals.{plain}
-use Rattle.archive.specs.Keeping.{stored_refusal, over, captured, empty_out, capture_out}
-use Rattle.archive.specs.Restoring.{listed_refusal, restored_refusal, restore_out}
+use Rattle.archive.specs.Keeping.{over, captured, empty_out, capture_out}
+use Rattle.archive.specs.Restoring.{restore_out}
 use Rattle.archive.specs.Listing.{list_out}
 use Rattle.archive.specs.Listing as lists
 use Rattle.archive.specs.declared.contents.Key.{Key}
 use Rattle.reload.specs.Define.{define_of}
-use Rattle.reload.specs.Reload.{record_of, reloaded_refusal, reload_is, reload_out}
+use Rattle.reload.specs.Reload.{record_of, reload_is, reload_out}
 use Rattle.reload.specs.declared.Definition.{Definition}
 use Rattle.reload.specs.declared.Target.{Target}
 use Rattle.reload.specs.declared.Target.TheVariants.{Define, DefineExternal}
 use Rattle.words.specs.RecordWords.{word, record_words, record_from}
 use Rattle.words.specs.RequestWords.{request_from}
 use Rattle.barring.specs.Decide.{part_in, decide_is}
-use Rattle.barring.specs.Decision.{decided_refusal}
-use Rattle.boc.specs.Calls.{place_word, read_number, read_place, write_number, write_out, write_bits, empty_number, empty_length}
-use Rattle.boc.specs.Calls.{stored_number, stored_length, stored_entry, stored_place, capture_answer, contents_answer}
-use Rattle.boc.specs.Calls.{listed_number, listed_key, listed_length, listed_day, listed_entry, listed_place, entry_answer}
-use Rattle.boc.specs.Calls.{restored_number, restored_length, restored_day, restored_entry, restored_place, key_of, restore_answer}
-use Rattle.boc.specs.Calls.{reloaded_number, reloaded_length, reloaded_entry, reloaded_place, definition_of}
-use Rattle.boc.specs.Calls.{decided_number, decided_verdict, decided_entry, decided_place, decide_answer}
+use Rattle.boc.specs.Calls.{told_refusal, place_word, read_number, read_place, write_number, write_out, write_bits, empty_number, empty_length}
+use Rattle.boc.specs.Calls.{told_number, stored_length, told_entry, told_place, capture_answer, contents_answer}
+use Rattle.boc.specs.Calls.{listed_key, listed_length, listed_day, entry_answer}
+use Rattle.boc.specs.Calls.{restored_length, restored_day, key_of, restore_answer}
+use Rattle.boc.specs.Calls.{reloaded_length, definition_of}
+use Rattle.boc.specs.Calls.{decided_verdict, decide_answer}
 use Rattle.promises.specs.Answers.{Exactly}
 use Rattle.promises.specs.Archive.{IsArchive, HeldFor, StandsAt}
 use Rattle.promises.specs.Broken.{number_of}
@@ -99,61 +98,61 @@ pub record Empty (home : ℕ) (out : List ℕ) (old : ℕ) : Type 0 where
 -- boc_capture
 pub record Capture (archive pdu' : List ℕ) (bits day : ℕ) (out : List ℕ) (old entry place : ℕ) : Type 0 where
   pub table : let answer = capture_answer archive pdu' bits day out in
-      Exactly number_of (stored_refusal answer) (reading.numbers ++ (9 ∷ 7 ∷ 6 ∷ 8 ∷ [])) (capture.Given archive pdu' bits day (length out))
+      Exactly number_of (told_refusal answer) (reading.numbers ++ (9 ∷ 7 ∷ 6 ∷ 8 ∷ [])) (capture.Given archive pdu' bits day (length out))
   pub success : let answer = capture_answer archive pdu' bits day out in
-      stored_number answer ≡ 0 → let b = bytes_of (captured archive pdu' bits day) in
+      told_number answer ≡ 0 → let b = bytes_of (captured archive pdu' bits day) in
       (capture_out archive pdu' bits day out ≡ over b out) × (stored_length answer old ≡ length b)
-      × (stored_entry answer entry ≡ entry) × (stored_place answer place ≡ place)
+      × (told_entry answer entry ≡ entry) × (told_place answer place ≡ place)
   pub refusal : let answer = capture_answer archive pdu' bits day out in
-      (stored_number answer ≡ 0 → ⊥) → let f = stored_refusal answer in
+      (told_number answer ≡ 0 → ⊥) → let f = told_refusal answer in
       (capture_out archive pdu' bits day out ≡ out) × (stored_length answer old ≡ old)
-      × (stored_entry answer entry ≡ place_word f.entry) × (stored_place answer place ≡ place_word f.place)
+      × (told_entry answer entry ≡ place_word f.entry) × (told_place answer place ≡ place_word f.place)
 
 -- boc_entry: 0, 9 for another count of words than 3, 7, 11
 pub record Entry (archive : List ℕ) (index : ℕ) (key : List ℕ) (old old_day entry place : ℕ) : Type 0 where
   pub table : let answer = entry_answer archive index (length key) in
-      Exactly number_of (listed_refusal answer) (0 ∷ 7 ∷ 11 ∷ 9 ∷ []) (Checked (plain 9) (length key ≡ 3) (entries.Given archive index))
+      Exactly number_of (told_refusal answer) (0 ∷ 7 ∷ 11 ∷ 9 ∷ []) (Checked (plain 9) (length key ≡ 3) (entries.Given archive index))
   -- the entry that stands there: its key, its bits and its day
   pub success : let answer = entry_answer archive index (length key) in
-      listed_number answer ≡ 0
+      told_number answer ≡ 0
       → (k : IsArchive archive) × (h : Held) × StandsAt k.archive.held index h
       × (listed_key answer key ≡ h.entry.key.network ∷ h.entry.key.ssi ∷ h.entry.key.part ∷ [])
       × (listed_length answer old ≡ h.entry.bits.0) × (listed_day answer old_day ≡ h.entry.day)
-      × (listed_entry answer entry ≡ entry) × (listed_place answer place ≡ place)
+      × (told_entry answer entry ≡ entry) × (told_place answer place ≡ place)
   pub refusal : let answer = entry_answer archive index (length key) in
-      (listed_number answer ≡ 0 → ⊥) → let f = listed_refusal answer in
+      (told_number answer ≡ 0 → ⊥) → let f = told_refusal answer in
       (listed_key answer key ≡ key) × (listed_length answer old ≡ old) × (listed_day answer old_day ≡ old_day)
-      × (listed_entry answer entry ≡ place_word f.entry) × (listed_place answer place ≡ place_word f.place)
+      × (told_entry answer entry ≡ place_word f.entry) × (told_place answer place ≡ place_word f.place)
 
 -- boc_restore
 pub record Restore (archive : List ℕ) (network ssi part : ℕ) (out : List ℕ) (old old_day entry place : ℕ) : Type 0 where
   pub table : let answer = restore_answer archive network ssi part out in
-      Exactly number_of (restored_refusal answer) (0 ∷ 9 ∷ 7 ∷ 11 ∷ 8 ∷ []) (restore.Given archive (key_of network ssi part) (length out))
+      Exactly number_of (told_refusal answer) (0 ∷ 9 ∷ 7 ∷ 11 ∷ 8 ∷ []) (restore.Given archive (key_of network ssi part) (length out))
   -- the PDU that is held for that user and part, its bits and its day
   pub success : let answer = restore_answer archive network ssi part out in
-      restored_number answer ≡ 0
+      told_number answer ≡ 0
       → (k : IsArchive archive) × (h : Held) × HeldFor k.archive.held (key_of network ssi part) h
       × (restore_out archive (key_of network ssi part) out ≡ over h.body out) × (restored_length answer old ≡ h.entry.bits.0)
       × (restored_day answer old_day ≡ h.entry.day)
-      × (restored_entry answer entry ≡ entry) × (restored_place answer place ≡ place)
+      × (told_entry answer entry ≡ entry) × (told_place answer place ≡ place)
   pub refusal : let answer = restore_answer archive network ssi part out in
-      (restored_number answer ≡ 0 → ⊥) → let f = restored_refusal answer in
+      (told_number answer ≡ 0 → ⊥) → let f = told_refusal answer in
       (restore_out archive (key_of network ssi part) out ≡ out) × (restored_length answer old ≡ old) × (restored_day answer old_day ≡ old_day)
-      × (restored_entry answer entry ≡ place_word f.entry) × (restored_place answer place ≡ place_word f.place)
+      × (told_entry answer entry ≡ place_word f.entry) × (told_place answer place ≡ place_word f.place)
 
 -- a part put back by a call: what it answers is reload_is, what it leaves reload_out
 pub record Reloads (t : Target) (archive : List ℕ) (key : Key) (d : Definition) (out : List ℕ) (old entry place : ℕ) : Type 0 where
-  pub table : Exactly number_of (reloaded_refusal (reload_is t archive key d out)) (0 ∷ 9 ∷ 7 ∷ 11 ∷ 12 ∷ 8 ∷ []) (reload.Given t archive key d (length out))
+  pub table : Exactly number_of (told_refusal (reload_is t archive key d out)) (0 ∷ 9 ∷ 7 ∷ 11 ∷ 12 ∷ 8 ∷ []) (reload.Given t archive key d (length out))
   -- the PDU that puts back the one held for that user and part, and its bits
   pub success : let answer = reload_is t archive key d out in
-      reloaded_number answer ≡ 0 → (k : IsArchive archive) × (h : Held) × HeldFor k.archive.held key h
+      told_number answer ≡ 0 → (k : IsArchive archive) × (h : Held) × HeldFor k.archive.held key h
       × (reload_out t archive key d out ≡ over (pack (pdu.print (define_of t d (record_of h)))) out)
       × (reloaded_length answer old ≡ length_of (define_of t d (record_of h)))
-      × (reloaded_entry answer entry ≡ entry) × (reloaded_place answer place ≡ place)
+      × (told_entry answer entry ≡ entry) × (told_place answer place ≡ place)
   pub refusal : let answer = reload_is t archive key d out in
-      (reloaded_number answer ≡ 0 → ⊥) → let f = reloaded_refusal answer in
+      (told_number answer ≡ 0 → ⊥) → let f = told_refusal answer in
       (reload_out t archive key d out ≡ out) × (reloaded_length answer old ≡ old)
-      × (reloaded_entry answer entry ≡ place_word f.entry) × (reloaded_place answer place ≡ place_word f.place)
+      × (told_entry answer entry ≡ place_word f.entry) × (told_place answer place ≡ place_word f.place)
 
 -- boc_reload: a DEFINE of either part
 abbrev pub Reload : List ℕ → ℕ → ℕ → ℕ → ℕ → ℕ → ℕ → List ℕ → ℕ → ℕ → ℕ → Type 0
@@ -168,27 +167,27 @@ ReloadExternal archive network ssi definition delivery acknowledgement =
 -- boc_decide and boc_decide_in_place, whose contracts are in the same words: 0, 9 for words that are no request's or a request out of its range, 7
 pub record Decide (archive words : List ℕ) (old entry place : ℕ) : Type 0 where
   pub table : let answer = decide_answer archive words in
-      Exactly number_of (decided_refusal answer) (0 ∷ 9 ∷ 7 ∷ []) (Checked (plain 9) (OfRequest words) (decision.Given archive (request_from words)))
+      Exactly number_of (told_refusal answer) (0 ∷ 9 ∷ 7 ∷ []) (Checked (plain 9) (OfRequest words) (decision.Given archive (request_from words)))
   -- 0 to 2 barred with that cause, 3 allowed, 4 not held
   pub success : let answer = decide_answer archive words in
-      decided_number answer ≡ 0 → decision.Verdict (decided_verdict answer old) (decide_is archive (request_from words))
-      × (decided_entry answer entry ≡ entry) × (decided_place answer place ≡ place)
+      told_number answer ≡ 0 → decision.Verdict (decided_verdict answer old) (decide_is archive (request_from words))
+      × (told_entry answer entry ≡ entry) × (told_place answer place ≡ place)
   -- a part that is not held gives 4 and nothing else
   pub not-held : let answer = decide_answer archive words in
-      decided_number answer ≡ 0 → part_in archive (request_from words) ≡ None → decided_verdict answer old ≡ 4
+      told_number answer ≡ 0 → part_in archive (request_from words) ≡ None → decided_verdict answer old ≡ 4
   pub refusal : let answer = decide_answer archive words in
-      (decided_number answer ≡ 0 → ⊥) → let f = decided_refusal answer in
-      (decided_verdict answer old ≡ old) × (decided_entry answer entry ≡ place_word f.entry) × (decided_place answer place ≡ place_word f.place)
+      (told_number answer ≡ 0 → ⊥) → let f = told_refusal answer in
+      (decided_verdict answer old ≡ old) × (told_entry answer entry ≡ place_word f.entry) × (told_place answer place ≡ place_word f.place)
 
 -- boc_contents
 pub record Contents (archive out : List ℕ) (old entry place : ℕ) : Type 0 where
   pub table : let answer = contents_answer archive out in
-      Exactly number_of (stored_refusal answer) (0 ∷ 7 ∷ 8 ∷ []) (listing.Given archive (length out))
+      Exactly number_of (told_refusal answer) (0 ∷ 7 ∷ 8 ∷ []) (listing.Given archive (length out))
   pub success : let answer = contents_answer archive out in
-      stored_number answer ≡ 0 → (k : IsArchive archive)
+      told_number answer ≡ 0 → (k : IsArchive archive)
       × (list_out archive out ≡ over (lists.listing k.archive) out) × (stored_length answer old ≡ length (lists.listing k.archive))
-      × (stored_entry answer entry ≡ entry) × (stored_place answer place ≡ place)
+      × (told_entry answer entry ≡ entry) × (told_place answer place ≡ place)
   pub refusal : let answer = contents_answer archive out in
-      (stored_number answer ≡ 0 → ⊥) → let f = stored_refusal answer in
+      (told_number answer ≡ 0 → ⊥) → let f = told_refusal answer in
       (list_out archive out ≡ out) × (stored_length answer old ≡ old)
-      × (stored_entry answer entry ≡ place_word f.entry) × (stored_place answer place ≡ place_word f.place)
+      × (told_entry answer entry ≡ place_word f.entry) × (told_place answer place ≡ place_word f.place)

@@ -1,7 +1,6 @@
 -- Each number that a call for C can return is met, and the decisions of profile A, as antt computes them.
 use Rattle.std.specs.Prelude.{◌≡◌, refl, List, [], ◌∷◌, ◌++◌, ℕ, take, drop, replicate, Result}
 use Rattle.bits.specs.Bits.{bits}
-use Rattle.bits.specs.declared.BitCount.{BitCount}
 use Rattle.bits.specs.Frame.{framed}
 use Rattle.grammar.specs.Grammar.{grammar}
 use Rattle.grammar.specs.ProfileRecords.{asking}
@@ -16,21 +15,18 @@ use Rattle.archive.specs.Restoring.{held_nth, entry_is, restore_is}
 use Rattle.archive.specs.Listing.{two_items, first_line, lines, listing, list_is}
 use Rattle.archive.specs.declared.refusal.Refusal.{Refusal}
 use Rattle.text.specs.Decimal.{digits, decimal, item}
-use Rattle.archive.specs.declared.Restored.{Restored}
 use Rattle.archive.specs.Examples.{calls, profile_a, bytes_a}
 use Rattle.words.specs.RecordWords.{record_words, records}
 use Rattle.words.specs.RequestWords as request
 use Rattle.barring.specs.Decide.{part_for, decide_is}
-use Rattle.barring.specs.declared.Decision.{Decision}
 use Rattle.boc.specs.Calls.{nowhere, read_number, read_place, write_number, write_bits, empty_number, empty_length}
-use Rattle.boc.specs.Calls.{stored_number, stored_length, stored_entry, stored_place, capture_answer, contents_answer}
+use Rattle.boc.specs.Calls.{told_number, stored_length, told_entry, told_place, capture_answer, contents_answer}
 use Rattle.reload.specs.Define.{is_definition, define_of, stands_in}
 use Rattle.reload.specs.Reload.{reload_is}
-use Rattle.boc.specs.Calls.{listed_number, listed_key, listed_length, listed_day, listed_entry, listed_place, entry_answer}
-use Rattle.boc.specs.Calls.{restored_number, restored_length, restored_day, restored_entry, restored_place, restore_answer}
-use Rattle.boc.specs.Calls.{reloaded_number, reloaded_length, reloaded_entry, reloaded_place, reload_answer, external_answer}
-use Rattle.boc.specs.Calls.{decided_number, decided_verdict, decided_entry, decided_place, decide_answer}
-use Rattle.archive.specs.declared.contents.Entry.{Entry}
+use Rattle.boc.specs.Calls.{listed_key, listed_length, listed_day, entry_answer}
+use Rattle.boc.specs.Calls.{restored_length, restored_day, restore_answer}
+use Rattle.boc.specs.Calls.{reloaded_length, reload_answer, external_answer}
+use Rattle.boc.specs.Calls.{decided_verdict, decide_answer}
 
 -- the PDU of an INTERROGATE, one for the users 200 to 199, and so many zeros: 5 of them are an archive that holds nothing
 abbrev asked : List ℕ
@@ -78,20 +74,8 @@ unfolding calls
 empty-length = refl
 
 -- number, entry and place of what boc_capture, boc_entry, boc_restore, boc_reload, boc_reload_external, boc_contents and boc_decide answer; a success leaves 77
-abbrev stored : Result ℕ Refusal → List ℕ
-stored a = stored_number a ∷ stored_entry a 77 ∷ stored_place a 77 ∷ []
-
-abbrev listed : Result Entry Refusal → List ℕ
-listed a = listed_number a ∷ listed_entry a 77 ∷ listed_place a 77 ∷ []
-
-abbrev restored : Result Restored Refusal → List ℕ
-restored a = restored_number a ∷ restored_entry a 77 ∷ restored_place a 77 ∷ []
-
-abbrev reloaded : Result BitCount Refusal → List ℕ
-reloaded a = reloaded_number a ∷ reloaded_entry a 77 ∷ reloaded_place a 77 ∷ []
-
-abbrev decided : Result Decision Refusal → List ℕ
-decided d = decided_number d ∷ decided_entry d 77 ∷ decided_place d 77 ∷ []
+abbrev told : {A : Type 0} → Result A Refusal → List ℕ
+told a = told_number a ∷ told_entry a 77 ∷ told_place a 77 ∷ []
 
 -- profile A's archive with a bit of A's PDU type flipped, which is then 4, and with the entry of another user
 abbrev damaged_a : List ℕ
@@ -100,19 +84,19 @@ damaged_a = take 16 bytes_a ++ (0x48 ∷ drop 17 bytes_a)
 abbrev another_a : List ℕ
 another_a = take 10 bytes_a ++ (0x06 ∷ drop 11 bytes_a)
 
-capture-met : (stored (capture_answer (lent 5) profile_a 138 300 (lent 34)) ≡ 0 ∷ 77 ∷ 77 ∷ [])
-    × (stored (capture_answer [] [] 0 65536 []) ≡ 9 ∷ nowhere ∷ nowhere ∷ [])
-    × (stored (capture_answer [] [] 0 300 []) ≡ 7 ∷ nowhere ∷ nowhere ∷ [])
-    × (stored (capture_answer damaged_a [] 0 300 []) ≡ 7 ∷ 0 ∷ 6 ∷ [])
-    × (stored (capture_answer another_a [] 0 300 []) ≡ 7 ∷ 0 ∷ nowhere ∷ [])
-    × (stored (capture_answer (lent 5) [] 1 300 []) ≡ 1 ∷ nowhere ∷ nowhere ∷ [])
-    × (stored (capture_answer (lent 5) [] 0 300 []) ≡ 2 ∷ nowhere ∷ 0 ∷ [])
-    × (stored (capture_answer (lent 5) (0x00 ∷ []) 6 300 []) ≡ 3 ∷ nowhere ∷ 0 ∷ [])
-    × (stored (capture_answer (lent 5) reversed 65 300 []) ≡ 4 ∷ nowhere ∷ 40 ∷ [])
-    × (stored (capture_answer (lent 5) asked 43 300 []) ≡ 5 ∷ nowhere ∷ 42 ∷ [])
-    × (stored (capture_answer (lent 5) (0x48 ∷ 0x80 ∷ []) 11 300 []) ≡ 3 ∷ nowhere ∷ 6 ∷ [])
-    × (stored (capture_answer (lent 5) asked 42 300 []) ≡ 6 ∷ nowhere ∷ nowhere ∷ [])
-    × (stored (capture_answer (lent 5) profile_a 138 300 (lent 33)) ≡ 8 ∷ nowhere ∷ nowhere ∷ [])
+capture-met : (told (capture_answer (lent 5) profile_a 138 300 (lent 34)) ≡ 0 ∷ 77 ∷ 77 ∷ [])
+    × (told (capture_answer [] [] 0 65536 []) ≡ 9 ∷ nowhere ∷ nowhere ∷ [])
+    × (told (capture_answer [] [] 0 300 []) ≡ 7 ∷ nowhere ∷ nowhere ∷ [])
+    × (told (capture_answer damaged_a [] 0 300 []) ≡ 7 ∷ 0 ∷ 6 ∷ [])
+    × (told (capture_answer another_a [] 0 300 []) ≡ 7 ∷ 0 ∷ nowhere ∷ [])
+    × (told (capture_answer (lent 5) [] 1 300 []) ≡ 1 ∷ nowhere ∷ nowhere ∷ [])
+    × (told (capture_answer (lent 5) [] 0 300 []) ≡ 2 ∷ nowhere ∷ 0 ∷ [])
+    × (told (capture_answer (lent 5) (0x00 ∷ []) 6 300 []) ≡ 3 ∷ nowhere ∷ 0 ∷ [])
+    × (told (capture_answer (lent 5) reversed 65 300 []) ≡ 4 ∷ nowhere ∷ 40 ∷ [])
+    × (told (capture_answer (lent 5) asked 43 300 []) ≡ 5 ∷ nowhere ∷ 42 ∷ [])
+    × (told (capture_answer (lent 5) (0x48 ∷ 0x80 ∷ []) 11 300 []) ≡ 3 ∷ nowhere ∷ 6 ∷ [])
+    × (told (capture_answer (lent 5) asked 42 300 []) ≡ 6 ∷ nowhere ∷ nowhere ∷ [])
+    × (told (capture_answer (lent 5) profile_a 138 300 (lent 33)) ≡ 8 ∷ nowhere ∷ nowhere ∷ [])
 unfolding calls body_agrees filing_of
 capture-met = (refl, refl, refl, refl, refl, refl, refl, refl, refl, refl, refl, refl, refl)
 
@@ -121,11 +105,11 @@ capture-length : stored_length (capture_answer (lent 5) profile_a 138 300 (lent 
 unfolding calls
 capture-length = refl
 
-entry-met : (listed (entry_answer bytes_a 0 3) ≡ 0 ∷ 77 ∷ 77 ∷ [])
-    × (listed (entry_answer [] 1 4) ≡ 9 ∷ nowhere ∷ nowhere ∷ [])
-    × (listed (entry_answer [] 1 3) ≡ 7 ∷ nowhere ∷ nowhere ∷ [])
-    × (listed (entry_answer damaged_a 1 3) ≡ 7 ∷ 0 ∷ 6 ∷ [])
-    × (listed (entry_answer bytes_a 1 3) ≡ 11 ∷ nowhere ∷ nowhere ∷ [])
+entry-met : (told (entry_answer bytes_a 0 3) ≡ 0 ∷ 77 ∷ 77 ∷ [])
+    × (told (entry_answer [] 1 4) ≡ 9 ∷ nowhere ∷ nowhere ∷ [])
+    × (told (entry_answer [] 1 3) ≡ 7 ∷ nowhere ∷ nowhere ∷ [])
+    × (told (entry_answer damaged_a 1 3) ≡ 7 ∷ 0 ∷ 6 ∷ [])
+    × (told (entry_answer bytes_a 1 3) ≡ 11 ∷ nowhere ∷ nowhere ∷ [])
 unfolding calls body_agrees filing_of entry_is held_nth entry_answer
 entry-met = (refl, refl, refl, refl, refl)
 
@@ -136,12 +120,12 @@ entry-told : let a = entry_answer bytes_a 0 3 in let none = entry_answer bytes_a
 unfolding calls body_agrees filing_of entry_is held_nth entry_answer
 entry-told = (refl, refl, refl, refl)
 
-restore-met : (restored (restore_answer bytes_a 1 5 1 (lent 18)) ≡ 0 ∷ 77 ∷ 77 ∷ [])
-    × (restored (restore_answer bytes_a 1 5 3 (lent 18)) ≡ 9 ∷ nowhere ∷ nowhere ∷ [])
-    × (restored (restore_answer [] 1 5 1 (lent 18)) ≡ 7 ∷ nowhere ∷ nowhere ∷ [])
-    × (restored (restore_answer damaged_a 1 5 1 (lent 18)) ≡ 7 ∷ 0 ∷ 6 ∷ [])
-    × (restored (restore_answer bytes_a 1 5 2 (lent 18)) ≡ 11 ∷ nowhere ∷ nowhere ∷ [])
-    × (restored (restore_answer bytes_a 1 5 1 (lent 17)) ≡ 8 ∷ nowhere ∷ nowhere ∷ [])
+restore-met : (told (restore_answer bytes_a 1 5 1 (lent 18)) ≡ 0 ∷ 77 ∷ 77 ∷ [])
+    × (told (restore_answer bytes_a 1 5 3 (lent 18)) ≡ 9 ∷ nowhere ∷ nowhere ∷ [])
+    × (told (restore_answer [] 1 5 1 (lent 18)) ≡ 7 ∷ nowhere ∷ nowhere ∷ [])
+    × (told (restore_answer damaged_a 1 5 1 (lent 18)) ≡ 7 ∷ 0 ∷ 6 ∷ [])
+    × (told (restore_answer bytes_a 1 5 2 (lent 18)) ≡ 11 ∷ nowhere ∷ nowhere ∷ [])
+    × (told (restore_answer bytes_a 1 5 1 (lent 17)) ≡ 8 ∷ nowhere ∷ nowhere ∷ [])
 unfolding calls body_agrees filing_of restore_is in_range
 restore-met = (refl, refl, refl, refl, refl, refl)
 
@@ -154,15 +138,15 @@ unfolding calls body_agrees filing_of restore_is in_range
 restore-day = refl
 
 -- 9: part 3, a reserved definition type, an acknowledgement without delivery; 12: profile A's lists under removal
-reload-met : (reloaded (reload_answer bytes_a 1 5 1 1 1 1 (lent 18)) ≡ 0 ∷ 77 ∷ 77 ∷ [])
-    × (reloaded (reload_answer bytes_a 1 5 3 1 1 1 (lent 18)) ≡ 9 ∷ nowhere ∷ nowhere ∷ [])
-    × (reloaded (reload_answer bytes_a 1 5 1 3 1 1 (lent 18)) ≡ 9 ∷ nowhere ∷ nowhere ∷ [])
-    × (reloaded (reload_answer bytes_a 1 5 1 1 0 1 (lent 18)) ≡ 9 ∷ nowhere ∷ nowhere ∷ [])
-    × (reloaded (reload_answer [] 1 5 1 1 1 1 (lent 18)) ≡ 7 ∷ nowhere ∷ nowhere ∷ [])
-    × (reloaded (reload_answer damaged_a 1 5 1 1 1 1 (lent 18)) ≡ 7 ∷ 0 ∷ 6 ∷ [])
-    × (reloaded (reload_answer bytes_a 1 5 2 1 1 1 (lent 18)) ≡ 11 ∷ nowhere ∷ nowhere ∷ [])
-    × (reloaded (reload_answer bytes_a 1 5 1 2 1 1 (lent 18)) ≡ 12 ∷ nowhere ∷ nowhere ∷ [])
-    × (reloaded (reload_answer bytes_a 1 5 1 1 1 1 (lent 17)) ≡ 8 ∷ nowhere ∷ nowhere ∷ [])
+reload-met : (told (reload_answer bytes_a 1 5 1 1 1 1 (lent 18)) ≡ 0 ∷ 77 ∷ 77 ∷ [])
+    × (told (reload_answer bytes_a 1 5 3 1 1 1 (lent 18)) ≡ 9 ∷ nowhere ∷ nowhere ∷ [])
+    × (told (reload_answer bytes_a 1 5 1 3 1 1 (lent 18)) ≡ 9 ∷ nowhere ∷ nowhere ∷ [])
+    × (told (reload_answer bytes_a 1 5 1 1 0 1 (lent 18)) ≡ 9 ∷ nowhere ∷ nowhere ∷ [])
+    × (told (reload_answer [] 1 5 1 1 1 1 (lent 18)) ≡ 7 ∷ nowhere ∷ nowhere ∷ [])
+    × (told (reload_answer damaged_a 1 5 1 1 1 1 (lent 18)) ≡ 7 ∷ 0 ∷ 6 ∷ [])
+    × (told (reload_answer bytes_a 1 5 2 1 1 1 (lent 18)) ≡ 11 ∷ nowhere ∷ nowhere ∷ [])
+    × (told (reload_answer bytes_a 1 5 1 2 1 1 (lent 18)) ≡ 12 ∷ nowhere ∷ nowhere ∷ [])
+    × (told (reload_answer bytes_a 1 5 1 1 1 1 (lent 17)) ≡ 8 ∷ nowhere ∷ nowhere ∷ [])
 unfolding calls body_agrees filing_of in_range write_is write_refusal record_refusal is_definition define_of stands_in reload_is
 reload-met = (refl, refl, refl, refl, refl, refl, refl, refl, refl)
 
@@ -178,15 +162,15 @@ numbered =
     ∷ 0x49 ∷ 0x82 ∷ 0x00 ∷ 0x00 ∷ 0x0a ∷ 0x41 ∷ 0x20 ∷ 0x23 ∷ 0x11 ∷ 0x20 ∷ []
 
 -- 9: a network, a reserved definition type, an acknowledgement without delivery; 11: an identity part alone; 12: the number under removal
-external-met : (reloaded (external_answer numbered 1 5 1 1 1 (lent 10)) ≡ 0 ∷ 77 ∷ 77 ∷ [])
-    × (reloaded (external_answer numbered 16777216 5 1 1 1 (lent 10)) ≡ 9 ∷ nowhere ∷ nowhere ∷ [])
-    × (reloaded (external_answer numbered 1 5 3 1 1 (lent 10)) ≡ 9 ∷ nowhere ∷ nowhere ∷ [])
-    × (reloaded (external_answer numbered 1 5 1 0 1 (lent 10)) ≡ 9 ∷ nowhere ∷ nowhere ∷ [])
-    × (reloaded (external_answer [] 1 5 1 1 1 (lent 10)) ≡ 7 ∷ nowhere ∷ nowhere ∷ [])
-    × (reloaded (external_answer damaged_a 1 5 1 1 1 (lent 10)) ≡ 7 ∷ 0 ∷ 6 ∷ [])
-    × (reloaded (external_answer bytes_a 1 5 1 1 1 (lent 10)) ≡ 11 ∷ nowhere ∷ nowhere ∷ [])
-    × (reloaded (external_answer numbered 1 5 2 1 1 (lent 10)) ≡ 12 ∷ nowhere ∷ nowhere ∷ [])
-    × (reloaded (external_answer numbered 1 5 1 1 1 (lent 9)) ≡ 8 ∷ nowhere ∷ nowhere ∷ [])
+external-met : (told (external_answer numbered 1 5 1 1 1 (lent 10)) ≡ 0 ∷ 77 ∷ 77 ∷ [])
+    × (told (external_answer numbered 16777216 5 1 1 1 (lent 10)) ≡ 9 ∷ nowhere ∷ nowhere ∷ [])
+    × (told (external_answer numbered 1 5 3 1 1 (lent 10)) ≡ 9 ∷ nowhere ∷ nowhere ∷ [])
+    × (told (external_answer numbered 1 5 1 0 1 (lent 10)) ≡ 9 ∷ nowhere ∷ nowhere ∷ [])
+    × (told (external_answer [] 1 5 1 1 1 (lent 10)) ≡ 7 ∷ nowhere ∷ nowhere ∷ [])
+    × (told (external_answer damaged_a 1 5 1 1 1 (lent 10)) ≡ 7 ∷ 0 ∷ 6 ∷ [])
+    × (told (external_answer bytes_a 1 5 1 1 1 (lent 10)) ≡ 11 ∷ nowhere ∷ nowhere ∷ [])
+    × (told (external_answer numbered 1 5 2 1 1 (lent 10)) ≡ 12 ∷ nowhere ∷ nowhere ∷ [])
+    × (told (external_answer numbered 1 5 1 1 1 (lent 9)) ≡ 8 ∷ nowhere ∷ nowhere ∷ [])
 unfolding calls body_agrees filing_of in_range write_is write_refusal record_refusal is_definition define_of stands_in reload_is
 external-met = (refl, refl, refl, refl, refl, refl, refl, refl, refl)
 
@@ -203,12 +187,12 @@ abbrev to112 : List ℕ
 to112 = 1 ∷ 5 ∷ 1 ∷ 2 ∷ 0 ∷ 0 ∷ 3 ∷ 1 ∷ 1 ∷ 2 ∷ lent 24
 
 -- 9: an SSI out of its range, 33 words, a kind of destination that is none
-decide-met : (decided (decide_answer bytes_a (to 100)) ≡ 0 ∷ 77 ∷ 77 ∷ [])
-    × (decided (decide_answer bytes_a (to 16777216)) ≡ 9 ∷ nowhere ∷ nowhere ∷ [])
-    × (decided (decide_answer bytes_a (1 ∷ 5 ∷ 1 ∷ 1 ∷ 1 ∷ 100 ∷ lent 27)) ≡ 9 ∷ nowhere ∷ nowhere ∷ [])
-    × (decided (decide_answer bytes_a (1 ∷ 5 ∷ 1 ∷ 3 ∷ 1 ∷ 100 ∷ lent 28)) ≡ 9 ∷ nowhere ∷ nowhere ∷ [])
-    × (decided (decide_answer [] (to 100)) ≡ 7 ∷ nowhere ∷ nowhere ∷ [])
-    × (decided (decide_answer another_a (to 100)) ≡ 7 ∷ 0 ∷ nowhere ∷ [])
+decide-met : (told (decide_answer bytes_a (to 100)) ≡ 0 ∷ 77 ∷ 77 ∷ [])
+    × (told (decide_answer bytes_a (to 16777216)) ≡ 9 ∷ nowhere ∷ nowhere ∷ [])
+    × (told (decide_answer bytes_a (1 ∷ 5 ∷ 1 ∷ 1 ∷ 1 ∷ 100 ∷ lent 27)) ≡ 9 ∷ nowhere ∷ nowhere ∷ [])
+    × (told (decide_answer bytes_a (1 ∷ 5 ∷ 1 ∷ 3 ∷ 1 ∷ 100 ∷ lent 28)) ≡ 9 ∷ nowhere ∷ nowhere ∷ [])
+    × (told (decide_answer [] (to 100)) ≡ 7 ∷ nowhere ∷ nowhere ∷ [])
+    × (told (decide_answer another_a (to 100)) ≡ 7 ∷ 0 ∷ nowhere ∷ [])
 unfolding calls body_agrees filing_of requests rules request.requests part_for decide_is decide_answer
 decide-met = (refl, refl, refl, refl, refl, refl)
 
@@ -218,10 +202,10 @@ decide_decision : decided_verdict (decide_answer bytes_a (to 100)) 77 ∷ decide
 unfolding calls body_agrees filing_of requests rules request.requests part_for decide_is decide_answer
 decide_decision = refl
 
-contents-met : (stored (contents_answer (lent 5) (lent 17)) ≡ 0 ∷ 77 ∷ 77 ∷ [])
-    × (stored (contents_answer [] (lent 17)) ≡ 7 ∷ nowhere ∷ nowhere ∷ [])
-    × (stored (contents_answer damaged_a (lent 17)) ≡ 7 ∷ 0 ∷ 6 ∷ [])
-    × (stored (contents_answer (lent 5) (lent 16)) ≡ 8 ∷ nowhere ∷ nowhere ∷ [])
+contents-met : (told (contents_answer (lent 5) (lent 17)) ≡ 0 ∷ 77 ∷ 77 ∷ [])
+    × (told (contents_answer [] (lent 17)) ≡ 7 ∷ nowhere ∷ nowhere ∷ [])
+    × (told (contents_answer damaged_a (lent 17)) ≡ 7 ∷ 0 ∷ 6 ∷ [])
+    × (told (contents_answer (lent 5) (lent 16)) ≡ 8 ∷ nowhere ∷ nowhere ∷ [])
 unfolding calls body_agrees filing_of list_is listing two_items first_line lines item decimal digits
 contents-met = (refl, refl, refl, refl)
 

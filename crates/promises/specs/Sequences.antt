@@ -18,9 +18,9 @@ use Rattle.reload.specs.declared.Target.{Target}
 use Rattle.words.specs.RequestWords.{request_from}
 use Rattle.barring.specs.Decide.{key_for}
 use Rattle.barring.specs.Decision.{decision_of, verdict_of}
-use Rattle.boc.specs.Calls.{empty_number, empty_length, stored_number, stored_length, capture_answer}
-use Rattle.boc.specs.Calls.{restored_number, restored_length, restored_day, key_of, restore_answer, reloaded_number, reloaded_length}
-use Rattle.boc.specs.Calls.{decided_number, decided_verdict, decide_answer}
+use Rattle.boc.specs.Calls.{empty_number, empty_length, told_number, stored_length, capture_answer}
+use Rattle.boc.specs.Calls.{restored_length, restored_day, key_of, restore_answer, reloaded_length}
+use Rattle.boc.specs.Calls.{decided_verdict, decide_answer}
 use Rattle.promises.specs.Archive.{Ranged}
 use Rattle.promises.specs.Demand1.Reload.{Asked}
 
@@ -31,7 +31,7 @@ pub record Call : Type 0 where
 
 -- what it returns
 abbrev pub returned : List ℕ → Call → ℕ
-returned b c = stored_number (capture_answer b c.offer.pdu c.offer.bits c.offer.day c.offer.lent)
+returned b c = told_number (capture_answer b c.offer.pdu c.offer.bits c.offer.day c.offer.lent)
 
 -- after 0 one goes on with the first bytes of the buffer, as many as the pointer says; after any other number with the old archive
 unfoldable pub gone_on : List ℕ → Call → List ℕ
@@ -60,7 +60,7 @@ pub record Promise (home : ℕ) (lent : List ℕ) (old : ℕ) (calls : List Call
   pub restores_the-last : empty_number home lent ≡ 0 → let b = gone_on_all (begun home lent old) calls in
       (network ssi part : ℕ) → network < 16777216 → ssi < 16777216 → 1 ≤ part → part ≤ 2 → (out : List ℕ) (bits day : ℕ)
       → (o : Offer) → last_zero (key_of network ssi part) (begun home lent old) None calls ≡ Some o → bytes_for o.bits ≤ length out
-      → let answer = restore_answer b network ssi part out in (restored_number answer ≡ 0) × (restored_length answer bits ≡ o.bits)
+      → let answer = restore_answer b network ssi part out in (told_number answer ≡ 0) × (restored_length answer bits ≡ o.bits)
       × (restored_day answer day ≡ o.day)
       × (restore_out b (key_of network ssi part) out ≡ over o.pdu out)
   -- or 11, and changes nothing.
@@ -68,7 +68,7 @@ pub record Promise (home : ℕ) (lent : List ℕ) (old : ℕ) (calls : List Call
       (network ssi part : ℕ) → network < 16777216 → ssi < 16777216 → 1 ≤ part → part ≤ 2 → (out : List ℕ) (bits day : ℕ)
       → last_zero (key_of network ssi part) (begun home lent old) None calls ≡ None
       → let answer = restore_answer b network ssi part out in
-      (restored_number answer ≡ 11) × (restored_length answer bits ≡ bits) × (restored_day answer day ≡ day)
+      (told_number answer ≡ 11) × (restored_length answer bits ≡ bits) × (restored_day answer day ≡ day)
       × (restore_out b (key_of network ssi part) out ≡ out)
   -- boc_reload and boc_reload_external answer by the record of that same PDU, and leave the DEFINE or DEFINE EXTERNAL that puts it back,
   pub reloads_the-last : empty_number home lent ≡ 0 → let b = gone_on_all (begun home lent old) calls in
@@ -80,14 +80,14 @@ pub record Promise (home : ℕ) (lent : List ℕ) (old : ℕ) (calls : List Call
   pub reloads-nothing_else : empty_number home lent ≡ 0 → let b = gone_on_all (begun home lent old) calls in
       (t : Target) (k : Key) (d : Definition) → Ranged k → Asked d → (out : List ℕ) (bits : ℕ) → last_zero k (begun home lent old) None calls ≡ None
       → let answer = reload_is t b k d out in
-      (reloaded_number answer ≡ 11) × (reloaded_length answer bits ≡ bits) × (reload_out t b k d out ≡ out)
+      (told_number answer ≡ 11) × (reloaded_length answer bits ≡ bits) × (reload_out t b k d out ≡ out)
   -- Where boc_decide returns 0, the decision is the number of what the barring rule says by the record of that same PDU,
   pub decides-by_the-last : empty_number home lent ≡ 0 → let b = gone_on_all (begun home lent old) calls in
-      (words : List ℕ) (before : ℕ) → decided_number (decide_answer b words) ≡ 0 → let q = request_from words in
+      (words : List ℕ) (before : ℕ) → told_number (decide_answer b words) ≡ 0 → let q = request_from words in
       (o : Offer) → last_zero (key_for q) (begun home lent old) None calls ≡ Some o
       → decided_verdict (decide_answer b words) before ≡ verdict_of (Ok (decision_of (ruling home (found_in (read_is o.pdu o.bits)) q)))
   -- or 4, and nothing else.
   pub decides-by-nothing_else : empty_number home lent ≡ 0 → let b = gone_on_all (begun home lent old) calls in
-      (words : List ℕ) (before : ℕ) → decided_number (decide_answer b words) ≡ 0 → let q = request_from words in
+      (words : List ℕ) (before : ℕ) → told_number (decide_answer b words) ≡ 0 → let q = request_from words in
       last_zero (key_for q) (begun home lent old) None calls ≡ None
       → decided_verdict (decide_answer b words) before ≡ 4

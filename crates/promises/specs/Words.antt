@@ -9,7 +9,7 @@ use Rattle.words.specs.RequestWords.{are_request, request_words, request_from}
 use Rattle.words.specs.Sized.{SizedRecord, SizedRequest}
 use Rattle.words.proofs.RecordInverse as records
 use Rattle.words.proofs.RequestInverse as requests
-use Rattle.boc.specs.Calls.{read_number, write_number, write_out, write_bits, decided_number, decide_answer}
+use Rattle.boc.specs.Calls.{read_number, write_number, write_out, write_bits, told_number, decide_answer}
 use Rattle.reader.specs.Words.{read_words}
 
 -- ---- records
@@ -45,4 +45,4 @@ pub record Promise : Type 0 where
   -- Words that boc_write accepts are exactly the words of the record that it writes,
   pub written_words : (w out : List ℕ) → write_number w out ≡ 0 → record_words (record_from w) ≡ w
   -- and those on which boc_decide decides are exactly the words of its request: no length or digit among them is wider than a byte.
-  pub decided_words : (b w : List ℕ) → decided_number (decide_answer b w) ≡ 0 → request_words (request_from w) ≡ w
+  pub decided_words : (b w : List ℕ) → told_number (decide_answer b w) ≡ 0 → request_words (request_from w) ≡ w

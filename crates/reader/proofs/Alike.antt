@@ -1,21 +1,22 @@
 -- Identities are stored alike in each kind of list: their range type was tested already. Assumes nothing.
 use mathlib.Core.Path.{◌≡◌, refl, sym, ◌∙◌}
-use mathlib.Core.Bool.{Bool}
+use mathlib.Core.Bool.{Bool, true, false}
 use mathlib.Core.List.{List}
 use Prim.Native.Nat.{ℕ, ◌+◌}
 use Rattle.std.specs.Prelude.{Option, Some, None}
+use Rattle.bits.specs.Bits.{pick}
 use Rattle.codec.specs.Parts.{number, element}
 use Rattle.codec.specs.Reading.{got, unless_at, read_at}
 use Rattle.codec.proofs.Reading.{read_at-tested}
 use Rattle.grammar.specs.SiteSheet.{range_type, refusal_in, range_refusal}
-use Rattle.grammar.specs.Grammar.{identities}
+use Rattle.grammar.specs.Grammar.{identities, no_identities}
 use Rattle.grammar.specs.declared.record.Identities.{Identities}
 use Rattle.grammar.specs.declared.site.ListKind.{ListKind}
 use Rattle.grammar.specs.declared.site.ListKind.TheVariants as of
 use Rattle.grammar.specs.declared.site.RangeType.{RangeType}
 use Rattle.grammar.specs.declared.site.RangeType.TheVariants.{Empty, Single, FirstAndLast}
 use Rattle.grammar.proofs.Steps.{identities-at}
-use Rattle.reader.specs.Inner.{Reads, Fills}
+use Rattle.reader.specs.Inner.{Read, Reads}
 use Rattle.reader.proofs.Elements.{steps, passed}
 
 in-identities : (j : ListKind) (t : Option RangeType) → refusal_in j t ≡ 0 → refusal_in of.Identities t ≡ 0
@@ -44,6 +45,16 @@ module _ {s : List Bool} {at : ℕ} (j : ListKind) (r : Reads (identities j) s a
   pub reads-alike : Reads (identities of.Identities) s at
   reads-alike = record { value = r.value; end = r.end; read = record { same = sym alike ∙ r.read.same } }
 
-  pub fill-alike : {f : Identities → List ℕ} {n to end : ℕ} {w w' : List ℕ} → Fills (identities of.Identities) f n s at w to w' end
-      → Fills (identities j) f n s at w to w' end
-  fill-alike p = record { value = p.value; read = record { same = alike ∙ p.read.same }; put = p.put }
+  pub read-alike : {v : Identities} {end : ℕ} → Read (identities of.Identities) s at v end → Read (identities j) s at v end
+  read-alike e = record { same = alike ∙ e.same }
+
+-- where the list is carried or not
+module _ {s : List Bool} {at : ℕ} (j : ListKind) where
+  pub carried_reads : (t : Bool) → Reads (pick t (identities j) no_identities) s at → Reads (pick t (identities of.Identities) no_identities) s at
+  carried_reads true r = reads-alike j r
+  carried_reads false r = r
+
+  pub carried_read : {v : Identities} {end : ℕ} (t : Bool) → Reads (pick t (identities j) no_identities) s at
+      → Read (pick t (identities of.Identities) no_identities) s at v end → Read (pick t (identities j) no_identities) s at v end
+  carried_read true r e = read-alike j r e
+  carried_read false r e = e

@@ -1,7 +1,8 @@
 pub mod Elements
-pub mod Entries
-pub mod Alike
-pub mod Parts
-pub mod Rows
 pub mod Runs
 pub mod Walked
+pub mod Alike
+pub mod Entries
+pub mod Parts
+pub mod Groups
+pub mod Rows

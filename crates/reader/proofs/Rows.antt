@@ -1,5 +1,5 @@
 -- What follows the PDU type, by the row of its type: where each part is read, and the words of all of them. Assumes nothing.
-use mathlib.Core.Path.{◌≡◌, refl, sym, ap, ◌∙◌, subst}
+use mathlib.Core.Path.{◌≡◌, sym, ap, ◌∙◌, subst}
 use mathlib.Core.Bool.{Bool}
 use mathlib.Core.List.{List, ◌++◌, append_assoc}
 use Prim.Native.Nat.{ℕ, ◌+◌, ◌*◌, ◌≤◌}
@@ -22,12 +22,9 @@ use Rattle.grammar.specs.declared.figures.Form.{Form}
 use Rattle.grammar.specs.declared.record.Figures.{Figures}
 use Rattle.grammar.specs.declared.record.Identities.{Identities}
 use Rattle.grammar.proofs.Rows.{in_rows, figures_seen, figures-print}
-use Rattle.words.specs.Inner.{Put}
 use Rattle.words.specs.RecordWords.{identities_words, services_words, lists_words}
-use Rattle.words.proofs.Putting.{then}
 use Rattle.reader.specs.Inner.{listed, listed_words, interrogation_words, definition_words, outcome_words, rest_words, Read, Reads, Fills}
 use Rattle.reader.proofs.Elements.{all-bits}
-use Rattle.reader.proofs.Entries.{put_as}
 use Rattle.reader.proofs.Parts.{reads_first, reads-next, read-then}
 
 -- ---- what is read ends inside
@@ -75,23 +72,19 @@ module _ (t : Option PduType) {form : Form} (same : form ≡ form_of t) {s : Lis
       pub listed-reads : Reads (listed form.services (part_in t f)) s (m + form.width)
       listed-reads = rw same (reads-next _ _ (reads-next _ _ row_reads (rw same at e)) g)
 
-      -- all of it, from word 1 on
-      pub row_fill : {part end : ℕ} {w w₁ w₂ w₃ w₄ w₅ : List ℕ} → part ≡ part_in t f → 520 ≤ length w
-          → length w₁ ≡ length w → length w₂ ≡ length w₁ → length w₃ ≡ length w₂
-          → Put w 1 (identities_words u) 25 w₁ 26 → Put w₁ 26 (interrogation_words f) 3 w₂ 29
-          → Fills (listed form.services part) listed_words 485 s (m + form.width) w₂ 29 w₃ end
-          → Put w₃ 514 (definition_words f) 3 w₄ 517 → Put w₄ 517 (outcome_words f) 3 w₅ 520
-          → Fills (rest_of t) rest_words 519 s at w 1 w₅ end
-      row_fill {end = end} {w₂ = w₂} {w₃ = w₃} steered room l₁ l₂ l₃ users asked lists defined outcome =
-          let parts : Fills (listed (form_of t).services (part_in t f)) listed_words 485 s (m + width_of t) w₂ 29 w₃ end = rw (steered, same) at lists in
+      -- all of it
+      pub row_fill : {part end : ℕ} {w w₁ w₂ w₃ w₄ : List ℕ} → part ≡ part_in t f
+          → w ≡ identities_words u → w₁ ≡ interrogation_words f → Fills (listed form.services part) listed_words s (m + form.width) w₂ end
+          → w₃ ≡ definition_words f → w₄ ≡ outcome_words f → Fills (rest_of t) rest_words s at (w ++ (w₁ ++ (w₂ ++ (w₃ ++ w₄)))) end
+      row_fill {end = end} {w₂ = w₂} steered users asked lists defined outcome =
+          let parts : Fills (listed (form_of t).services (part_in t f)) listed_words s (m + width_of t) w₂ end = rw (steered, same) at lists in
           let v = parts.value in
           let whole = read-then _ _ (rw same at e) (read-then _ _ g parts.read) in
           record {
             value = (u, (f, v));
             read = subst (λ (c : Codec Rest). Read c s at (u, (f, v)) end) (sym (in_rows t)) whole;
-            put =
-                put_as (then (omega arith) users (then (omega (arith, l₁)) asked (then (omega (arith, l₁, l₂)) parts.put
-                (then (omega (arith, l₁, l₂, l₃)) defined outcome))))
-                (ap (λ (x : List ℕ). identities_words u ++ (interrogation_words f ++ x))
-                (append_assoc (services_words v.0) (lists_words v.1) (definition_words f ++ outcome_words f))) refl refl;
+            same =
+                (λ i. users i ++ (asked i ++ (parts.same i ++ (defined i ++ outcome i))))
+                ∙ ap (λ (x : List ℕ). identities_words u ++ (interrogation_words f ++ x))
+                (append_assoc (services_words v.0) (lists_words v.1) (definition_words f ++ outcome_words f));
           }

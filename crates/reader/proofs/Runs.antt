@@ -132,7 +132,7 @@ four_as : {a b c d a' b' c' d' : ℕ} {l l' : List ℕ} → a ≡ a' → b ≡ b
 four_as p q r s t = cc
 
 -- twelve are four, four and four
-pub twelve-is : (run : ℕ) → (codes_in 4 4 (run / 2 ^ 32) ++ codes_in 4 4 (run / 2 ^ 16 % 65536)) ++ codes_in 4 4 (run % 65536) ≡ codes_in 12 4 run
+pub twelve-is : (run : ℕ) → codes_in 4 4 (run / 2 ^ 32) ++ (codes_in 4 4 (run / 2 ^ 16 % 65536) ++ codes_in 4 4 (run % 65536)) ≡ codes_in 12 4 run
 unfolding codes_in
 twelve-is run =
     four_as (omega arith) (omega arith) (omega arith) (omega arith)

@@ -1,20 +1,31 @@
 -- What storing a part of a PDU that is known to be legal needs, and what it leaves among the lent words.
-use Rattle.std.specs.Prelude.{◌≡◌, Bool, List, [], ◌∷◌, ◌++◌, ℕ, ◌+◌, ◌-◌, ◌*◌, ◌/◌, ◌%◌, ◌^◌, ◌≤◌, length, replicate}
+use Rattle.std.specs.Prelude.{◌≡◌, Bool, List, [], ◌∷◌, ◌++◌, ℕ, ◌-◌, ◌*◌, ◌/◌, ◌%◌, ◌^◌, ◌≤◌, length, replicate}
 use Rattle.bits.specs.Bits.{bits, pick}
 use Rattle.bits.proofs.Table.{values}
 use Rattle.codec.specs.Codec.{Codec}
-use Rattle.codec.specs.Parts.{seq}
+use Rattle.codec.specs.Parts.{number, seq}
+use Rattle.codec.specs.Places.{places}
 use Rattle.codec.specs.Reading.{got, read_at}
+use Rattle.grammar.specs.SiteSheet.{entries_of}
 use Rattle.grammar.specs.Grammar.{services, no_services, part_of, Rest}
 use Rattle.grammar.specs.declared.record.Figures.{Figures}
 use Rattle.grammar.specs.declared.record.Services.{Services}
 use Rattle.grammar.specs.declared.record.Lists.{Lists}
-use Rattle.words.specs.Inner.{Put}
-use Rattle.words.specs.RecordWords.{identities_words, services_words, lists_words}
+use Rattle.words.specs.RecordWords.{in_turn, identities_words, services_words, lists_words}
 
--- a number as one word
-abbrev pub one : ℕ → List ℕ
-one x = x ∷ []
+-- two of a part, and their words
+abbrev pub twice : {A : Type 0} → Codec A → Codec (A × A)
+twice c = seq c (λ a. c)
+
+abbrev pub twice_words : {A : Type 0} → (A → List ℕ) → A × A → List ℕ
+twice_words f (a, b) = f a ++ f b
+
+-- a range type and its entries, whatever tests there are; and their words
+abbrev pub ranged : {A : Type 0} → Codec A → Codec A → Codec (ℕ × List A)
+ranged c z = seq (number 4) (λ code. places c z 8 (entries_of code))
+
+abbrev pub ranged_words : {A : Type 0} → (A → List ℕ) → ℕ × List A → List ℕ
+ranged_words f (code, l) = code ∷ in_turn f l
 
 -- services, if they are carried, and the lists of a part; and their words
 abbrev pub listed : Bool → ℕ → Codec (Services × Lists)
@@ -48,18 +59,17 @@ pub record Reads {A : Type 0} (c : Codec A) (s : List Bool) (at : ℕ) : Type 0 
   pub end : ℕ
   pub read : Read c s at value end
 
--- c can be stored: the PDU has at most 512 bytes, there are n words from `to` on, and c is read at a place
-pub record Fillable {A : Type 0} (c : Codec A) (s : List ℕ) (at : ℕ) (words : List ℕ) (to n : ℕ) : Type 0 where
+-- c can be stored: the PDU has at most 512 bytes, the words are n, and c is read at a place
+pub record Fillable {A : Type 0} (c : Codec A) (s : List ℕ) (at : ℕ) (words : List ℕ) (n : ℕ) : Type 0 where
   pub few : length s ≤ 512
-  pub room : to + n ≤ length words
+  pub room : length words ≡ n
   pub reads : Reads c (bits s) at
 
--- c reads a value from `at` to `end`; from `to` on the words have the n words of that value, all others are as they were
-pub record Fills {A : Type 0} (c : Codec A) (f : A → List ℕ) (n : ℕ) (s : List Bool) (at : ℕ) (words : List ℕ) (to : ℕ)
-    (words' : List ℕ) (end : ℕ) : Type 0 where
+-- c reads a value from `at` to `end`, and the words are those of that value
+pub record Fills {A : Type 0} (c : Codec A) (f : A → List ℕ) (s : List Bool) (at : ℕ) (words : List ℕ) (end : ℕ) : Type 0 where
   pub value : A
   pub read : Read c s at value end
-  pub put : Put words to (f value) n words' (to + n)
+  pub same : words ≡ f value
 
 -- nothing of a PDU is read as z, and its value is n zeros as words
 pub record Zeros {A : Type 0} (z : Codec A) (f : A → List ℕ) (n : ℕ) : Type 0 where

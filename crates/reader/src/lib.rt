@@ -1,10 +1,10 @@
 // Reading a PDU: the walk decides; only from an accepted PDU are values stored, straight from its bits into the lent words.
 #![tactic(auto)]
 
-mod entry;
 mod identities;
 mod lists;
 mod numbers;
+mod part;
 mod record;
 mod services;
 mod stores;

@@ -1,76 +1,53 @@
 // The whole record: the PDU type, then what its row says; 520 words, zero where the PDU carries nothing.
-ghost use Rattle.bits.specs.Bits.{bits, pick};
-ghost use Rattle.grammar.specs.Grammar.{identities, no_identities, services, no_services, pdu};
-ghost use Rattle.grammar.specs.declared.site.ListKind.TheVariants as of;
-ghost use Rattle.words.specs.RecordWords.{identities_words, services_words, record_words};
+ghost use Rattle.std.specs.Prelude.{◌+◌};
+ghost use Rattle.bits.specs.Bits.{bits};
+ghost use Rattle.grammar.specs.Grammar.{pdu};
+ghost use Rattle.words.specs.Places.{services_width, lists_width, record_width};
+ghost use Rattle.words.specs.RecordWords.{record_words};
 ghost use Rattle.reader.specs.Inner.{listed, listed_words, Fillable, Fills};
 
-use crate::identities::fill_identities;
 use crate::lists::fill_part;
-use crate::services::fill_services;
-use crate::stores::{number_at, store, three_words, zero_words};
+use crate::part::fill_if;
+use crate::stores::{number_at, put_three};
 use bits::Cursor;
+use grammar::record::{Identities, Services};
 use grammar::{figures, site};
-
-// The affected users, or zeros where the PDU carries none.
-fn fill_users(s: &[u8], c: Cursor, words: &mut [u32], to: usize, carried: bool) -> Cursor
-    requires { Fillable (pick carried (identities of.Users) no_identities) s.now c.at words.old to 25 }
-    ensures { Fills (pick carried (identities of.Users) no_identities) identities_words 25 (bits s.now) c.at words.old to words.new result.at }
-{
-    if carried {
-        return fill_identities(s, c, words, to);
-    }
-    zero_words(words, to, 25);
-    c
-}
-
-// The services, or zeros where the PDU carries none.
-fn fill_served(s: &[u8], c: Cursor, words: &mut [u32], to: usize, carried: bool) -> Cursor
-    requires { Fillable (pick carried services no_services) s.now c.at words.old to 8 }
-    ensures { Fills (pick carried services no_services) services_words 8 (bits s.now) c.at words.old to words.new result.at }
-{
-    if carried {
-        return fill_services(s, c, words, to);
-    }
-    zero_words(words, to, 8);
-    c
-}
+use words::record::{IDENTITIES_WORDS, LISTS_WORDS, SERVICES_WORDS};
 
 // The services, if they are carried, and the lists of a part.
-fn fill_listed(s: &[u8], c: Cursor, words: &mut [u32], to: usize, served: bool, part: u32) -> Cursor
-    requires { Fillable (listed served part) s.now c.at words.old to 485 }
-    ensures { Fills (listed served part) listed_words 485 (bits s.now) c.at words.old to words.new result.at }
+fn fill_listed(s: &[u8], c: Cursor, words: &mut [u32], served: bool, part: u32) -> Cursor
+    requires { Fillable (listed served part) s.now c.at words.old (services_width + lists_width) }
+    ensures { Fills (listed served part) listed_words (bits s.now) c.at words.new result.at }
 {
-    let lists_to = to + 8;
-    let lists = fill_served(s, c, words, to, served);
-    fill_part(s, lists, words, lists_to, part)
+    let (services, lists) = words.split_at_mut(SERVICES_WORDS);
+    let after_services = fill_if::<Services>(s, c, services, served);
+    fill_part(s, after_services, lists, part)
 }
 
 // The PDU type, the affected users, the figures from one window, services and lists.
 pub(crate) fn fill_record(s: &[u8], words: &mut [u32]) -> Cursor
-    requires { Fillable pdu s.now 0 words.old 0 520 }
-    ensures { Fills pdu record_words 520 (bits s.now) 0 words.old 0 words.new result.at }
+    requires { Fillable pdu s.now 0 words.old record_width }
+    ensures { Fills pdu record_words (bits s.now) 0 words.new result.at }
 {
     let code = number_at(s, 6, 5);
     let kind = site::pdu_type(code);
     let form = figures::form_of(kind);
-    store(words, 0, code);
-    let rest = fill_users(s, Cursor { at: 11 }, words, 1, form.users);
-    let at = rest.at;
+    let (pdu_type, rest) = words.split_first_mut().unwrap();
+    let (users, rest) = rest.split_at_mut(IDENTITIES_WORDS);
+    let (interrogation, rest) = rest.split_at_mut(3);
+    let (listed, rest) = rest.split_at_mut(SERVICES_WORDS + LISTS_WORDS);
+    let (definition, outcome) = rest.split_at_mut(3);
+    *pdu_type = code;
+    let after_users = fill_if::<Identities>(s, Cursor { at: 11 }, users, form.users);
+    let at = after_users.at;
     let f = figures::figures_in(kind, bits::window(s, at));
-    three_words(words, 26, f.asked, f.result, f.status);
-    let listed = Cursor {
+    put_three(interrogation, f.asked, f.result, f.status);
+    let after_figures = Cursor {
         at: at + form.width,
     };
-    let end = fill_listed(
-        s,
-        listed,
-        words,
-        29,
-        form.services,
-        figures::part_in(kind, f),
-    );
-    three_words(words, 514, f.delivery, f.acknowledgement, f.definition);
-    three_words(words, 517, f.defined, f.distributed, f.cause);
+    let part = figures::part_in(kind, f);
+    let end = fill_listed(s, after_figures, listed, form.services, part);
+    put_three(definition, f.delivery, f.acknowledgement, f.definition);
+    put_three(outcome, f.defined, f.distributed, f.cause);
     end
 }

@@ -1,9 +1,8 @@
-// Numbers taken from the bits of a legal PDU, and words put in their places.
-ghost use Rattle.std.specs.Prelude.{◌≡◌, ◌∷◌, [], ◌+◌, ◌*◌, ◌^◌, ◌≤◌, ◌<◌, length, replicate};
+// Numbers taken from the bits of a legal PDU, and codes put in words.
+ghost use Rattle.std.specs.Prelude.{◌≡◌, [], ◌∷◌, ◌+◌, ◌*◌, ◌^◌, ◌≤◌, ◌<◌, length};
 ghost use Rattle.bits.specs.Bits.{bits};
 ghost use Rattle.codec.specs.Parts.{number};
-ghost use Rattle.words.specs.Inner.{Put};
-ghost use Rattle.reader.specs.Inner.{one, Read, Reads, held_in, codes_in};
+ghost use Rattle.reader.specs.Inner.{Read, Reads, held_in, codes_in};
 
 // The number of `width` bits at a place.
 pub(crate) fn number_at(s: &[u8], at: usize, width: usize) -> u32
@@ -21,38 +20,22 @@ pub(crate) fn held(window: u64, skip: usize, whole: usize, used: usize) -> u64
     (window >> (57 - skip - used)) << (whole - used)
 }
 
-pub(crate) fn store(words: &mut [u32], to: usize, word: u32)
-    requires { to < length words.old }
-    ensures { Put words.old to (one word) 1 words.new (to + 1) }
+// Three words, stored one by one: a copy would go by a length that the compiler does not know.
+pub(crate) fn put_three(words: &mut [u32], first: u32, second: u32, third: u32)
+    requires { length words.old ≡ 3 }
+    ensures { words.new ≡ first ∷ second ∷ third ∷ [] }
 {
-    words[to] = word;
-}
-
-pub(crate) fn three_words(words: &mut [u32], to: usize, a: u32, b: u32, c: u32)
-    requires { to + 3 ≤ length words.old }
-    ensures { Put words.old to (a ∷ b ∷ c ∷ []) 3 words.new (to + 3) }
-{
-    words[to..to + 3].copy_from_slice(&[a, b, c]);
+    words[0] = first;
+    words[1] = second;
+    words[2] = third;
 }
 
 // So many numbers of so many bits each, the first the highest of a run. A fixed number of turns, so that it becomes code without a loop.
-pub(crate) fn put_codes<const COUNT: usize, const WIDTH: usize>(
-    words: &mut [u32],
-    to: usize,
-    run: u64,
-)
-    requires { (WIDTH ≤ 32) × (WIDTH * COUNT ≤ 64) × (to + COUNT ≤ length words.old) }
-    ensures { Put words.old to (codes_in COUNT WIDTH run) COUNT words.new (to + COUNT) }
+pub(crate) fn put_codes<const COUNT: usize, const WIDTH: usize>(words: &mut [u32], run: u64)
+    requires { (WIDTH ≤ 32) × (WIDTH * COUNT ≤ 64) × (length words.old ≡ COUNT) }
+    ensures { words.new ≡ codes_in COUNT WIDTH run }
 {
     for i in 0..COUNT {
-        words[to + i] = ((run >> (WIDTH * (COUNT - 1 - i))) % (1 << WIDTH)) as u32;
+        words[i] = ((run >> (WIDTH * (COUNT - 1 - i))) % (1 << WIDTH)) as u32;
     }
-}
-
-// Zeros in n words.
-pub(crate) fn zero_words(words: &mut [u32], to: usize, n: usize)
-    requires { to + n ≤ length words.old }
-    ensures { Put words.old to (replicate n 0) n words.new (to + n) }
-{
-    words[to..to + n].fill(0);
 }

@@ -23,6 +23,7 @@ use Rattle.archive.specs.Restoring.{fetch_is, lookup}
 use Rattle.archive.specs.declared.contents.Key.{Key}
 use Rattle.archive.specs.declared.Body.{Body}
 use Rattle.archive.specs.declared.refusal.Refusal.{Refusal}
+use Rattle.archive.proofs.Mapped.{refused_as}
 use Rattle.archive.proofs.Model.Checked.{archive_checked}
 use Rattle.archive.proofs.Calls.Fetch.{fetch-damaged, fetch-missing, fetch-found}
 use Rattle.reload.specs.Define.{is_definition, define_of, stands}
@@ -78,6 +79,11 @@ module _ (t : Target) (b : List ℕ) (k : Key) (d : Definition) (out : List ℕ)
         )
 
 -- ---- a part that was read
+
+-- writing's answer, with a plain refusal
+pub refused-written : (r : Result BitCount ℕ) → refused_as plain r ≡ as_written r
+refused-written (Ok n) = refl
+refused-written (Err k) = refl
 
 -- what writing leaves
 left_as : (r : Record) (out : List ℕ) → out_is r out ≡ reloads (as_written (write_is r out)) (pack (pdu.print r)) out

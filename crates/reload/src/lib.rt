@@ -5,15 +5,14 @@ ghost use Rattle.std.specs.Prelude.{◌≡◌, ◌+◌, ◌≤◌, length, take,
 ghost use Rattle.bits.specs.Frame.{bytes_for};
 ghost use Rattle.reader.specs.Read.{answer_of, found_in, read_is};
 ghost use Rattle.writer.specs.Write.{write_is, out_is};
-ghost use Rattle.archive.specs.Refusals.{plain};
 ghost use Rattle.reload.specs.Define.{is_definition, kind_of, part_for, define_of, no_identities, no_numbers, stands_in};
 ghost use Rattle.reload.specs.Reload.{reload_is, reload_out};
 ghost use Rattle.reload.specs.Inner.{reloaded_from, reloaded_out};
 
-use archive::{Key, Refusal};
+use archive::{Body, Key, Refusal};
 use bits::BitCount;
 use grammar::record::{Figures, Lists, Record};
-use grammar::site;
+use grammar::{site, zero};
 
 // The PDU in which a part is put back: a DEFINE has lists of identities, a DEFINE EXTERNAL lists of numbers.
 #[derive(Clone, Copy)]
@@ -31,109 +30,73 @@ pub struct Definition {
 }
 
 // Whether a definition may be asked for.
+#[tactic(auto, unfolding(crate::specs::Define::is_definition))]
 fn is_definition(wanted: Definition) -> bool
     ensures { result ≡ is_definition wanted }
 {
-    if 2 < wanted.definition {
-        return false;
-    }
-    if 1 < wanted.delivery {
-        return false;
-    }
-    wanted.acknowledgement <= wanted.delivery
+    wanted.definition <= 2 && wanted.delivery <= 1 && wanted.acknowledgement <= wanted.delivery
 }
 
 fn no_identities(lists: Lists) -> bool
     ensures { result ≡ no_identities lists }
 {
-    if lists.restricted.code != 0 {
-        return false;
-    }
-    lists.exceptions.code == 0
+    lists.restricted.code == 0 && lists.exceptions.code == 0
 }
 
 fn no_numbers(lists: Lists) -> bool
     ensures { result ≡ no_numbers lists }
 {
-    if lists.numbers.code != 0 {
-        return false;
-    }
-    lists.excepted.code == 0
+    lists.numbers.code == 0 && lists.excepted.code == 0
 }
 
 // Whether each list that is not empty is one of a part.
+#[tactic(auto, unfolding(crate::specs::Define::stands_in))]
 fn stand_in(part: u32, lists: Lists) -> bool
     ensures { result ≡ stands_in part lists }
 {
-    if part == 1 {
-        return no_numbers(lists);
-    }
-    if part == 2 {
-        return no_identities(lists);
-    }
-    if lists.groups.code != 0 {
-        return false;
-    }
-    if !no_identities(lists) {
-        return false;
-    }
-    no_numbers(lists)
-}
-
-// The part whose lists the PDU has.
-fn part_for(target: Target) -> u32
-    ensures { result ≡ part_for target }
-{
-    match target {
-        Target::Define => 1,
-        Target::DefineExternal => 2,
+    match part {
+        1 => no_numbers(lists),
+        2 => no_identities(lists),
+        _ => lists.groups.code == 0 && no_identities(lists) && no_numbers(lists),
     }
 }
 
-fn kind_of(target: Target) -> u32
-    ensures { result ≡ kind_of target }
-{
-    match target {
-        Target::Define => 5,
-        Target::DefineExternal => 7,
+impl Target {
+    // The part whose lists the PDU has.
+    fn part(self) -> u32
+        ensures { result ≡ part_for self }
+    {
+        match self {
+            Target::Define => 1,
+            Target::DefineExternal => 2,
+        }
+    }
+
+    fn kind(self) -> u32
+        ensures { result ≡ kind_of self }
+    {
+        match self {
+            Target::Define => 5,
+            Target::DefineExternal => 7,
+        }
     }
 }
 
 // The PDU that puts a part back: its affected user, services and lists as they are.
+#[tactic(auto, unfolding(crate::specs::Define::define_of))]
 fn define_of(target: Target, wanted: Definition, part: Record) -> Record
     ensures { result ≡ define_of target wanted part }
 {
-    let affected = part.affected;
-    let services = part.services;
-    let lists = part.lists;
     let figures = Figures {
-        asked: 0,
-        result: 0,
-        status: 0,
         delivery: wanted.delivery,
         acknowledgement: wanted.acknowledgement,
         definition: wanted.definition,
-        defined: 0,
-        distributed: 0,
-        cause: 0,
+        ..zero::zero_figures()
     };
     Record {
-        kind: kind_of(target),
-        affected,
+        kind: target.kind(),
         figures,
-        services,
-        lists,
-    }
-}
-
-// A refusal without entry and place.
-fn refused(number: u32) -> Refusal
-    ensures { result ≡ plain number }
-{
-    Refusal {
-        number,
-        entry: None,
-        place: None,
+        ..part
     }
 }
 
@@ -159,31 +122,26 @@ fn write_define(
     pdu::write(define_of(target, wanted, part), out)
 }
 
-// Writes the PDU that puts back the body of n bits at a place of the archive, which holds it: so it is accepted.
+// Writes the PDU that puts a body of the archive back: it is accepted, since the archive holds it.
 fn reload_body(
     archive: &[u8],
-    at: usize,
-    n: BitCount,
+    body: Body,
     target: Target,
     wanted: Definition,
     out: &mut [u8],
 ) -> Result<BitCount, Refusal>
-    requires within { at + bytes_for n.0 ≤ length archive.now }
-    requires accepted { answer_of (read_is (take (bytes_for n.0) (drop at archive.now)) n.0) ≡ Ok tt }
-    ensures value { result ≡ reloaded_from target archive.now at n.0 wanted out.old }
-    ensures out_after { out.new ≡ reloaded_out target archive.now at n.0 wanted out.old }
+    requires within { body.off + bytes_for body.bits.0 ≤ length archive.now }
+    requires accepted { answer_of (read_is (take (bytes_for body.bits.0) (drop body.off archive.now)) body.bits.0) ≡ Ok tt }
+    ensures value { result ≡ reloaded_from target archive.now body.off body.bits.0 wanted out.old }
+    ensures out_after { out.new ≡ reloaded_out target archive.now body.off body.bits.0 wanted out.old }
 {
-    let end = at + n.bytes();
-    let part = part_of(&archive[at..end], n);
-    let lists = part.lists;
-    let carried = site::defined_part(part_for(target), wanted.definition);
-    if !stand_in(carried, lists) {
-        return Err(refused(12));
+    let end = body.off + body.bits.bytes();
+    let part = part_of(&archive[body.off..end], body.bits);
+    let carried = site::defined_part(target.part(), wanted.definition);
+    if !stand_in(carried, part.lists) {
+        return Err(Refusal::plain(12));
     }
-    match write_define(target, wanted, part, out) {
-        Ok(length) => Ok(length),
-        Err(number) => Err(refused(number)),
-    }
+    write_define(target, wanted, part, out).map_err(Refusal::plain)
 }
 
 // Writes the PDU that puts the part held for a user back; its length in bits. Refusals in order: 9, 7, 11, 12, 8.
@@ -198,14 +156,13 @@ pub fn reload(
     ensures out_after { out.new ≡ reload_out target archive.now key wanted out.old }
 {
     if !archive::in_range(key) {
-        return Err(refused(9));
+        return Err(Refusal::plain(9));
     }
     if !is_definition(wanted) {
-        return Err(refused(9));
+        return Err(Refusal::plain(9));
     }
-    match archive::fetch(archive, key) {
-        Err(refusal) => Err(refusal),
-        Ok(None) => Err(refused(11)),
-        Ok(Some(body)) => reload_body(archive, body.off, body.bits, target, wanted, out),
-    }
+    let Some(body) = archive::fetch(archive, key)? else {
+        return Err(Refusal::plain(11));
+    };
+    reload_body(archive, body, target, wanted, out)
 }

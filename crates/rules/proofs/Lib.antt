@@ -1,2 +1,4 @@
 pub mod Search
+pub mod Destinations
 pub mod Rules
+pub mod Chains

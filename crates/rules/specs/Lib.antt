@@ -1,5 +1,6 @@
 pub mod Request
 pub mod Matching
 pub mod Rule
+pub mod Inner
 pub mod ProfileCalls
 pub mod Examples

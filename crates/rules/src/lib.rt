@@ -10,7 +10,7 @@ ghost use Rattle.rules.specs.Rule.{cause_number, ruling, six_rules};
 
 use grammar::record::Record;
 use grammar::site::network_of;
-use lists::{both_empty, is_excepted, is_outside, is_restricted};
+use lists::{both_empty, destination_among, is_outside};
 use matching::covers;
 pub use matching::{in_range, is_covering, is_entry};
 use request::Request;
@@ -51,10 +51,22 @@ fn six_rules(part: Record, missing: u32, request: Request) -> Option<Cause>
     let lists = part.lists;
     let destination = request.destination;
     let digits = request.digits;
-    if is_excepted(lists, missing, destination, digits) {
+    if destination_among(
+        lists.exceptions,
+        lists.excepted,
+        missing,
+        destination,
+        digits,
+    ) {
         return None;
     }
-    if is_restricted(lists, missing, destination, digits) {
+    if destination_among(
+        lists.restricted,
+        lists.numbers,
+        missing,
+        destination,
+        digits,
+    ) {
         return Some(Cause::RestrictedAddress);
     }
     let groups = lists.groups;

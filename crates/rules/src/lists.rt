@@ -1,42 +1,31 @@
 // What the lists of a part say of a call. `missing` is the network that a missing extension means.
 ghost use Rattle.std.specs.Prelude.{◌≡◌};
-ghost use Rattle.rules.specs.Rule.{is_excepted, is_restricted, is_outside, both_empty};
+ghost use Rattle.rules.specs.Inner.{destination_among};
+ghost use Rattle.rules.specs.Rule.{is_outside, both_empty};
 
 use crate::matching::{identity_among, number_among};
 use crate::request::{Destination, User};
-use grammar::record::{Identities, Lists};
+use grammar::record::{Identities, Lists, Number, Numbers};
 
-// The destination is among the exceptions.
-pub(crate) fn is_excepted(
-    lists: Lists,
+// The destination is in the list for its kind.
+#[tactic(auto, unfolding(crate::specs::Inner::destination_among))]
+pub(crate) fn destination_among(
+    identities: Identities,
+    numbers: Numbers,
     missing: u32,
     destination: Destination,
     digits: [u8; 24],
 ) -> bool
-    ensures { result ≡ is_excepted missing lists destination digits }
+    ensures { result ≡ destination_among missing identities numbers destination digits }
 {
     match destination {
-        Destination::Identity(u) => identity_among(lists.exceptions, missing, u),
-        Destination::Number(length) => number_among(lists.excepted, length, digits),
-    }
-}
-
-// The destination is among the restricted.
-pub(crate) fn is_restricted(
-    lists: Lists,
-    missing: u32,
-    destination: Destination,
-    digits: [u8; 24],
-) -> bool
-    ensures { result ≡ is_restricted missing lists destination digits }
-{
-    match destination {
-        Destination::Identity(u) => identity_among(lists.restricted, missing, u),
-        Destination::Number(length) => number_among(lists.numbers, length, digits),
+        Destination::Identity(u) => identity_among(identities, missing, u),
+        Destination::Number(length) => number_among(numbers, Number { length, digits }),
     }
 }
 
 // The group list isn't empty, and either the call has no group or its group is not in the list.
+#[tactic(auto, unfolding(crate::specs::Rule::is_outside))]
 pub(crate) fn is_outside(groups: Identities, missing: u32, group: Option<User>) -> bool
     ensures { result ≡ is_outside missing groups group }
 {
@@ -50,6 +39,7 @@ pub(crate) fn is_outside(groups: Identities, missing: u32, group: Option<User>) 
 }
 
 // The group list and the restricted list are both empty.
+#[tactic(auto, unfolding(crate::specs::Rule::both_empty))]
 pub(crate) fn both_empty(lists: Lists, destination: Destination) -> bool
     ensures { result ≡ both_empty lists destination }
 {

@@ -4,11 +4,11 @@ ghost use Rattle.bits.specs.Lists.{some};
 ghost use Rattle.rules.specs.Matching.{is_entry, in_range, identity_among, number_among, is_covering, covered};
 
 use crate::request::User;
-use bits::DigitCount;
-use grammar::record::{Identities, Identity, Numbers, Services};
-use grammar::site::{RangeType, network_of};
+use grammar::record::{Identities, Identity, Number, Numbers, Services};
+use grammar::site::{RangeType, entries_of, network_of, range_type};
 
 // A single entry is this user.
+#[tactic(auto, unfolding(crate::specs::Matching::is_entry))]
 pub fn is_entry(e: Identity, missing: u32, u: User) -> bool
     ensures { result ≡ is_entry missing u e }
 {
@@ -16,6 +16,7 @@ pub fn is_entry(e: Identity, missing: u32, u: User) -> bool
 }
 
 // A range, both ends included, has this user.
+#[tactic(auto, unfolding(crate::specs::Matching::in_range))]
 pub fn in_range(first: Identity, last: Identity, missing: u32, u: User) -> bool
     ensures { result ≡ in_range missing u first last }
 {
@@ -41,7 +42,7 @@ pub(crate) fn identity_among(list: Identities, missing: u32, u: User) -> bool
     ensures { result ≡ identity_among missing list u }
 {
     let entries = list.entries;
-    match grammar::site::range_type(list.code) {
+    match range_type(list.code) {
         Some(RangeType::Empty) => false,
         Some(RangeType::Single(n)) => is_one_of(entries, n, missing, u),
         Some(RangeType::FirstAndLast) => in_range(entries[0], entries[1], missing, u),
@@ -50,19 +51,20 @@ pub(crate) fn identity_among(list: Identities, missing: u32, u: User) -> bool
 }
 
 // The external number is among the numbers of a list: the same length and the same digits.
-pub(crate) fn number_among(list: Numbers, length: DigitCount, digits: [u8; 24]) -> bool
-    ensures { result ≡ number_among list length.0 digits }
+pub(crate) fn number_among(list: Numbers, number: Number) -> bool
+    ensures { result ≡ number_among list number.length.0 number.digits }
 {
     let entries = list.entries;
-    let count = bits::least(grammar::site::row_of(list.code).entries as usize, 8);
-    let places = bits::least(length.0 as usize, 24);
+    let count = entries_of(list.code).min(8);
+    let length = number.length.0;
+    let places = (length as usize).min(24);
     let mut found = false;
     'entries: for e in &entries[..count] {
-        if e.length.0 != length.0 {
+        if e.length.0 != length {
             continue 'entries;
         }
         for j in 0..places {
-            if e.digits[j] != digits[j] {
+            if e.digits[j] != number.digits[j] {
                 continue 'entries;
             }
         }
@@ -73,6 +75,7 @@ pub(crate) fn number_among(list: Numbers, length: DigitCount, digits: [u8; 24]) 
 }
 
 // A listed service covers this one: 0 is all applicable services.
+#[tactic(auto, unfolding(crate::specs::Matching::is_covering))]
 pub fn is_covering(listed: u32, service: u32) -> bool
     ensures { result ≡ is_covering service listed }
 {

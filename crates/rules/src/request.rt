@@ -1,6 +1,7 @@
 // A request: who calls, by which service, to whom, and in which group (document 01, "The barring rule").
 ghost use Rattle.std.specs.Prelude.{◌≡◌, ◌<◌, take, drop};
 ghost use Rattle.bits.specs.Lists.{every};
+ghost use Rattle.rules.specs.Inner.{is_in_range};
 ghost use Rattle.rules.specs.Request.{is_user, is_service, is_destination, is_group, is_digit, is_unused, digits_used, request_refusal};
 
 use bits::DigitCount;
@@ -30,21 +31,21 @@ pub struct Request {
 }
 
 // Networks and SSIs are of 24 bits.
+#[tactic(auto, unfolding(crate::specs::Request::is_user))]
 fn is_user(u: User) -> bool
     ensures { result ≡ is_user u }
 {
     u.network < 16777216 && u.ssi < 16777216
 }
 
+#[tactic(auto, unfolding(crate::specs::Request::is_service))]
 fn is_service(service: u32) -> bool
     ensures { result ≡ is_service service }
 {
-    match service {
-        1..=3 => true,
-        _ => false,
-    }
+    matches!(service, 1..=3)
 }
 
+#[tactic(auto, unfolding(crate::specs::Request::is_destination))]
 fn is_destination(destination: Destination) -> bool
     ensures { result ≡ is_destination destination }
 {
@@ -54,16 +55,15 @@ fn is_destination(destination: Destination) -> bool
     }
 }
 
+#[tactic(auto, unfolding(crate::specs::Request::is_group))]
 fn is_group(group: Option<User>) -> bool
     ensures { result ≡ is_group group }
 {
-    match group {
-        Some(u) => is_user(u),
-        None => true,
-    }
+    group.is_none_or(is_user)
 }
 
 // How many digit places the destination uses: an identity none.
+#[tactic(auto, unfolding(crate::specs::Request::digits_used))]
 fn digits_used(destination: Destination) -> DigitCount
     ensures { result.0 ≡ digits_used destination }
 {
@@ -77,7 +77,7 @@ fn digits_used(destination: Destination) -> DigitCount
 fn used_are_digits(digits: [u8; 24], length: DigitCount) -> bool
     ensures { result ≡ every is_digit (take length.0 digits) }
 {
-    let n = bits::least(length.0 as usize, 24);
+    let n = (length.0 as usize).min(24);
     let mut refused = 0u32;
     for &digit in &digits[..n] {
         refused += digit_refusal(digit as u32);
@@ -95,7 +95,7 @@ fn wide(digit: u8) -> u32
 fn unused_are_zero(digits: [u8; 24], length: DigitCount) -> bool
     ensures { result ≡ every is_unused (drop length.0 digits) }
 {
-    let n = bits::least(length.0 as usize, 24);
+    let n = (length.0 as usize).min(24);
     let mut sum = 0u32;
     for &digit in &digits[n..] {
         sum += wide(digit);
@@ -103,32 +103,23 @@ fn unused_are_zero(digits: [u8; 24], length: DigitCount) -> bool
     sum == 0
 }
 
+// Each part of a request is in its range.
+fn is_in_range(request: Request) -> bool
+    ensures { result ≡ is_in_range request }
+{
+    let length = digits_used(request.destination);
+    is_user(request.user)
+        && is_service(request.service)
+        && is_destination(request.destination)
+        && is_group(request.group)
+        && used_are_digits(request.digits, length)
+        && unused_are_zero(request.digits, length)
+}
+
 // 9 for a request out of its range, otherwise 0.
+#[tactic(auto, unfolding(crate::specs::Request::request_refusal, crate::specs::Inner::is_in_range))]
 pub fn request_refusal(request: Request) -> u32
     ensures { result ≡ request_refusal request }
 {
-    let user = request.user;
-    if !is_user(user) {
-        return 9;
-    }
-    if !is_service(request.service) {
-        return 9;
-    }
-    let destination = request.destination;
-    if !is_destination(destination) {
-        return 9;
-    }
-    let group = request.group;
-    if !is_group(group) {
-        return 9;
-    }
-    let digits = request.digits;
-    let length = digits_used(destination);
-    if !used_are_digits(digits, length) {
-        return 9;
-    }
-    if !unused_are_zero(digits, length) {
-        return 9;
-    }
-    0
+    if is_in_range(request) { 0 } else { 9 }
 }

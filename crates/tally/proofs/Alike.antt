@@ -7,14 +7,14 @@ use native.Mathlib.Nat.{mul-zero, mul-suc}
 use native.Mathlib.Omega.{arith}
 use borrow.Author.Tests.{eq-eqb, ne_eqb}
 use lib.Bits.{bit_or, bit_xor, or_add_and, xor_add_and, and_le_l, and_le_r}
-use lib.ListN.{drop}
+use Rattle.codec.specs.Codec.{Codec}
 use Rattle.codec.specs.Parts.{absent}
 use Rattle.codec.specs.Places.{places}
 use Rattle.grammar.specs.Grammar.{identity, no_identity, extension}
 use Rattle.grammar.specs.declared.record.Identity.{Identity}
-use Rattle.words.specs.RecordWords.{entries_from, identity_from}
-use Rattle.tally.specs.Tally.{Tallies}
-use Rattle.tally.specs.Inner.{Fits, Plain, Alike}
+use Rattle.words.specs.RecordWords.{entries_from}
+use Rattle.tally.specs.Tally.{nothing, Tallies}
+use Rattle.tally.specs.Inner.{Fits, Plain, Wide, Alike}
 use Rattle.tally.specs.declared.Tally.{Tally}
 use Rattle.tally.proofs.Parts.{first-zero, legal, then, shape}
 use Rattle.tally.proofs.Entries.{Tallying, tallying-start, tallying-next}
@@ -59,18 +59,35 @@ plain t (suc zero) {e} few h =
     (rw (eq-eqb e.present 1 h.same) (legal 24 _ h.extension)))))
 plain t (suc (suc p)) few h = absurd (omega arith)
 
-module _ {n p from : ℕ} {words : List ℕ} {start : Tally} (few : n ≤ 8) (alike : Alike n p from words)
-    (fits : Fits (places identity no_identity 8 n) (entries_from identity_from 3 8 (drop from words)) start) where
+-- so an identity is legal, of so many bits
+pub plain-wide : (p : ℕ) {e : Identity} → p ≤ 1 → Plain p e → Wide identity (25 + 24 * p) e
+plain-wide p few h =
+    let t = plain nothing p few h in
+    record { legal = record { clean = sym t.clean; faultless = sym t.refusal }; size = omega (arith, t.bits) }
+
+-- ---- entries of so many bits each
+
+wide-tallied : {A : Type 0} {c : Codec A} {width : ℕ} {a : A} (t : Tally) → Wide c width a → Tallies c a t (further t width)
+wide-tallied t h = record {
+  clean = rw (h.legal.clean, and-true);
+  refusal = rw (h.legal.faultless) (sym (first-zero t.refusal));
+  bits = omega (arith, h.size);
+}
+
+module _ {A : Type 0} {c : Codec A} (z : Codec A) {f : List ℕ → A} {k n width : ℕ} {words : List ℕ} {start : Tally} (few : n ≤ 8)
+    (alike : Alike c f k n width words) (fits : Fits (places c z 8 n) (entries_from f k 8 words) start) where
   -- so many are counted, with so many bits
   abbrev pub Counted : ℕ → ℕ → Type 0
-  Counted i size =
-      Tallying identity no_identity identity_from 3 8 n words from start i (record { clean = start.clean; refusal = start.refusal; bits = size })
+  Counted i size = Tallying c z f k 8 n words start i (record { clean = start.clean; refusal = start.refusal; bits = size })
 
   moved : {i j a b : ℕ} → i ≡ j → a ≡ b → Counted i a → Counted j b
   moved {i} {j} {a} {b} p r h = subst (λ (k : ℕ). Counted k b) p (subst (λ (k : ℕ). Counted i k) r h)
 
-  pub alike-counted : (i : ℕ) → i ≤ n → Counted i (start.bits + (25 + 24 * p) * i)
-  alike-counted zero h = moved refl (omega (arith, mul-zero (25 + 24 * p))) (tallying-start fits)
+  pub alike-counted : (i : ℕ) → i ≤ n → Counted i (start.bits + width * i)
+  alike-counted zero h = moved refl (omega (arith, mul-zero width)) (tallying-start fits)
   alike-counted (suc i) h =
-      moved (omega arith) (omega (arith, mul-suc (25 + 24 * p) i))
-      (tallying-next (alike-counted i (omega arith)) (omega arith) few (plain _ p alike.bit (alike.each i (omega arith))))
+      moved (omega arith) (omega (arith, mul-suc width i))
+      (tallying-next (alike-counted i (omega arith)) (omega arith) few (wide-tallied _ (alike.each i (omega arith))))
+
+  pub alike-fit : start.bits + width * n ≤ 4096
+  alike-fit = let h = (alike-counted n (omega arith)).fits in omega (arith, h.short)

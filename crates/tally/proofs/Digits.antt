@@ -4,8 +4,8 @@ use mathlib.Core.Bool.{Bool, true, false, ◌&&◌}
 use mathlib.Core.List.{List, [], ◌∷◌, ◌++◌}
 use Prim.Native.Nat.{ℕ, zero, suc, ◌+◌, ◌-◌, ◌*◌, ◌≤◌, min}
 use native.Mathlib.Omega.{arith}
-use lib.ListN.{length, take, drop, length-append, length-drop}
-use lib.Seq.{take-nil, drop-nil, take-add, take-take, drop_at, drop-drop, length-take-le}
+use lib.ListN.{length, take, drop, length-append}
+use lib.Seq.{take-nil, drop-nil, take-add, take-take, drop_at, length-take-le}
 use lib.Dec.{leb, ltb}
 use borrow.Author.Tests.{leb-true, lt-ltb}
 use Rattle.bits.specs.Bits.{pick, bits_of}
@@ -79,37 +79,30 @@ module _ where
 
 -- ---- 24 of them among words
 
-module _ (w : List ℕ) (n from used : ℕ) (room : from + 24 ≤ length w) (few : used ≡ min n 24) where
-  full : length (take 24 (drop from w)) ≡ 24
-  full = length-take-le 24 (drop from w) (omega (arith, length-drop from w))
+module _ (w : List ℕ) (n used : ℕ) (room : 24 ≤ length w) (few : used ≡ min n 24) where
+  full : length (take 24 w) ≡ 24
+  full = length-take-le 24 w room
 
-  early : take n (take 24 (drop from w)) ≡ take used (drop from w)
-  early =
-      let l : List ℕ = take 24 (drop from w) in
-      sym (take_min n l) ∙ ap (λ (k : ℕ). take k l) (ap (min n) full ∙ sym few) ∙ take-take used 24 (drop from w) (omega arith)
+  early : take n (take 24 w) ≡ take used w
+  early = sym (take_min n (take 24 w)) ∙ ap (λ (k : ℕ). take k (take 24 w)) (ap (min n) full ∙ sym few) ∙ take-take used 24 w (omega arith)
 
-  late : drop n (take 24 (drop from w)) ≡ take (24 - used) (drop (from + used) w)
+  late : drop n (take 24 w) ≡ take (24 - used) (drop used w)
   late =
-      let l : List ℕ = take 24 (drop from w) in
       let all : 24 ≡ used + (24 - used) = omega arith in
-      let two : l ≡ take used (drop from w) ++ take (24 - used) (drop used (drop from w)) =
-      ap (λ (k : ℕ). take k (drop from w)) all ∙ take-add used (24 - used) (drop from w)
-      in
-      sym (drop_min n l) ∙ ap (λ (k : ℕ). drop k l) (ap (min n) full ∙ sym few)
+      let two : take 24 w ≡ take used w ++ take (24 - used) (drop used w) = ap (λ (k : ℕ). take k w) all ∙ take-add used (24 - used) w in
+      sym (drop_min n (take 24 w)) ∙ ap (λ (k : ℕ). drop k (take 24 w)) (ap (min n) full ∙ sym few)
       ∙ ap (drop used) two
-      ∙ drop_at (take used (drop from w)) (take (24 - used) (drop used (drop from w))) used
-      (length-take-le used (drop from w) (omega (arith, length-drop from w)))
-      ∙ ap (take (24 - used)) (drop-drop used from w)
+      ∙ drop_at (take used w) (take (24 - used) (drop used w)) used (length-take-le used w (omega arith))
 
-  pub digits-fit : {t : Tally} → Fits (places (element 4 digit_refusal) absent 24 n) (narrowed (take 24 (drop from w))) t → t.bits + 4 * used ≤ 4096
-  digits-fit h = omega (arith, h.short, digits-size 24 n (take 24 (drop from w)) full)
+  pub digits-fit : {t : Tally} → Fits (places (element 4 digit_refusal) absent 24 n) (narrowed (take 24 w)) t → t.bits + 4 * used ≤ 4096
+  digits-fit h = omega (arith, h.short, digits-size 24 n (take 24 w) full)
 
-  pub digits_tallied : {clean legal : Bool} {t r : Tally} → legal ≡ none_above 12 (take used (drop from w)) → clean ≡ none_above 0
-      (take (24 - used) (drop (from + used) w))
+  pub digits_tallied : {clean legal : Bool} {t r : Tally} → legal ≡ none_above 12 (take used w) → clean ≡ none_above 0
+      (take (24 - used) (drop used w))
       → r.clean ≡ t.clean && clean → r.refusal ≡ first t.refusal (pick legal 0 3) → r.bits ≡ t.bits + 4 * used
-      → Tallies (places (element 4 digit_refusal) absent 24 n) (narrowed (take 24 (drop from w))) t r
+      → Tallies (places (element 4 digit_refusal) absent 24 n) (narrowed (take 24 w)) t r
   digits_tallied {clean} {legal} {t} hl hc rc rr rb =
-      let l : List ℕ = take 24 (drop from w) in
+      let l : List ℕ = take 24 w in
       let fault : pick legal 0 3 ≡ (places (element 4 digit_refusal) absent 24 n).fault (narrowed l) =
       ap (λ (b : Bool). pick b 0 3) (hl ∙ ap (none_above 12) (sym early)) ∙ sym (digits-fault 24 n l full)
       in

@@ -4,4 +4,5 @@ pub mod Narrow
 pub mod Alike
 pub mod Digits
 pub mod Unused
+pub mod Listed
 pub mod Words

@@ -1,5 +1,5 @@
 // What elements come to: one that the PDU carries, and words that it does not.
-ghost use Rattle.std.specs.Prelude.{◌≡◌, ◌&&◌, ◌+◌, ◌≤◌, length, take, drop};
+ghost use Rattle.std.specs.Prelude.{◌≡◌, ◌&&◌, ◌+◌, ◌≤◌};
 ghost use Rattle.bits.specs.Bits.{pick};
 ghost use Rattle.codec.specs.Codec.{first};
 ghost use Rattle.codec.specs.Parts.{number_fault, element};
@@ -57,12 +57,11 @@ impl Tally {
         }
     }
 
-    // So many words from a place on that the PDU does not carry.
-    pub(crate) fn unused(self, words: &[u32], from: usize, count: usize) -> Tally
-        requires { from + count ≤ length words.now }
-        ensures { Skips (take count (drop from words.now)) self result }
+    // Words that the PDU does not carry.
+    pub(crate) fn unused(self, words: &[u32]) -> Tally
+        ensures { Skips words.now self result }
     {
-        let zero = none_above(&words[from..from + count], 0);
+        let zero = none_above(words, 0);
         Tally {
             clean: self.clean && zero,
             ..self

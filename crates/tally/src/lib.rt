@@ -2,24 +2,24 @@
 // carry is zero, the first refusal, and the length of the PDU.
 #![tactic(auto)]
 
+mod counted;
 mod elements;
-mod entry;
 mod identities;
 mod lists;
 mod numbers;
 mod services;
 
-ghost use Rattle.std.specs.Prelude.{◌≡◌, length, drop};
+ghost use Rattle.std.specs.Prelude.{◌≡◌, length};
 ghost use Rattle.grammar.specs.Grammar.{rest_of, from_record, pdu};
-ghost use Rattle.grammar.specs.Rows.{users_if, services_if, figures_of, width_of};
-ghost use Rattle.words.specs.RecordWords.{identities_from, services_from, record_from};
+ghost use Rattle.grammar.specs.Rows.{figures_of, width_of};
+ghost use Rattle.words.specs.RecordWords.{record_from};
 ghost use Rattle.tally.specs.Tally.{nothing, Tallies, TalliesWords};
 ghost use Rattle.tally.specs.Inner.{Fits};
 
 use elements::first_refusal;
 use grammar::figures::{figures_clean, figures_refusal, form_of, part_in};
-use grammar::record::Figures;
-use grammar::site::{ListKind, PduType, SS_TYPE, kind_refusal, pdu_type};
+use grammar::record::{Figures, Identities, Services};
+use grammar::site::{PduType, SS_TYPE, kind_refusal, pdu_type};
 use words::record::{RECORD_WORDS, figures_from};
 
 // What the parts so far come to: all is zero that must be, the first refusal number or 0, and the length in bits.
@@ -32,17 +32,6 @@ pub struct Tally {
 }
 
 impl Tally {
-    // Affected users, where the PDU has them.
-    fn users(self, carried: bool, words: &[u32]) -> Tally
-        requires { (length words.now ≡ 520) × Fits (users_if carried) (identities_from (drop 1 words.now)) self }
-        ensures { Tallies (users_if carried) (identities_from (drop 1 words.now)) self result }
-    {
-        if carried {
-            return self.identities(ListKind::Users, words, 1);
-        }
-        self.unused(words, 1, 25)
-    }
-
     // The figures of a type, so many bits of them.
     fn figures(self, kind: Option<PduType>, width: usize, figures: Figures) -> Tally
         requires { (width ≡ width_of kind) × Fits (figures_of kind) figures self }
@@ -56,17 +45,6 @@ impl Tally {
         }
     }
 
-    // Services, where the PDU has them.
-    fn services_if(self, carried: bool, words: &[u32]) -> Tally
-        requires { (length words.now ≡ 520) × Fits (services_if carried) (services_from (drop 29 words.now)) self }
-        ensures { Tallies (services_if carried) (services_from (drop 29 words.now)) self result }
-    {
-        if carried {
-            return self.services(words, 29);
-        }
-        self.unused(words, 29, 8)
-    }
-
     // What follows the PDU type: the row of its table.
     fn rest(self, kind: Option<PduType>, words: &[u32]) -> Tally
         requires { (length words.now ≡ 520) × Fits (rest_of kind) (from_record (record_from words.now)).1 self }
@@ -74,10 +52,10 @@ impl Tally {
     {
         let form = form_of(kind);
         let figures = figures_from(words);
-        let after_users = self.users(form.users, words);
+        let after_users = self.part_if::<Identities>(form.users, &words[1..]);
         let after_figures = after_users.figures(kind, form.width, figures);
-        let after_services = after_figures.services_if(form.services, words);
-        after_services.part(part_in(kind, figures), words, 37)
+        let after_services = after_figures.part_if::<Services>(form.services, &words[29..]);
+        after_services.part(part_in(kind, figures), &words[37..])
     }
 }
 

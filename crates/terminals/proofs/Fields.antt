@@ -12,6 +12,8 @@ use Rattle.bits.specs.Bits.{guard}
 use Rattle.bits.proofs.Tests.{both, never}
 use Rattle.terminals.specs.Layers.{layer_at}
 use Rattle.terminals.specs.Profiles.{is_among, is_value, takes, fields_refusal}
+use Rattle.terminals.specs.declared.Refusal.{Refusal}
+use Rattle.terminals.specs.declared.Refusal.TheVariants.{BadValue, SurplusField}
 use Rattle.terminals.specs.declared.layers.Layer.{Layer}
 use Rattle.terminals.specs.declared.lines.Fields.{Fields}
 
@@ -30,7 +32,9 @@ settled f = go (leb f.profile 3) refl (leb f.layer 4) refl (is_value (layer_at f
   where
     go : (p : Bool) → leb f.profile 3 ≡ p → (l : Bool) → leb f.layer 4 ≡ l → (v : Bool) → is_value (layer_at f.layer) f.third ≡ v
         → (t : Bool) → takes (layer_at f.layer) f.third ≡ t → (o : Bool) → f.fourth ≡ o
-        → guard {A = Result (Unit {0}) ℕ} p (Err 16) (guard l (Err 16) (guard v (Err 16) (guard t (Err 17) (guard (not o) (Err 17) (Ok tt))))) ≡ Ok tt
+        → guard {A = Result (Unit {0}) Refusal} p (Err BadValue)
+        (guard l (Err BadValue) (guard v (Err BadValue) (guard t (Err SurplusField) (guard (not o) (Err SurplusField) (Ok tt)))))
+        ≡ Ok tt
         → Settled f
     go true ep true el true ev true et false eo e = record {
       profile = leb-true f.profile 3 ep;

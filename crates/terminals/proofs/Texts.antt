@@ -15,6 +15,7 @@ use Rattle.text.proofs.Decimals.{length-item}
 use Rattle.terminals.specs.Layers.{layer_at, values, places, nowhere}
 use Rattle.terminals.specs.Reading.{comma, line_end, lead, place_text, line_text, lines_text, led, text_of}
 use Rattle.terminals.specs.Answers.{read_is, read_out}
+use Rattle.terminals.specs.declared.Refusal.TheVariants.{NoRoom}
 use Rattle.terminals.specs.declared.layers.Place.{Place}
 
 pub length-places : length places ≡ 269
@@ -23,7 +24,8 @@ length-places = refl
 
 module _ (t : List ℕ) (i : ℕ) (whole : length t ≡ 269) where
   pub lines_next : i < 269
-      → lines_text (drop i places) (drop i t) ≡ line_text (get_or t i 0) (get_or places i nowhere) ++ lines_text (drop (i + 1) places) (drop (i + 1) t)
+      → lines_text (drop i places) (drop i t)
+      ≡ line_text (get_or t i 0) (get_or places i nowhere) ++ lines_text (drop (i + 1) places) (drop (i + 1) t)
   unfolding lines_text
   lines_next h =
       let p : i < length places = omega (arith, length-places) in
@@ -87,7 +89,7 @@ module _ (t out : List ℕ) where
   unfolding read_is read_out
   read_none e = let k = le-leb 0 (length out) (omega arith) in (rw (e, k), rw (e, k))
 
-  pub read_short : length out < length (text_of t) → (Err 8 ≡ read_is t (length out)) × (out ≡ read_out t out)
+  pub read_short : length out < length (text_of t) → (Err NoRoom ≡ read_is t (length out)) × (out ≡ read_out t out)
   unfolding read_is read_out
   read_short h = let k = lt-leb (length (text_of t)) (length out) h in (rw k, rw k)
 

@@ -7,13 +7,16 @@ use Rattle.terminals.specs.Lines.{fields_of, ends_at, next_field, last_from, thi
 use Rattle.terminals.specs.Profiles.{are_profiles, is_table, reset_is, reset_out, fields_refusal, names, set_in, settles, set_line}
 use Rattle.terminals.specs.Reading.{place_text, line_text, lines_text, text_of}
 use Rattle.terminals.specs.Answers.{read_is, read_out, line_is, table_after, out_after}
+use Rattle.terminals.specs.Refusals.{refusal_number}
+use Rattle.terminals.specs.declared.Refusal.{Refusal}
+use Rattle.terminals.specs.declared.Refusal.TheVariants.{NoRoom, NoTable}
 use Rattle.terminals.specs.declared.lines.Line.TheVariants.{Read, Set}
 
 -- `unfolding calls` opens all that a line's answer is made of
 unfoldable pub calls : Unit {0}
 unfolding digits decimal is_digit run number_from field_of field_at layer_at values places ends_at next_field last_from third_from set_from line_of
-    are_profiles is_table reset_is reset_out fields_refusal names set_in settles set_line item place_text line_text lines_text text_of read_is read_out line_is
-    table_after out_after
+    are_profiles is_table reset_is reset_out fields_refusal names set_in settles set_line item place_text line_text lines_text text_of
+    read_is read_out line_is table_after out_after
 calls = tt
 
 -- every place at "both"
@@ -108,9 +111,9 @@ test_form = refl
 -- ---- refusals: 16 for a value, then 17, on either side of each limit
 
 -- the number of a line's answer, 0 for a success
-abbrev numbered : Result ℕ ℕ → ℕ
+abbrev numbered : Result ℕ Refusal → ℕ
 numbered (Ok n) = 0
-numbered (Err k) = k
+numbered (Err refusal) = refusal_number refusal
 
 -- on a fresh table, with no room to write
 abbrev answer : List ℕ → ℕ
@@ -192,7 +195,7 @@ tables : numbered (line_is [] (replicate 268 2) 0) ∷ numbered (line_is [] (rep
 unfolding calls
 tables = refl
 
-reset-lengths : reset_is 268 ∷ reset_is 269 ∷ reset_is 270 ∷ [] ≡ Err 9 ∷ Ok tt ∷ Err 9 ∷ []
+reset-lengths : reset_is 268 ∷ reset_is 269 ∷ reset_is 270 ∷ [] ≡ Err NoTable ∷ Ok tt ∷ Err NoTable ∷ []
 unfolding calls
 reset-lengths = refl
 
@@ -253,7 +256,7 @@ text-some = refl
 
 -- 28 bytes are enough, 27 are not and stay as they were
 room-some : line_is (65 ∷ 84 ∷ 43 ∷ 67 ∷ 84 ∷ 83 ∷ 80 ∷ 63 ∷ 13 ∷ []) some 28 ∷ line_is (65 ∷ 84 ∷ 43 ∷ 67 ∷ 84 ∷ 83 ∷ 80 ∷ 63 ∷ 13 ∷ []) some 27 ∷ []
-    ≡ Ok 28 ∷ Err 8 ∷ []
+    ≡ Ok 28 ∷ Err NoRoom ∷ []
 unfolding calls
 room-some = refl
 

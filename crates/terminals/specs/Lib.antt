@@ -1,3 +1,4 @@
+pub mod Refusals
 pub mod Layers
 pub mod Lines
 pub mod Profiles

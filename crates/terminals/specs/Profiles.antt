@@ -1,8 +1,11 @@
 -- The table, a byte with a profile for each place; the default; and what a set line changes (document 02, request 2026-10).
-use Rattle.std.specs.Prelude.{Bool, true, false, not, ◌&&◌, List, [], ◌∷◌, Option, Some, None, is_some, Result, Ok, Err, is_ok, ℕ, ◌+◌, length, replicate, eqb, leb, ltb}
+use Rattle.std.specs.Prelude.{Bool, true, false, not, ◌&&◌, List, [], ◌∷◌, Option, Some, None, is_some, Result, Ok, Err, is_ok}
+use Rattle.std.specs.Prelude.{ℕ, ◌+◌, length, replicate, eqb, leb, ltb}
 use Rattle.std.specs.List.{list_all}
 use Rattle.bits.specs.Bits.{pick, guard}
 use Rattle.terminals.specs.Layers.{layer_at, places}
+use Rattle.terminals.specs.declared.Refusal.{Refusal}
+use Rattle.terminals.specs.declared.Refusal.TheVariants.{NoTable, BadValue, SurplusField}
 use Rattle.terminals.specs.declared.layers.Layer.{Layer}
 use Rattle.terminals.specs.declared.layers.Place.{Place}
 use Rattle.terminals.specs.declared.lines.Fields.{Fields}
@@ -21,10 +24,10 @@ is_table t = eqb (length t) 269 && are_profiles t
 abbrev pub both : ℕ
 both = 2
 
--- ---- reset: 9 for a table of another length
+-- ---- reset: refused for a table of another length
 
-unfoldable pub reset_is : ℕ → Result (Unit {0}) ℕ
-reset_is n = guard (eqb n 269) (Err 9) (Ok tt)
+unfoldable pub reset_is : ℕ → Result (Unit {0}) Refusal
+reset_is n = guard (eqb n 269) (Err NoTable) (Ok tt)
 
 unfoldable pub reset_out : List ℕ → List ℕ
 reset_out t = guard (eqb (length t) 269) t (replicate 269 both)
@@ -46,14 +49,14 @@ abbrev pub takes : Layer → Option ℕ → Bool
 takes row None = true
 takes row (Some t) = is_some row.first
 
--- 16 for a value of one of the first three fields, then 17 for a third field that its layer does not take, or for any fourth
-unfoldable pub fields_refusal : Fields → Result (Unit {0}) ℕ
+-- BadValue for a value of one of the first three fields, then SurplusField for a third field that its layer does not take, or for any fourth
+unfoldable pub fields_refusal : Fields → Result (Unit {0}) Refusal
 fields_refusal f =
-    guard (leb f.profile 3) (Err 16)
-    (guard (leb f.layer 4) (Err 16)
-    (guard (is_value (layer_at f.layer) f.third) (Err 16)
-    (guard (takes (layer_at f.layer) f.third) (Err 17)
-    (guard (not f.fourth) (Err 17) (Ok tt)))))
+    guard (leb f.profile 3) (Err BadValue)
+    (guard (leb f.layer 4) (Err BadValue)
+    (guard (is_value (layer_at f.layer) f.third) (Err BadValue)
+    (guard (takes (layer_at f.layer) f.third) (Err SurplusField)
+    (guard (not f.fourth) (Err SurplusField) (Ok tt)))))
 
 -- without a third field a line names all places of its layer, otherwise the one of that value
 abbrev pub names_third : Option ℕ → Option ℕ → Bool
@@ -71,11 +74,11 @@ set_in f (p ∷ ps) [] = []
 set_in f (p ∷ ps) (v ∷ t) = pick (names f p) f.profile v ∷ set_in f ps t
 
 -- a set line that is not refused writes no text
-abbrev pub without_text : Result (Unit {0}) ℕ → Result ℕ ℕ
+abbrev pub without_text : Result (Unit {0}) Refusal → Result ℕ Refusal
 without_text (Ok done) = Ok 0
-without_text (Err k) = Err k
+without_text (Err refusal) = Err refusal
 
-unfoldable pub settles : Fields → Result ℕ ℕ
+unfoldable pub settles : Fields → Result ℕ Refusal
 settles f = without_text (fields_refusal f)
 
 -- a refused line changes no place

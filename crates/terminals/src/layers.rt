@@ -1,13 +1,10 @@
 // The service layers 1 and their places in the table (EN 300 392-5, clauses 6.17.28, 6.17.40 and 6.17.41).
-ghost use Rattle.std.specs.Prelude.{◌≡◌, ◌<◌, get_or};
+ghost use Rattle.std.specs.Prelude.{◌≡◌, ◌<◌, ◌≤◌, get_or};
 ghost use Rattle.terminals.specs.Layers.{layer_at, places, nowhere};
 ghost use Rattle.terminals.specs.Inner.{Has};
 
 // How many places all layers have.
 pub(crate) const PLACES: usize = 269;
-
-// The highest layer. Layers stay numbers: a line may say any, and the text writes them.
-pub(crate) const PACKET_DATA: usize = 4;
 
 // A layer: its places stand in the table from `start` on, `count` of them; if it takes a third field, the values from `first` on name them.
 #[derive(Clone, Copy)]
@@ -17,6 +14,38 @@ pub struct Layer {
     pub first: Option<usize>,
 }
 
+// CC, MM, SDS, SDS-TL and Packet Data. Layers stay numbers: a line may say any, and the text writes them.
+const LAYERS: [Layer; 5] = [
+    Layer {
+        start: 0,
+        count: 2,
+        first: Some(0),
+    },
+    Layer {
+        start: 2,
+        count: 5,
+        first: Some(10),
+    },
+    Layer {
+        start: 7,
+        count: 5,
+        first: Some(20),
+    },
+    Layer {
+        start: 12,
+        count: 256,
+        first: Some(0),
+    },
+    Layer {
+        start: 268,
+        count: 1,
+        first: None,
+    },
+];
+
+// The highest layer.
+pub(crate) const PACKET_DATA: usize = 4;
+
 // A place: its layer, and the third field that names it, service layer 2 or PID.
 #[derive(Clone, Copy)]
 pub struct Place {
@@ -24,43 +53,12 @@ pub struct Place {
     pub third: Option<usize>,
 }
 
-// CC, MM, SDS, SDS-TL and Packet Data; no other layer has a place.
-#[tactic(auto, unfolding(crate::specs::Layers::layer_at))]
+// A layer, by its number.
 pub(crate) fn layer_of(layer: usize) -> Layer
+    requires { layer ≤ 4 }
     ensures { result ≡ layer_at layer }
 {
-    match layer {
-        0 => Layer {
-            start: 0,
-            count: 2,
-            first: Some(0),
-        },
-        1 => Layer {
-            start: 2,
-            count: 5,
-            first: Some(10),
-        },
-        2 => Layer {
-            start: 7,
-            count: 5,
-            first: Some(20),
-        },
-        3 => Layer {
-            start: 12,
-            count: 256,
-            first: Some(0),
-        },
-        4 => Layer {
-            start: 268,
-            count: 1,
-            first: None,
-        },
-        _ => Layer {
-            start: 0,
-            count: 0,
-            first: None,
-        },
-    }
+    LAYERS[layer]
 }
 
 // The layer that has a place.

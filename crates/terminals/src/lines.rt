@@ -25,10 +25,8 @@ const SET: &[u8] = b"AT+CTSP=";
 
 const END: &[u8] = b"\r";
 
-// Most digits of a field, and the place of the first field.
+// Most digits of a field.
 const DIGITS: usize = 3;
-
-const FIRST: usize = 8;
 
 // Whether a CR stands at a place, and nothing after it.
 #[tactic(auto, using(crate::proofs::Bytes::end_over), unfolding(crate::specs::Lines::ends_at))]
@@ -80,7 +78,7 @@ fn third_from(line: &[u8], profile: usize, layer: usize, at: usize) -> Option<Fi
 fn set_from(line: &[u8]) -> Option<Fields>
     ensures { result ≡ set_from line.now }
 {
-    let (profile, profile_end) = text::field_at(line, FIRST, DIGITS)?;
+    let (profile, profile_end) = text::field_at(line, SET.len(), DIGITS)?;
     let (layer, layer_end) = next_field(line, profile_end)?;
     if ends_at(line, layer_end) {
         return Some(Fields {

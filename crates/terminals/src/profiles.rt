@@ -4,8 +4,8 @@ ghost use Rattle.std.specs.List.{list_all};
 ghost use Rattle.terminals.specs.Layers.{places};
 ghost use Rattle.terminals.specs.Profiles.{is_table, is_value, takes, fields_refusal, set_in};
 
-use crate::layers;
-use crate::layers::{Layer, PACKET_DATA, PLACES};
+use crate::Refusal;
+use crate::layers::{Layer, PACKET_DATA, PLACES, layer_of};
 use crate::lines::Fields;
 
 // The profile "both", and the highest one. Profiles stay bytes: C lends the table.
@@ -43,18 +43,20 @@ fn takes_third(row: Layer, third: Option<usize>) -> bool
     third.is_none() || row.first.is_some()
 }
 
-// Refuses a set line's fields by a number, or lets them pass.
+// Refuses a set line's fields, or lets them pass.
 #[tactic(auto, unfolding(crate::specs::Profiles::fields_refusal))]
-pub(crate) fn refusal(fields: Fields) -> Result<(), u32>
+pub(crate) fn refusal(fields: Fields) -> Result<(), Refusal>
     ensures { result ≡ fields_refusal fields }
 {
-    let row = layers::layer_of(fields.layer);
-    let known = fields.profile <= NEITHER as usize && fields.layer <= PACKET_DATA;
-    if !known || !is_value(row, fields.third) {
-        return Err(16);
+    if fields.profile > NEITHER as usize || fields.layer > PACKET_DATA {
+        return Err(Refusal::BadValue);
+    }
+    let row = layer_of(fields.layer);
+    if !is_value(row, fields.third) {
+        return Err(Refusal::BadValue);
     }
     if !takes_third(row, fields.third) || fields.fourth {
-        return Err(17);
+        return Err(Refusal::SurplusField);
     }
     Ok(())
 }
@@ -64,7 +66,7 @@ pub(crate) fn store(fields: Fields, table: &mut [u8])
     requires { (fields_refusal fields ≡ Ok tt) × (length table.old ≡ 269) }
     ensures { table.new ≡ set_in fields places table.old }
 {
-    let row = layers::layer_of(fields.layer);
+    let row = layer_of(fields.layer);
     let profile = fields.profile as u8;
     // Only a layer with values is given one, since the fields were not refused.
     match (row.first, fields.third) {

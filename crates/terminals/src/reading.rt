@@ -1,54 +1,47 @@
-// The text of the read form: the places off the default, rising, each on a line.
+// The text of the read form: the places off the default, rising, each on a line. What writes a part of it returns the place after that part,
+// which is laid where there is room for it.
 ghost use Rattle.std.specs.Prelude.{◌≡◌, ◌+◌, ◌≤◌, ◌<◌, length};
 ghost use Rattle.bits.specs.Inner.{Laid};
-ghost use Rattle.text.specs.Decimal.{item};
 ghost use Rattle.terminals.specs.Layers.{places};
 ghost use Rattle.terminals.specs.Reading.{place_text, line_text, lines_text, text_of};
 
 use crate::layers;
 use crate::layers::Place;
 use crate::profiles::BOTH;
+use text::write_item;
 
-// Bytes of `+CTSP: `.
-pub(crate) const LEAD: usize = 7;
+// What stands before the first line.
+pub(crate) const LEAD: &[u8] = b"+CTSP: ";
 
-// Writes a number and what stands after it; returns the place after both. Not in `text`, since a public function asks for no room.
-fn write_item(out: &mut [u8], at: usize, n: usize, word: &[u8]) -> usize
-    requires { at + length (item n word.now) ≤ length out.old }
-    ensures { Laid out.old at (item n word.now) out.new result }
+// Writes the layer and the third field of a place, and ends the line.
+fn write_place(out: &mut [u8], at: usize, place: Place) -> usize
+    ensures { at + length (place_text place.layer place.third) ≤ length out.old
+        → Laid out.old at (place_text place.layer place.third) out.new result }
 {
-    let word_at = text::write_number(out, at, n);
-    text::append(out, word_at, word)
-}
-
-// Writes a layer and a third field, and ends the line.
-fn write_place(out: &mut [u8], at: usize, layer: usize, third: Option<usize>) -> usize
-    requires { at + length (place_text layer third) ≤ length out.old }
-    ensures { Laid out.old at (place_text layer third) out.new result }
-{
-    let Some(value) = third else {
-        return write_item(out, at, layer, b"\r\n");
+    let Some(value) = place.third else {
+        return write_item(out, at, place.layer, b"\r\n");
     };
-    let value_at = write_item(out, at, layer, b",");
+    let value_at = write_item(out, at, place.layer, b",");
     write_item(out, value_at, value, b"\r\n")
 }
 
 // Writes the line of a place, if it is off the default.
 fn write_line(out: &mut [u8], at: usize, profile: u8, place: Place) -> usize
-    requires { at + length (line_text profile place) ≤ length out.old }
-    ensures { Laid out.old at (line_text profile place) out.new result }
+    ensures { at + length (line_text profile place) ≤ length out.old
+        → Laid out.old at (line_text profile place) out.new result }
 {
     if profile == BOTH {
         return at;
     }
     let layer_at = write_item(out, at, profile as usize, b",");
-    write_place(out, layer_at, place.layer, place.third)
+    write_place(out, layer_at, place)
 }
 
 // Writes the lines of all places.
 fn write_lines(table: &[u8], out: &mut [u8], start: usize) -> usize
-    requires { (length table.now ≡ 269) × (start + length (lines_text places table.now) ≤ length out.old) }
-    ensures { Laid out.old start (lines_text places table.now) out.new result }
+    requires { length table.now ≡ 269 }
+    ensures { start + length (lines_text places table.now) ≤ length out.old
+        → Laid out.old start (lines_text places table.now) out.new result }
 {
     let mut at = start;
     for (index, profile) in table.iter().enumerate() {
@@ -83,12 +76,11 @@ pub(crate) fn lines_length(table: &[u8]) -> usize
     size
 }
 
-// Writes the whole text, if there is one; there is room for it.
+// Writes the whole text, if there is one.
 pub(crate) fn write_text(table: &[u8], out: &mut [u8]) -> usize
-    requires table_len { (length table.now ≡ 269) × (0 < length (lines_text places table.now)) }
-    requires table_in_bounds { length (text_of table.now) ≤ length out.old }
-    ensures { Laid out.old 0 (text_of table.now) out.new result }
+    requires { (length table.now ≡ 269) × (0 < length (lines_text places table.now)) }
+    ensures { 0 + length (text_of table.now) ≤ length out.old → Laid out.old 0 (text_of table.now) out.new result }
 {
-    let at = text::append(out, 0, b"+CTSP: ");
+    let at = text::append(out, 0, LEAD);
     write_lines(table, out, at)
 }

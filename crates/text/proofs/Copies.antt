@@ -12,6 +12,7 @@ use lib.ListN.{length, take, drop, length-append}
 use lib.Seq.{take-add, drop-drop, length-take-le}
 use Rattle.bits.specs.Bits.{splice}
 use Rattle.bits.specs.Inner.{Laid}
+use Rattle.bits.proofs.Laying.{then, first_fits, rest-fits}
 use Rattle.bits.proofs.Lists.{length_part}
 use Rattle.bits.proofs.Splices.{splice_at}
 use Rattle.text.specs.Laying.{end_at, laid_at}
@@ -62,3 +63,12 @@ module _ {out s : List ℕ} {at : ℕ} where
 pub no_room : (out s : List ℕ) (at : ℕ) → leb (at + length s) (length out) ≡ false → (at ≡ end_at (length out) at s) × (out ≡ laid_at out at s)
 unfolding end_at laid_at
 no_room out s at t = (rw t refl, rw t refl)
+
+-- what a writer leaves: the bytes, where there is room for them
+abbrev pub Fitted : List ℕ → ℕ → List ℕ → List ℕ → ℕ → Type 0
+Fitted out at s out' end = at + length s ≤ length out → Laid out at s out' end
+
+-- one writer after the other
+pub and_then : {out out' out'' s t : List ℕ} {at m end : ℕ} → Fitted out at s out' m → Fitted out' m t out'' end → Fitted out at (s ++ t) out'' end
+and_then {s = s} {t = t} {at = at} x y h =
+    let l = x (first_fits s t at h) in then (omega (arith, h, length-append s t)) l (y (rest-fits t h l))

@@ -1,7 +1,7 @@
 -- A number's digits: the last one after those of its tenth, and how many there are. Assumes nothing.
 use mathlib.Core.Path.{◌≡◌, refl, ap, ◌∙◌}
 use mathlib.Core.Bool.{Bool, true, false}
-use mathlib.Core.List.{List, [], ◌∷◌, ◌++◌}
+use mathlib.Core.List.{List, [], ◌∷◌, ◌++◌, append-nil}
 use Prim.Native.Nat.{ℕ, zero, suc, max, ◌+◌, ◌*◌, ◌/◌, ◌%◌, ◌^◌, ◌≤◌, ◌<◌}
 use native.Mathlib.Omega.{arith}
 use native.Mathlib.Nat.{pow-suc, pow-le-pow_right, zero-lt-suc}
@@ -90,7 +90,8 @@ digits-padded (suc k) n h = go (ltb n 10) refl (digits-padded k (n / 10) (omega 
     go true e l = ap (λ (d : ℕ). digit d ∷ []) {x = n} {y = n % 10} (let h = ltb-true n 10 e in omega arith)
     go false e {s} l =
         ap (λ (x : List ℕ). x ++ (digit (n % 10) ∷ [])) l
-        ∙ ap (λ (m : ℕ). padded m n) {x = suc (length s)} {y = length (s ++ (digit (n % 10) ∷ []))} (omega (arith, length-append s (digit (n % 10) ∷ [])))
+        ∙ ap (λ (m : ℕ). padded m n) {x = suc (length s)} {y = length (s ++ (digit (n % 10) ∷ []))}
+        (omega (arith, length-append s (digit (n % 10) ∷ [])))
 
 pub decimal-padded : (n : ℕ) → n < 10 ^ 20 → decimal n ≡ padded (length (decimal n)) n
 unfolding decimal
@@ -99,3 +100,8 @@ decimal-padded n h = digits-padded 19 n h
 pub length-item : (n : ℕ) (word : List ℕ) → length (item n word) ≡ length (decimal n) + length word
 unfolding item
 length-item n word = length-append (decimal n) word
+
+-- with nothing after it
+pub item_alone : (n : ℕ) → item n [] ≡ decimal n
+unfolding item
+item_alone n = append-nil (decimal n)

@@ -6,7 +6,7 @@ ghost use Rattle.std.specs.List.{take_while};
 ghost use Rattle.std.specs.Char.{is_ascii_digit};
 ghost use Rattle.bits.specs.Inner.{Laid};
 ghost use Rattle.text.specs.Laying.{end_at, laid_at};
-ghost use Rattle.text.specs.Decimal.{decimal};
+ghost use Rattle.text.specs.Decimal.{decimal, item};
 ghost use Rattle.text.specs.Field.{run, number_of, field_at};
 
 // Whether so many bytes have room from a place on.
@@ -16,8 +16,8 @@ fn has_room(room: usize, at: usize, size: usize) -> bool
     at <= room && size <= room - at
 }
 
-// Copies bytes to their place within the lent buffer. Returns the place after them. Where there is no room for all of them, this and
-// `write_number` write nothing and return the place that was given.
+// Copies bytes to their place within the lent buffer. Returns the place after them. Where there is no room for all of them, this and the
+// other writers write nothing and return the place that was given.
 pub fn append(out: &mut [u8], at: usize, bytes: &[u8]) -> usize
     ensures value { result ≡ end_at (length out.old) at bytes.now }
     ensures out_after { out.new ≡ laid_at out.old at bytes.now }
@@ -52,16 +52,28 @@ fn write_digits(out: &mut [u8], at: usize, end: usize, n: usize) -> usize
     end
 }
 
+// Writes a number in decimal and what stands after it; returns the place after both.
+pub fn write_item(out: &mut [u8], at: usize, n: usize, word: &[u8]) -> usize
+    ensures value { result ≡ end_at (length out.old) at (item n word.now) }
+    ensures out_after { out.new ≡ laid_at out.old at (item n word.now) }
+    ensures laid { at + length (item n word.now) ≤ length out.old
+        → Laid out.old at (item n word.now) out.new result }
+{
+    let size = digits_of(n);
+    if !has_room(out.len(), at, size + word.len()) {
+        return at;
+    }
+    let word_at = write_digits(out, at, at + size, n);
+    append(out, word_at, word)
+}
+
 // Writes a number in decimal at a place; returns the place after it.
+#[tactic(auto, using(crate::proofs::Decimals::item_alone))]
 pub fn write_number(out: &mut [u8], at: usize, n: usize) -> usize
     ensures value { result ≡ end_at (length out.old) at (decimal n) }
     ensures out_after { out.new ≡ laid_at out.old at (decimal n) }
 {
-    let size = digits_of(n);
-    if !has_room(out.len(), at, size) {
-        return at;
-    }
-    write_digits(out, at, at + size, n)
+    write_item(out, at, n, b"")
 }
 
 // How many digits stand first.

@@ -14,8 +14,8 @@ use Rattle.bits.specs.Element.{window_at}
 use Rattle.bits.proofs.Lists.{take_min}
 use Rattle.bits.proofs.Windows.{window_lt}
 use Rattle.codec.specs.Codec.{Codec}
-use Rattle.codec.specs.Parts.{number, element}
-use Rattle.codec.specs.Reading.{Found, got, and_next, read_at}
+use Rattle.codec.specs.Parts.{number, element, seq}
+use Rattle.codec.specs.Reading.{Found, got, read_at}
 use Rattle.codec.proofs.Onward.{element-got}
 use Rattle.codec.proofs.Windows.{number_in_window}
 use Rattle.walk.specs.Inner.{Reached, pass, steps, passing, Ends, Finds}
@@ -88,17 +88,14 @@ in-front s at w k size some e =
     ∙ ap (λ (j : ℕ). window_at s at / 2 ^ j % 2 ^ w) rest)
 
 -- an element, and what it says
-pub coded-ends : {B C : Type 0} (codec : Codec C) (w : ℕ) (refuse : ℕ → ℕ) (d : ℕ → Codec B) (g : ℕ → B → C) {s : List ℕ} {at v m end : ℕ}
-    → ((l : List Bool) (at : ℕ) → read_at codec l at ≡ and_next (read_at (element w refuse) l at)
-    (λ a p. and_next (read_at (d a) l p) (λ b q. got (g a b) q)))
-    → Holds s at w v → refuse v ≡ 0 → Ends (pass (d v)) s (at + w) m end → Ends (pass codec) s at (w + m) end
-coded-ends codec w refuse d g {s} {at} {v} shape holds legal r = record {
+pub coded-ends : {B : Type 0} (w : ℕ) (refuse : ℕ → ℕ) (d : ℕ → Codec B) {s : List ℕ} {at v m end : ℕ}
+    → Holds s at w v → refuse v ≡ 0 → Ends (pass (d v)) s (at + w) m end → Ends (pass (seq (element w refuse) d)) s at (w + m) end
+coded-ends w refuse d {s} {at} {v} holds legal r = record {
   after = omega (arith, r.after);
   near = omega (arith, r.near);
   there = λ n few i.
       let l : List Bool = bits_in n s in
-      pass-then codec l at (read_at (element w refuse) l at) d g (shape l at)
-      (element-got w refuse l at v (at + w) (holds n (omega (arith, r.after))) legal)
+      pass-then (element w refuse) d l at (element-got w refuse l at v (at + w) (holds n (omega (arith, r.after))) legal)
       ∙ r.there n few i;
 }
 

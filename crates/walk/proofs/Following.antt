@@ -24,12 +24,13 @@ use Rattle.grammar.specs.Rows.{form_of, part_in, figures_of, users_of, width_of,
 use Rattle.grammar.specs.declared.site.PduType.{PduType}
 use Rattle.grammar.specs.declared.record.Figures.{Figures}
 use Rattle.grammar.proofs.Rows.{no-lists, narrow, figures_seen}
-use Rattle.grammar.proofs.Steps.{services-at, no_services-at, no_part-at}
+use Rattle.grammar.proofs.Steps.{no_services-at, no_part-at}
 use Rattle.walk.specs.Inner.{pass, passing, services_in, result_from, result_behind, result_in, Ends, Finds}
-use Rattle.walk.proofs.Passes.{past, pass-places}
+use Rattle.walk.proofs.Passes.{past}
+use Rattle.walk.proofs.Lists.{pass-services}
 use Rattle.walk.proofs.Results.{pdu-result}
-use Rattle.walk.proofs.Aheads.{ends_as, Holds, in_window, in-front, coded-ends, row_ends}
-use Rattle.walk.proofs.Sights.{within}
+use Rattle.walk.proofs.Aheads.{ends_as, Holds, in_window, in-front, row_ends}
+use Rattle.walk.proofs.Sights.{within, counted-ends}
 
 -- ---- services
 
@@ -37,8 +38,7 @@ services-end : {s : List ℕ} {at count list : ℕ} → Holds s at 3 count → c
     → passing service_refusal 3 7 list ≡ true → Ends (pass services) s at (3 + 3 * count) (at + 3 + 3 * count)
 services-end {count = count} holds legal listed passes =
     let c = within 7 count legal in
-    coded-ends services 3 count_refusal (places (element 3 service_refusal) absent 7) _ services-at holds legal
-    (ends_as (λ l r. pass-places (element 3 service_refusal) absent 0 l (read_at-absent l) 7 count r c.1) (omega arith)
+    ends_as pass-services (omega arith) (counted-ends 3 7 (element 3 service_refusal) holds legal
     (row_ends service_refusal 3 count 7 (omega arith) c.0 c.1 refl listed passes))
 
 -- behind k bits of a window

@@ -1,4 +1,5 @@
 pub mod Passes
+pub mod Lists
 pub mod Ranges
 pub mod Results
 pub mod Numbers
@@ -7,5 +8,4 @@ pub mod Ending
 pub mod Rows
 pub mod Aheads
 pub mod Sights
-pub mod Empties
 pub mod Following

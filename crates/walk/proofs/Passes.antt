@@ -2,16 +2,18 @@
 use Rattle.std.specs.Prelude.{Ok, Err}
 use mathlib.Core.Path.{◌≡◌, refl, sym, ap, ◌∙◌}
 use mathlib.Core.List.{List, ◌∷◌}
-use mathlib.Core.Bool.{Bool}
+use mathlib.Core.Bool.{Bool, true, false}
 use Prim.Native.Nat.{ℕ, zero, suc, ◌+◌, ◌-◌, ◌≤◌, ◌<◌}
 use native.Mathlib.Omega.{arith}
+use Rattle.bits.specs.Bits.{pick}
+use Rattle.bits.specs.declared.Cursor.{Cursor}
 use Rattle.codec.specs.Codec.{Codec}
-use Rattle.codec.specs.Parts.{tested}
+use Rattle.codec.specs.Parts.{seq, shaped, tested}
 use Rattle.codec.specs.Places.{nil, cons, places}
-use Rattle.codec.specs.Reading.{Found, got, refused, and_next, unless_at, read_at, reached}
+use Rattle.codec.specs.Reading.{Found, got, refused, and_next, unless_at, read_at, said, reached}
 use Rattle.codec.specs.declared.Stop.{Stop}
-use Rattle.codec.proofs.Reading.{read_at-nil, read_at-cons, read_at-tested}
-use Rattle.codec.proofs.Onward.{goes-past}
+use Rattle.codec.proofs.Reading.{read_at-seq, read_at-shaped, read_at-nil, read_at-cons, read_at-tested}
+use Rattle.codec.proofs.Onward.{ends, goes-past}
 use Rattle.walk.specs.Inner.{Reached, pass, steps}
 
 -- ---- where reading stands
@@ -35,14 +37,25 @@ made : {A B : Type 0} (o : Found A) (f : A → B) → reached (and_next o (λ a 
 made (got a p) f = refl
 made (refused n p) f = refl
 
--- a part whose reading is that of f, and then of one that is made into a value: a was read by f
-pub pass-then : {A B C : Type 0} (c : Codec C) (l : List Bool) (at : ℕ) (f : Found A) (d : A → Codec B) (g : A → B → C)
-    → read_at c l at ≡ and_next f (λ a p. and_next (read_at (d a) l p) (λ b q. got (g a b) q))
-    → {a : A} {q : ℕ} → f ≡ got a q → pass c l (Ok (record { at = at })) ≡ pass (d a) l (Ok (record { at = q }))
+-- a part in another shape
+pub pass-shaped : {A B : Type 0} (c : Codec A) (to : A → B) (from : B → A) (there : (a : A) → c.clean a ≡ true → c.fault a ≡ 0 → from (to a) ≡ a)
+    (back : (b : B) → to (from b) ≡ b) (l : List Bool) (r : Reached) → pass (shaped c to from there back) l r ≡ pass c l r
 unfolding pass
-pass-then {C = C} c l at f d g e {a} {q} h =
-    ap reached (e ∙ ap (λ o. and_next {B = C} o (λ a p. and_next (read_at (d a) l p) (λ b q. got (g a b) q))) h)
-    ∙ made (read_at (d a) l q) (g a)
+pass-shaped c to from there back l (Ok p) = ap reached (read_at-shaped c to from there back l p.at) ∙ made (read_at c l p.at) to
+pass-shaped c to from there back l (Err e) = refl
+
+-- one part after another of which a was read
+pub pass-then : {A B : Type 0} (c : Codec A) (d : A → Codec B) (l : List Bool) (at : ℕ) {a : A} {q : ℕ} → read_at c l at ≡ got a q
+    → pass (seq c d) l (Ok (record { at = at })) ≡ pass (d a) l (Ok (record { at = q }))
+unfolding pass
+pass-then {A} {B} c d l at {a} {q} h =
+    ap reached (read_at-seq c d l at ∙ ap (λ o. and_next {B = A × B} o (λ a p. and_next (read_at (d a) l p) (λ b q. got (a, b) q))) h)
+    ∙ made (read_at (d a) l q) (λ b. (a, b))
+
+-- and of which nothing was
+pub ends-before : {A B : Type 0} (c : Codec A) (d : A → Codec B) (l : List Bool) (at : ℕ) {e : Stop} → Err e ≡ said (read_at c l at)
+    → Err e ≡ reached (read_at (seq c d) l at)
+ends-before c d l at h = ap reached (sym (read_at-seq c d l at ∙ ends _ _ h))
 
 -- a part whose reading is that of c, of d, and of what is made of both
 pub pass-both : {A B C : Type 0} (e : Codec C) (c : Codec A) (d : Codec B) (g : A → B → C) (l : List Bool) (r : Reached)
@@ -88,6 +101,12 @@ pub pass-nothing : {A : Type 0} (z : Codec A) (x : A) (l : List Bool) → ((at :
 unfolding pass
 pass-nothing z x l none (Ok p) = ap reached (none p.at)
 pass-nothing z x l none (Err e) = refl
+
+-- what is there, or not
+pub carried : {A : Type 0} (c z : Codec A) (b : Bool) {x : A} (l : List Bool) (at : Cursor) → read_at z l at.at ≡ got x at.at
+    → pick b (reached (read_at c l at.at)) (Ok at) ≡ reached (read_at (pick b c z) l at.at)
+carried c z true l at none = refl
+carried c z false l at none = ap reached (sym none)
 
 -- ---- places
 

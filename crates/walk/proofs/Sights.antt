@@ -1,4 +1,5 @@
 -- Where the parts of a PDU end, as the windows at their places say. Assumes nothing.
+use Rattle.std.specs.Prelude.{Ok}
 use mathlib.Core.Path.{◌≡◌, refl, sym, ap, ◌∙◌, subst}
 use mathlib.Core.Bool.{Bool, true, false, ◌&&◌}
 use mathlib.Core.List.{List}
@@ -15,22 +16,24 @@ use Rattle.bits.proofs.Tests.{both, picked}
 use Rattle.bits.proofs.Bytes.{length-bits}
 use Rattle.bits.proofs.Numbers.{value-take-fits}
 use Rattle.bits.proofs.Windows.{window-part}
+use Rattle.codec.specs.Codec.{Codec}
 use Rattle.codec.specs.Parts.{absent, element}
 use Rattle.codec.specs.Places.{places}
 use Rattle.codec.specs.Reading.{got, read_at, reached}
 use Rattle.codec.proofs.Reading.{read_at-absent}
-use Rattle.grammar.specs.SiteSheet.{entries_of, range_refusal, digit_refusal, all_digits, length_refusal, between}
-use Rattle.grammar.specs.Grammar.{identity, no_identity, zero_identity, ends_refusal, identities, external, no_external}
-use Rattle.grammar.specs.Grammar.{externals}
+use Rattle.grammar.specs.SiteSheet.{entries_of, range_type, range_refusal, digit_refusal, all_digits, length_refusal, between}
+use Rattle.grammar.specs.Grammar.{identity, no_identity, zero_identity, ends_refusal, external, no_external}
 use Rattle.grammar.specs.Zero.{zero_number}
 use Rattle.grammar.specs.declared.record.Identity.{Identity}
 use Rattle.grammar.specs.declared.site.ListKind.{ListKind}
 use Rattle.grammar.specs.declared.site.ListKind.TheVariants as of
 use Rattle.grammar.proofs.Codes.{entries_of_le, single, not-single, above-nine, not-nine}
-use Rattle.grammar.proofs.Steps.{no_identity-at, no_external-at, identities-at, external-at, externals-at}
+use Rattle.grammar.proofs.Steps.{no_identity-at, no_external-at}
 use Rattle.grammar.proofs.Windows as window
-use Rattle.walk.specs.Inner.{Reached, pass, steps, range, coded, identity_in, Ends}
-use Rattle.walk.proofs.Passes.{pass-at, pass-untested, pass-places, steps-count}
+use Rattle.walk.specs.Inner.{Reached, pass, steps, range, coded, numbers, listed, lists, counted, identity_in, Ends, Empty}
+use Rattle.walk.specs.Entries.{no_identities_empty}
+use Rattle.walk.proofs.Passes.{pass-at, pass-untested, pass-places, pass-nothing, steps-count}
+use Rattle.walk.proofs.Lists.{pass-external}
 use Rattle.walk.proofs.Ranges.{range-by-place}
 use Rattle.walk.proofs.Rows.{all-passing, steps_add}
 use Rattle.walk.proofs.Aheads.{ends_as, ends-then, Holds, in_window, in-front, coded-ends, row_ends}
@@ -87,7 +90,7 @@ range-ends {s} {at} {p} {a} {b} ea ep eb agree =
     }
 
 -- single entries
-coded-single : (code : ℕ) (l : List Bool) (r : Reached) → (code ≡ 9 → ⊥) → pass (coded code) l r ≡ steps (pass identity l) (entries_of code) r
+pub coded-single : (code : ℕ) (l : List Bool) (r : Reached) → (code ≡ 9 → ⊥) → pass (coded code) l r ≡ steps (pass identity l) (entries_of code) r
 unfolding coded
 coded-single code l r h =
     pass-untested _ _ _ _ _ (not-nine code h) ∙ pass-places identity no_identity zero_identity _ (no_identity-at _) 8 _ _ (entries_of_le code)
@@ -110,11 +113,47 @@ legal-code list code = at_most 9 code (above-nine list code)
 pub single-code : (code : ℕ) → range_refusal of.Numbers code ≡ 0 → code ≤ 8
 single-code code = at_most 8 code (not-single code)
 
-pub list-ends : (list : ListKind) {s : List ℕ} {at code m end : ℕ} → Holds s at 4 code → range_refusal list code ≡ 0
-    → Ends (pass (coded code)) s (at + 4) m end
-    → Ends (pass (identities list)) s at (4 + m) end
-unfolding coded
-list-ends list = coded-ends (identities list) 4 (range_refusal list) coded _ (λ l at. identities-at l at list)
+-- what may stand before affected users may stand before identities
+pub users-code : (code : ℕ) → range_refusal of.Users code ≡ 0 → range_refusal of.Identities code ≡ 0
+unfolding range_refusal range_type
+users-code code e = go (leb code 8) refl
+  where
+    go : (b : Bool) → leb code 8 ≡ b → range_refusal of.Identities code ≡ 0
+    go true h = (single code (leb-true code 8 h)).0
+    go false h =
+        let nine : code ≡ 9 = omega (arith, leb-false code 8 h, legal-code of.Users code e) in
+        ap (range_refusal of.Identities) nine
+
+-- a list, by the entries that its range type says
+pub list-ends : {A : Type 0} (list : ListKind) (entries : ℕ → Codec (List A)) {s : List ℕ} {at code m end : ℕ} → Holds s at 4 code
+    → range_refusal list code ≡ 0 → Ends (pass (entries code)) s (at + 4) m end → Ends (pass (listed list entries)) s at (4 + m) end
+unfolding listed
+list-ends list entries = coded-ends 4 (range_refusal list) entries
+
+-- one of none
+pub empty-list : {A : Type 0} {list : ListKind} {entries : ℕ → Codec (List A)} → Empty list entries → {s : List ℕ} {at code most : ℕ} → Holds s at 4 code
+    → code ≡ 0 → 4 ≤ most → Ends (pass (listed list entries)) s at most (at + 4)
+empty-list {list = list} {entries} none {s} {at} holds e room =
+    ends_as (λ l r. refl) room (list-ends list entries {m = 0} holds (ap (range_refusal list) e ∙ none.legal) (record {
+      after = omega arith;
+      near = omega arith;
+      there = λ n few i.
+          let l : List Bool = bits_in n s in
+          let here : Reached = Ok (record { at = at + 4 }) in
+          ap (λ (code : ℕ). pass (entries code) l here) e ∙ pass-nothing (entries 0) none.value l (none.read l) here;
+    }))
+
+-- three whose range types, in one window, are 0
+pub empty-lists : {A : Type 0} {list : ListKind} {entries : ℕ → Codec (List A)} → Empty list entries → {s : List ℕ} {at most : ℕ}
+    → window_at s at / 2 ^ 45 ≡ 0 → 12 ≤ most → Ends (lists list entries) s at most (at + 12)
+unfolding lists
+empty-lists none {s} {at} e room =
+    let place : at + 4 + 4 + 4 ≡ at + 12 = omega arith in
+    subst (Ends (lists _ _) s at _) place
+    (ends_as (λ l r. refl) room (ends-then (ends-then
+    (empty-list no_identities_empty {most = 4} (in_window s at 0 4 at (omega arith) (omega arith) (omega arith) (omega (arith, e))) refl (omega arith))
+    (empty-list none {most = 4} (in_window s at 4 4 (at + 4) refl (omega arith) (omega arith) (omega (arith, e))) refl (omega arith)))
+    (empty-list none {most = 4} (in_window s at 8 4 (at + 4 + 4) (omega arith) (omega arith) (omega arith) (omega (arith, e))) refl (omega arith))))
 
 -- ---- external numbers
 
@@ -127,11 +166,17 @@ digits_are : (s : List ℕ) (at k size : ℕ) {v : ℕ} → 1 ≤ k → k ≤ 16
     → Ends (λ l. steps (pass (element 4 digit_refusal) l) k) s at size (at + size)
 digits_are s at k size {v} one few e holds legal = row_ends digit_refusal 4 k 16 (omega arith) one few e holds (all-passing 16 v ∙ legal)
 
+-- a count, and as many elements
+pub counted-ends : (width most : ℕ) (c : Codec ℕ) {s : List ℕ} {at count m end : ℕ} → Holds s at width count → between 1 most count ≡ 0
+    → Ends (λ l. steps (pass c l) count) s (at + width) m end → Ends (pass (counted width most c)) s at (width + m) end
+unfolding counted
+counted-ends width most c {count = count} holds legal r =
+    coded-ends width (between 1 most) (places c absent most) holds legal
+    (ends_as (λ l r. pass-places c absent 0 l (read_at-absent l) most count r (within most count legal).1) (omega arith) r)
+
 number-ends : {s : List ℕ} {at count end m : ℕ} → Holds s at 5 count → length_refusal count ≡ 0
     → Ends (λ l. steps (pass (element 4 digit_refusal) l) count) s (at + 5) m end → Ends (pass external) s at (5 + m) end
-number-ends {count = count} holds legal r =
-    coded-ends external 5 length_refusal (places (element 4 digit_refusal) absent 24) _ external-at holds legal
-    (ends_as (λ l r. pass-places (element 4 digit_refusal) absent 0 l (read_at-absent l) 24 count r (within 24 count legal).1) (omega arith) r)
+number-ends holds legal r = ends_as pass-external (omega arith) (counted-ends 5 24 (element 4 digit_refusal) holds legal r)
 
 module _ {s : List ℕ} {at count size : ℕ} (is : count ≡ window_at s at / 2 ^ 52) (counted : length_refusal count ≡ 0) (all : size ≡ 4 * count) where
   pub external-few : count ≤ 13 → all_digits 16 (window_at s at % 2 ^ 52 / 2 ^ (52 - size)) ≡ true → Ends (pass external) s at 4097 (at + 5 + size)
@@ -165,9 +210,11 @@ module _ {s : List ℕ} {at count size : ℕ} (is : count ≡ window_at s at / 2
       subst (Ends (pass external) s at 4097) place
       (ends_as (λ l r. refl) (omega arith) (number-ends (in-front s at 5 52 refl (omega arith) is) counted digits))
 
-pub externals-end : {s : List ℕ} {at code m end : ℕ} → Holds s at 4 code → range_refusal of.Numbers code ≡ 0
-    → Ends (λ l. steps (pass external l) code) s (at + 4) m end → Ends (pass externals) s at (4 + m) end
-externals-end {code = code} holds legal r =
-    coded-ends externals 4 (range_refusal of.Numbers) (λ code. places external no_external 8 (entries_of code)) _ externals-at holds legal
-    (ends_as (λ l r. pass-places external no_external zero_number l (no_external-at l) 8 (entries_of code) r (entries_of_le code)
-    ∙ steps-count _ r (single code (single-code code legal)).2) (omega arith) r)
+pub numbers-each : (code : ℕ) (l : List Bool) (r : Reached) → pass (numbers code) l r ≡ steps (pass external l) (entries_of code) r
+unfolding numbers
+numbers-each code l r = pass-places external no_external zero_number l (no_external-at l) 8 (entries_of code) r (entries_of_le code)
+
+pub numbers_end : (code : ℕ) {s : List ℕ} {at m end : ℕ} → range_refusal of.Numbers code ≡ 0 → Ends (λ l. steps (pass external l) code) s at m end
+    → Ends (pass (numbers code)) s at m end
+numbers_end code legal =
+    ends_as (λ l r. numbers-each code l r ∙ steps-count _ r (single code (single-code code legal)).2) (omega arith)

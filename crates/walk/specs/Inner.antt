@@ -5,15 +5,18 @@ use Rattle.bits.specs.Frame.{bits_in}
 use Rattle.bits.specs.Element.{window_at}
 use Rattle.bits.specs.declared.Cursor.{Cursor}
 use Rattle.codec.specs.Codec.{Codec}
-use Rattle.codec.specs.Parts.{element, tested}
+use Rattle.codec.specs.Parts.{absent, element, seq, tested}
 use Rattle.codec.specs.Places.{places}
 use Rattle.codec.specs.Reading.{Found, got, and_next, read_at, reached}
 use Rattle.codec.specs.declared.Stop.{Stop}
-use Rattle.grammar.specs.SiteSheet.{entries_of, count_refusal, service_refusal, definition_refusal, pdu_type, defined_part}
-use Rattle.grammar.specs.Grammar.{identity, no_identity, zero_identity, range_ends, second_end, part_of, pdu}
+use Rattle.grammar.specs.SiteSheet.{entries_of, range_refusal, between, count_refusal, service_refusal, definition_refusal, pdu_type, defined_part}
+use Rattle.grammar.specs.Grammar.{identity, no_identity, zero_identity, external, no_external, range_ends, second_end, part_of, pdu}
 use Rattle.grammar.specs.Rows.{form_of, part_in, figures_of, users_of, services_of}
 use Rattle.grammar.specs.declared.site.PduType.{PduType}
+use Rattle.grammar.specs.declared.site.ListKind.{ListKind}
+use Rattle.grammar.specs.declared.site.ListKind.TheVariants as of
 use Rattle.grammar.specs.declared.record.Identity.{Identity}
+use Rattle.grammar.specs.declared.record.Number.{Number}
 use Rattle.grammar.specs.declared.record.Figures.{Figures}
 use Rattle.walk.specs.Walk.{refusing}
 use Rattle.walk.specs.declared.Head.{Head}
@@ -42,6 +45,28 @@ steps f (suc k) r = steps f k (f r)
 -- the identities that a range type says
 unfoldable pub coded : ℕ → Codec (List Identity)
 coded code = tested (places identity no_identity 8 (entries_of code)) (range_ends code) second_end
+
+-- the external numbers that a range type says
+unfoldable pub numbers : ℕ → Codec (List Number)
+numbers code = places external no_external 8 (entries_of code)
+
+-- a list: its range type, and the entries that it says
+unfoldable pub listed : {A : Type 0} → ListKind → (ℕ → Codec (List A)) → Codec (ℕ × List A)
+listed list entries = seq (element 4 (range_refusal list)) entries
+
+-- the lists of a part: one of identities, and two of such entries
+unfoldable pub lists : {A : Type 0} → ListKind → (ℕ → Codec (List A)) → List Bool → Reached → Reached
+lists list entries l r = pass (listed list entries) l (pass (listed list entries) l (pass (listed of.Identities coded) l r))
+
+-- range type 0 stands before no entries
+pub record Empty {A : Type 0} (list : ListKind) (entries : ℕ → Codec (List A)) : Type 0 where
+  pub legal : range_refusal list 0 ≡ 0
+  pub value : List A
+  pub read : (l : List Bool) (at : ℕ) → read_at (entries 0) l at ≡ got value at
+
+-- a number from 1 on, and as many elements
+unfoldable pub counted : ℕ → ℕ → Codec ℕ → Codec (ℕ × List ℕ)
+counted width most c = seq (element width (between 1 most)) (places c absent most)
 
 -- the two ends of a range, under their rule
 unfoldable pub range : Codec (List Identity)

@@ -1,3 +1,4 @@
 pub mod Walk
 pub mod Inner
+pub mod Entries
 pub mod Examples

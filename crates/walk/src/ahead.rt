@@ -4,186 +4,67 @@ ghost use Rattle.std.specs.Prelude.{◌≡◌, ◌+◌, ◌*◌, ◌^◌, ◌≤
 ghost use Rattle.bits.specs.Bits.{bits};
 ghost use Rattle.bits.specs.Element.{window_at};
 ghost use Rattle.grammar.specs.SiteSheet.{service_refusal};
-ghost use Rattle.grammar.specs.Grammar.{identity, identities, external, externals, part_of};
+ghost use Rattle.grammar.specs.Grammar.{part_of};
 ghost use Rattle.grammar.specs.Rows.{form_of, users_if};
-ghost use Rattle.grammar.specs.declared.site.ListKind.TheVariants as of;
-ghost use Rattle.walk.specs.Inner.{pass, steps, range, coded, passing, services_in, result_from, result_behind, result_in, Ends, Finds};
+ghost use Rattle.walk.specs.Inner.{pass, steps, listed, lists, passing, services_in, result_from, result_behind, result_in, Ends, Finds};
 
-use bits::DigitCount;
+use crate::entry::{Entry, Listed};
 use grammar::figures::Form;
+use grammar::record::{Identity, Number};
 use grammar::site::{ListKind, PduType, SS_TYPE};
 use grammar::{figures, site};
 
 // So far beyond its start that no PDU has it, a part ends that is not legal.
-const BEYOND: usize = 4097;
+pub(crate) const BEYOND: usize = 4097;
 
-// So many single entries, whatever they are: of each only the present bit matters, and it says where the next begins.
-fn mixed_ahead(s: &[u8], start: usize, count: u32) -> usize
-    requires { (start ≤ 1000000) × (count ≤ 8) }
-    ensures { Ends (λ l. steps (pass identity l) count) s.now start 392 result }
+// So many entries, whatever they are.
+pub(crate) fn mixed<E: Entry>(s: &[u8], start: usize, count: u32) -> usize
+    requires { (start ≤ 800000) × (count ≤ 8) }
+    ensures { Ends (λ l. steps (pass E.part l) count) s.now start 32776 result }
 {
     let mut at = start;
     for _ in 0..count {
-        at = at + 25 + 24 * bits::bit_at(s, at + 24);
+        at = E::end(s, at);
     }
     at
 }
 
-// So many single entries; several first as if all had the first one's present bit, as in most lists: then no place waits for the bit before it.
-fn entries_ahead(s: &[u8], start: usize, count: u32) -> usize
-    requires { (start ≤ 1000000) × (count ≤ 8) }
-    ensures { Ends (λ l. steps (pass identity l) count) s.now start 392 result }
-{
-    if count < 2 {
-        return mixed_ahead(s, start, count);
-    }
-    let present = bits::bit_at(s, start + 24);
-    let width = 25 + 24 * present;
-    let mut at = start + width;
-    let mut other: usize = 0;
-    for _ in 1..count {
-        other += (bits::bit_at(s, at + 24) + present) % 2;
-        at += width;
-    }
-    if other != 0 {
-        return mixed_ahead(s, start, count);
-    }
-    at
-}
-
-// The two ends of a range.
-fn range_ahead(s: &[u8], start: usize) -> usize
-    requires { start ≤ 1000000 }
-    ensures { Ends (pass range) s.now start 4097 result }
-{
-    let first = crate::identity_in(bits::window(s, start));
-    let second = start + 25 + 24 * (first.present as usize);
-    let last = crate::identity_in(bits::window(s, second));
-    if site::ends_refusal(first, last) != 0 {
-        return start + BEYOND;
-    }
-    second + 25 + 24 * (last.present as usize)
-}
-
-// The identities that follow a range type.
-fn coded_ahead(s: &[u8], start: usize, code: u32) -> usize
-    requires { (start ≤ 1000000) × (code ≤ 9) }
-    ensures { Ends (pass (coded code)) s.now start 4097 result }
-{
-    if code == 9 {
-        return range_ahead(s, start);
-    }
-    entries_ahead(s, start, code)
-}
-
-// A range type and its identities; that there are none is seen first.
-fn list_ahead(s: &[u8], start: usize) -> usize
-    requires { start ≤ 900000 }
-    ensures { Ends (pass (identities of.Identities)) s.now start 4101 result }
-{
-    let code = (bits::window(s, start) >> 53u32) as u32;
-    if code == 0 {
-        return start + 4;
-    }
-    if site::range_refusal(ListKind::Identities, code) != 0 {
-        return start + BEYOND;
-    }
-    coded_ahead(s, start + 4, code)
-}
-
-// An external number: its length and up to 13 digits in one window, the others in the next.
-fn external_ahead(s: &[u8], start: usize) -> usize
-    requires { start ≤ 900000 }
-    ensures { Ends (pass external) s.now start 4097 result }
-{
-    let window = bits::window(s, start);
-    let count = (window >> 52u32) as usize;
-    if site::between_refusal(1, 24, count as u32) != 0 {
-        return start + BEYOND;
-    }
-    let size = DigitCount(count as u8).bits().0;
-    let front = window % 4503599627370496;
-    if count <= 13 {
-        if site::are_digits(front >> (52 - size)) {
-            return start + 5 + size;
-        }
-        return start + BEYOND;
-    }
-    if !site::are_digits(front) {
-        return start + BEYOND;
-    }
-    if site::are_digits(bits::window(s, start + 57) >> (109 - size)) {
-        return start + 5 + size;
-    }
-    start + BEYOND
-}
-
-// So many external numbers, of whatever lengths.
-fn mixed_numbers_ahead(s: &[u8], start: usize, count: u32) -> usize
-    requires { (start ≤ 800000) × (count ≤ 8) }
-    ensures { Ends (λ l. steps (pass external l) count) s.now start 32776 result }
-{
-    let mut at = start;
-    for _ in 0..count {
-        at = external_ahead(s, at);
-    }
-    at
-}
-
-// So many external numbers; several first as if all were as long as the first: then no place waits for the length before it.
-fn numbers_ahead(s: &[u8], start: usize, count: u32) -> usize
-    requires { (start ≤ 800000) × (count ≤ 8) }
-    ensures { Ends (λ l. steps (pass external l) count) s.now start 32776 result }
-{
-    if count < 2 {
-        return mixed_numbers_ahead(s, start, count);
-    }
-    let mut at = external_ahead(s, start);
-    let width = at - start;
-    for _ in 1..count {
-        let end = at + width;
-        if external_ahead(s, at) != end {
-            return mixed_numbers_ahead(s, start, count);
-        }
-        at = end;
-    }
-    at
-}
-
-// A range type and its external numbers; that there are none is seen first.
-fn externals_ahead(s: &[u8], start: usize) -> usize
+// A range type and its entries; that there are none is seen first.
+fn list_ahead<E: Listed>(s: &[u8], start: usize) -> usize
     requires { start ≤ 700000 }
-    ensures { Ends (pass externals) s.now start 32780 result }
+    ensures { Ends (pass (listed E.LIST E.entries)) s.now start 32780 result }
 {
     let code = (bits::window(s, start) >> 53u32) as u32;
     if code == 0 {
         return start + 4;
     }
-    if site::range_refusal(ListKind::Numbers, code) != 0 {
+    if site::range_refusal(E::LIST, code) != 0 {
         return start + BEYOND;
     }
-    numbers_ahead(s, start + 4, code)
+    E::entries_end(s, start + 4, code)
 }
 
-// The lists of a part; that all three are empty is seen first, in one window.
-fn part_ahead(s: &[u8], start: usize, part: u32) -> usize
-    requires { start ≤ 100000 }
-    ensures { Ends (pass (part_of part)) s.now start 69661 result }
+// The three lists of a part, of which the first has identities; that all are empty is seen first, in one window.
+fn lists_ahead<E: Listed>(s: &[u8], start: usize) -> usize
+    requires { start ≤ 600000 }
+    ensures { Ends (lists E.LIST E.entries) s.now start 98340 result }
 {
-    let codes = bits::window(s, start) >> 45u32;
-    if part == 1 {
-        if codes == 0 {
-            return start + 12;
-        }
-        return list_ahead(s, list_ahead(s, list_ahead(s, start)));
+    if bits::window(s, start) >> 45u32 == 0 {
+        return start + 12;
     }
-    if part == 2 {
-        if codes == 0 {
-            return start + 12;
-        }
-        return externals_ahead(s, externals_ahead(s, list_ahead(s, start)));
+    list_ahead::<E>(s, list_ahead::<E>(s, list_ahead::<Identity>(s, start)))
+}
+
+// The lists that follow.
+fn part_ahead(s: &[u8], start: usize, part: u32) -> usize
+    requires { start ≤ 600000 }
+    ensures { Ends (pass (part_of part)) s.now start 98340 result }
+{
+    match part {
+        1 => lists_ahead::<Identity>(s, start),
+        2 => lists_ahead::<Number>(s, start),
+        _ => start,
     }
-    start
 }
 
 // The interrogation result, and where the PDU ends if all of it is there and legal. It is no Option: parts that are refused end beyond, so
@@ -217,7 +98,7 @@ fn services_in(run: u64) -> usize
 }
 
 fn beyond(start: usize) -> Ahead
-    requires { start ≤ 10000 }
+    requires { start ≤ 500000 }
     ensures { result ≡ record { result = 0; end = start + 4097 } }
 {
     Ahead {
@@ -229,24 +110,24 @@ fn beyond(start: usize) -> Ahead
 // The affected users, where the PDU has them: their range type stands in its first window. One user, as in an archive, is seen first.
 fn users_ahead(s: &[u8], first: u64, users: bool) -> usize
     requires { first ≡ window_at s.now 0 }
-    ensures { Ends (pass (users_if users)) s.now 11 4101 result }
+    ensures { Ends (pass (users_if users)) s.now 11 32780 result }
 {
     if !users {
         return 11;
     }
     let code = ((first >> 42u32) % 16) as u32;
     if code == 1 {
-        return mixed_ahead(s, 15, 1);
+        return Identity::end(s, 15);
     }
     if site::range_refusal(ListKind::Users, code) != 0 {
         return 11 + BEYOND;
     }
-    coded_ahead(s, 15, code)
+    Identity::entries_end(s, 15, code)
 }
 
 // What follows the affected users: figures and services stand in one window.
 fn rest_ahead(s: &[u8], start: usize, kind: Option<PduType>, form: Form) -> Ahead
-    requires { (start ≤ 10000) × (form ≡ form_of kind) }
+    requires { (start ≤ 500000) × (form ≡ form_of kind) }
     ensures { Finds (λ l. result_from kind l start) s.now start result.result result.end }
 {
     let window = bits::window(s, start);
@@ -309,7 +190,7 @@ pub(crate) fn short_ahead(s: &[u8]) -> Ahead
     pdu_ahead(&held)
 }
 
-// Fewer than eight bytes in eight.
+// Fewer than eight bytes in eight. Beside the one of `bits`, which asks for a length and so is none of its public functions.
 fn in_eight(s: &[u8]) -> [u8; 8]
     requires { length s.now < 8 }
     ensures { take (8 * length s.now) (bits result) ≡ bits s.now }

@@ -1,19 +1,22 @@
 // The exact walk, element by element, left to right: each function goes on from a cursor and gives the one behind its part,
 // and the first refusal ends it, with its number and the bit place of the element at fault.
 ghost use Rattle.std.specs.Prelude.{◌≡◌, ◌≤◌, ℕ, Ok, Err, Some};
+ghost use Rattle.bits.specs.Bits.{pick};
 ghost use Rattle.bits.specs.declared.Cursor.{Cursor};
+ghost use Rattle.codec.specs.Codec.{Codec};
 ghost use Rattle.codec.specs.Parts.{number, element};
 ghost use Rattle.codec.specs.Reading.{read_at, said, reached};
 ghost use Rattle.codec.specs.declared.Stop.{Stop};
-ghost use Rattle.grammar.specs.SiteSheet.{digit_refusal, service_refusal, between, reserved};
-ghost use Rattle.grammar.specs.Grammar.{identity, identities, external, externals, services, part_of, definition, user_definition};
-ghost use Rattle.grammar.specs.Rows.{users_if, services_if};
+ghost use Rattle.grammar.specs.SiteSheet.{between, reserved, entries_of};
+ghost use Rattle.grammar.specs.Grammar.{identity, identities, services, part_of, definition, user_definition};
+ghost use Rattle.grammar.specs.declared.site.ListKind.TheVariants as of;
 ghost use Rattle.grammar.specs.declared.site.PduType.TheVariants as type;
-ghost use Rattle.walk.specs.Inner.{Reached, bits_of, pass, steps, range, defined_by, defined_from, steered_from, result_in};
+ghost use Rattle.walk.specs.Inner.{Reached, bits_of, pass, steps, range, listed, lists, counted, defined_by, defined_from, steered_from, result_in};
 
+use crate::entry::{Entry, Listed};
 use bits::{BitCount, Cursor};
 use codec::Stop;
-use grammar::record::Identity;
+use grammar::record::{Identity, Number};
 use grammar::site::{ListKind, PduType};
 use grammar::{figures, site};
 
@@ -50,13 +53,25 @@ fn repeated<F: Fn(Cursor) -> Result<Cursor, Stop>>(
     Ok(at)
 }
 
+// A part, where the PDU has it.
+fn if_carried<F: Fn(Cursor) -> Result<Cursor, Stop>>(
+    carried: bool,
+    at: Cursor,
+    part: F,
+) -> Result<Cursor, Stop>
+    requires { F.IsAlwaysCallable part }
+    ensures { (there : Reached) → ((r : Reached) → F.post part at r → r ≡ there) → result ≡ pick carried there (Ok at) }
+{
+    if carried { part(at) } else { Ok(at) }
+}
+
 impl<'a> Pdu<'a> {
     // The number of `width` bits.
     fn number(self, at: Cursor, width: usize) -> Result<(u32, Cursor), Stop>
         requires { (1 ≤ width) × (width ≤ 32) }
         ensures { result ≡ said (read_at (number width) (bits_of self.entry) at.at) }
     {
-        codec::number(self.bytes, self.length, at, width)
+        codec::number(self.bytes, self.length, Ok(at), width)
     }
 
     // The same under a test: refused where it begins, unless that is 0.
@@ -71,12 +86,27 @@ impl<'a> Pdu<'a> {
         ensures { (refuse : ℕ → ℕ) → ((v k : ℕ) → F.post refusal v k → k ≡ refuse v)
             → result ≡ said (read_at (element width refuse) (bits_of self.entry) at.at) }
     {
-        let (value, next) = self.number(at, width)?;
-        codec::tested(at, refusal(value))?;
-        Ok((value, next))
+        let read = self.number(at, width)?;
+        codec::tested(Ok(at), Ok(read), refusal(read.0))
     }
 
-    fn identity_of(self, at: Cursor) -> Result<(Identity, Cursor), Stop>
+    // The same without its value.
+    pub(crate) fn pass_element<F: Fn(u32) -> u32>(
+        self,
+        at: Cursor,
+        width: usize,
+        refusal: F,
+    ) -> Result<Cursor, Stop>
+        requires callable { F.IsAlwaysCallable refusal }
+        requires wide { (1 ≤ width) × (width ≤ 32) }
+        ensures { (refuse : ℕ → ℕ) → ((v k : ℕ) → F.post refusal v k → k ≡ refuse v)
+            → result ≡ reached (read_at (element width refuse) (bits_of self.entry) at.at) }
+    {
+        let (_, next) = self.element(at, width, refusal)?;
+        Ok(next)
+    }
+
+    pub(crate) fn identity_of(self, at: Cursor) -> Result<(Identity, Cursor), Stop>
         ensures { result ≡ said (read_at identity (bits_of self.entry) at.at) }
     {
         let (ssi, at_present) = self.number(at, 24)?;
@@ -103,116 +133,89 @@ impl<'a> Pdu<'a> {
     }
 
     // The two ends of a range; 4, at the second, if they disagree or are reversed.
-    fn pass_range(self, at: Cursor) -> Result<Cursor, Stop>
+    pub(crate) fn pass_range(self, at: Cursor) -> Result<Cursor, Stop>
         ensures { result ≡ reached (read_at range (bits_of self.entry) at.at) }
     {
         let (first, second) = self.identity_of(at)?;
         let (last, end) = self.identity_of(second)?;
-        codec::tested(second, site::ends_refusal(first, last))?;
-        Ok(end)
+        let ends = site::ends_refusal(first, last);
+        let (_, behind) = codec::tested(Ok(second), Ok((last.ssi, end)), ends)?;
+        Ok(behind)
     }
 
-    // A range type and its identities, by the kind of list.
-    fn pass_identities(self, at: Cursor, list: ListKind) -> Result<Cursor, Stop>
-        ensures { result ≡ reached (read_at (identities list) (bits_of self.entry) at.at) }
+    // As many entries as a range type says.
+    pub(crate) fn pass_each<E: Entry>(self, at: Cursor, code: u32) -> Result<Cursor, Stop>
+        ensures { result ≡ steps (pass E.part (bits_of self.entry)) (entries_of code) (Ok at) }
+    {
+        repeated(at, site::row_of(code).entries, |at| E::pass(self, at))
+    }
+
+    // A range type and its entries, by the kind of list.
+    fn pass_list<E: Listed>(self, at: Cursor, list: ListKind) -> Result<Cursor, Stop>
+        ensures { result ≡ reached (read_at (listed list E.entries) (bits_of self.entry) at.at) }
     {
         let (code, entries) = self.element(at, 4, |code| site::range_refusal(list, code))?;
-        if code == 9 {
-            return self.pass_range(entries);
-        }
-        repeated(
-            entries,
-            site::row_of(code).entries,
-            |at| self.pass_identity(at),
-        )
+        E::pass_entries(self, entries, code)
     }
 
-    fn pass_identity(self, at: Cursor) -> Result<Cursor, Stop>
-        ensures { result ≡ reached (read_at identity (bits_of self.entry) at.at) }
+    // The three lists of a part, of which the first has identities.
+    fn pass_lists<E: Listed>(self, at: Cursor) -> Result<Cursor, Stop>
+        ensures { result ≡ lists E.LIST E.entries (bits_of self.entry) (Ok at) }
     {
-        let (_, next) = self.identity_of(at)?;
-        Ok(next)
+        let second = self.pass_list::<Identity>(at, ListKind::Identities)?;
+        let third = self.pass_list::<E>(second, E::LIST)?;
+        self.pass_list::<E>(third, E::LIST)
+    }
+
+    // The lists that follow.
+    fn pass_part(self, at: Cursor, part: u32) -> Result<Cursor, Stop>
+        ensures { result ≡ reached (read_at (part_of part) (bits_of self.entry) at.at) }
+    {
+        match part {
+            1 => self.pass_lists::<Identity>(at),
+            2 => self.pass_lists::<Number>(at),
+            _ => Ok(at),
+        }
+    }
+
+    // A number from 1 to most, and as many parts.
+    pub(crate) fn pass_counted<F: Fn(Cursor) -> Result<Cursor, Stop>>(
+        self,
+        at: Cursor,
+        width: usize,
+        most: u32,
+        part: F,
+    ) -> Result<Cursor, Stop>
+        requires callable { F.IsAlwaysCallable part }
+        requires wide { (1 ≤ width) × (width ≤ 32) }
+        ensures { (c : Codec ℕ) → ((at : Cursor) (r : Reached) → F.post part at r → r ≡ reached (read_at c (bits_of self.entry) at.at))
+            → result ≡ reached (read_at (counted width most c) (bits_of self.entry) at.at) }
+    {
+        let (count, parts) = self.element(
+            at,
+            width,
+            |count| site::between_refusal(1, most, count),
+        )?;
+        repeated(parts, count, part)
+    }
+
+    // The affected users.
+    fn pass_users(self, at: Cursor) -> Result<Cursor, Stop>
+        ensures { result ≡ reached (read_at (identities of.Users) (bits_of self.entry) at.at) }
+    {
+        self.pass_list::<Identity>(at, ListKind::Users)
     }
 
     // The number of services and the services.
     fn pass_services(self, at: Cursor) -> Result<Cursor, Stop>
         ensures { result ≡ reached (read_at services (bits_of self.entry) at.at) }
     {
-        let (count, list) = self.element(at, 3, |count| site::between_refusal(1, 7, count))?;
-        repeated(list, count, |at| self.pass_service(at))
-    }
-
-    fn pass_service(self, at: Cursor) -> Result<Cursor, Stop>
-        ensures { result ≡ reached (read_at (element 3 service_refusal) (bits_of self.entry) at.at) }
-    {
-        let (_, next) = self.element(at, 3, site::service_refusal)?;
-        Ok(next)
-    }
-
-    // An external number: its length and its digits.
-    fn pass_external(self, at: Cursor) -> Result<Cursor, Stop>
-        ensures { result ≡ reached (read_at external (bits_of self.entry) at.at) }
-    {
-        let (count, digits) = self.element(at, 5, |count| site::between_refusal(1, 24, count))?;
-        repeated(digits, count, |at| self.pass_digit(at))
-    }
-
-    fn pass_digit(self, at: Cursor) -> Result<Cursor, Stop>
-        ensures { result ≡ reached (read_at (element 4 digit_refusal) (bits_of self.entry) at.at) }
-    {
-        let (_, next) = self.element(at, 4, site::digit_refusal)?;
-        Ok(next)
-    }
-
-    // A range type and its external numbers.
-    fn pass_externals(self, at: Cursor) -> Result<Cursor, Stop>
-        ensures { result ≡ reached (read_at externals (bits_of self.entry) at.at) }
-    {
-        let (code, numbers) = self.element(at, 4, |code| {
-            site::range_refusal(ListKind::Numbers, code)
-        })?;
-        repeated(
-            numbers,
-            site::row_of(code).entries,
-            |at| self.pass_external(at),
+        self.pass_counted(
+            at,
+            3,
+            7,
+            |at| self.pass_element(at, 3, site::service_refusal),
         )
-    }
-
-    // The lists of a part.
-    fn pass_part(self, at: Cursor, part: u32) -> Result<Cursor, Stop>
-        ensures { result ≡ reached (read_at (part_of part) (bits_of self.entry) at.at) }
-    {
-        if part == 1 {
-            let restricted = self.pass_identities(at, ListKind::Identities)?;
-            let exempted = self.pass_identities(restricted, ListKind::Identities)?;
-            return self.pass_identities(exempted, ListKind::Identities);
-        }
-        if part == 2 {
-            let restricted = self.pass_identities(at, ListKind::Identities)?;
-            let exempted = self.pass_externals(restricted)?;
-            return self.pass_externals(exempted);
-        }
-        Ok(at)
-    }
-
-    // The affected users, where the PDU has them.
-    fn pass_users(self, at: Cursor, users: bool) -> Result<Cursor, Stop>
-        ensures { result ≡ reached (read_at (users_if users) (bits_of self.entry) at.at) }
-    {
-        if users {
-            return self.pass_identities(at, ListKind::Users);
-        }
-        Ok(at)
-    }
-
-    // Services, where the PDU has them.
-    fn pass_served(self, at: Cursor, served: bool) -> Result<Cursor, Stop>
-        ensures { result ≡ reached (read_at (services_if served) (bits_of self.entry) at.at) }
-    {
-        if served {
-            return self.pass_services(at);
-        }
-        Ok(at)
     }
 
     // A definition type, by which the lists of a part follow or not.
@@ -265,16 +268,14 @@ impl<'a> Pdu<'a> {
     fn pass_outcome(self, at: Cursor, low: u32) -> Result<Cursor, Stop>
         ensures { result ≡ reached (read_at (element 3 (reserved low 5)) (bits_of self.entry) at.at) }
     {
-        let (_, next) = self.element(at, 3, |outcome| site::reserved_refusal(low, 5, outcome))?;
-        Ok(next)
+        self.pass_element(at, 3, |outcome| site::reserved_refusal(low, 5, outcome))
     }
 
     // An interrogation type or a rejection cause: two bits, from low to high.
     fn pass_choice(self, at: Cursor, low: u32, high: u32) -> Result<Cursor, Stop>
         ensures { result ≡ reached (read_at (element 2 (between low high)) (bits_of self.entry) at.at) }
     {
-        let (_, next) = self.element(at, 2, |choice| site::between_refusal(low, high, choice))?;
-        Ok(next)
+        self.pass_element(at, 2, |choice| site::between_refusal(low, high, choice))
     }
 
     // The figures of a PDU of a type.
@@ -305,9 +306,9 @@ impl<'a> Pdu<'a> {
         let (code, at_users) = self.element(at_kind, 5, site::kind_refusal)?;
         let kind = site::pdu_type(code);
         let form = figures::form_of(kind);
-        let at_figures = self.pass_users(at_users, form.users)?;
+        let at_figures = if_carried(form.users, at_users, |at| self.pass_users(at))?;
         let (steering, at_services) = self.pass_figures(at_figures, kind)?;
-        let at_lists = self.pass_served(at_services, form.services)?;
+        let at_lists = if_carried(form.services, at_services, |at| self.pass_services(at))?;
         let end = self.pass_part(at_lists, steering.part)?;
         Ok((steering.result, end))
     }

@@ -14,6 +14,7 @@ use grammar::record::Identity;
 use grammar::{figures, site};
 
 mod ahead;
+mod entry;
 mod exact;
 
 // A refusal's number, and the bit place in the PDU where it stands, if it has one.

@@ -5,29 +5,29 @@ ghost use Rattle.words.specs.Places.{digit_places, identity_width, identities_wi
 ghost use Rattle.words.specs.Inner.{Put};
 ghost use Rattle.words.specs.RecordWords.{word, identity_words, identities_words, number_words, numbers_words, services_words, lists_words, record_words, narrow, narrowed, identity_from, identities_from, number_from, numbers_from, services_from, lists_from, figures_from, record_from, given_record, given_figures, put_record};
 
-use crate::entries::{Spelt, each_from, put_each};
+use crate::entries::{Spelt, Stored, each_from, list_from, put_each, put_list};
 use bits::DigitCount;
 use grammar::record::{Figures, Identities, Identity, Lists, Number, Numbers, Record, Services};
-use grammar::zero::zero_figures;
+use grammar::zero::{zero_figures, zero_numbers};
 
 // ---- how many words each part has, and where it begins: after those before it
 
 // Entries of a list, digits of a number, services.
-const LIST_PLACES: usize = 8;
+pub(crate) const LIST_PLACES: usize = 8;
 
 pub(crate) const DIGIT_PLACES: usize = 24;
 
 const SERVICE_PLACES: usize = 7;
 
-const IDENTITY_WORDS: usize = 3;
+pub const IDENTITY_WORDS: usize = 3;
 
-const IDENTITIES_WORDS: usize = 1 + LIST_PLACES * IDENTITY_WORDS;
+pub const IDENTITIES_WORDS: usize = 1 + LIST_PLACES * IDENTITY_WORDS;
 
-const NUMBER_WORDS: usize = 1 + DIGIT_PLACES;
+pub const NUMBER_WORDS: usize = 1 + DIGIT_PLACES;
 
-const NUMBERS_WORDS: usize = 1 + LIST_PLACES * NUMBER_WORDS;
+pub const NUMBERS_WORDS: usize = 1 + LIST_PLACES * NUMBER_WORDS;
 
-const SERVICES_WORDS: usize = 1 + SERVICE_PLACES;
+pub const SERVICES_WORDS: usize = 1 + SERVICE_PLACES;
 
 // The five lists, groups first.
 const RESTRICTED: usize = IDENTITIES_WORDS;
@@ -38,24 +38,24 @@ const RESTRICTED_NUMBERS: usize = EXCEPTIONS + IDENTITIES_WORDS;
 
 const EXCEPTED_NUMBERS: usize = RESTRICTED_NUMBERS + NUMBERS_WORDS;
 
-const LISTS_WORDS: usize = EXCEPTED_NUMBERS + NUMBERS_WORDS;
+pub const LISTS_WORDS: usize = EXCEPTED_NUMBERS + NUMBERS_WORDS;
 
 // The record.
-const PDU_TYPE: usize = 0;
+pub const PDU_TYPE: usize = 0;
 
-const AFFECTED: usize = PDU_TYPE + 1;
+pub const AFFECTED: usize = PDU_TYPE + 1;
 
-const INTERROGATION_TYPE: usize = AFFECTED + IDENTITIES_WORDS;
+pub const INTERROGATION_TYPE: usize = AFFECTED + IDENTITIES_WORDS;
 
 const INTERROGATION_RESULT: usize = INTERROGATION_TYPE + 1;
 
 const DELIVERY_STATUS: usize = INTERROGATION_RESULT + 1;
 
-const SERVICE_COUNT: usize = DELIVERY_STATUS + 1;
+pub const SERVICE_COUNT: usize = DELIVERY_STATUS + 1;
 
-const GROUPS: usize = SERVICE_COUNT + SERVICES_WORDS;
+pub const GROUPS: usize = SERVICE_COUNT + SERVICES_WORDS;
 
-const DELIVERY: usize = GROUPS + LISTS_WORDS;
+pub const DELIVERY: usize = GROUPS + LISTS_WORDS;
 
 const ACKNOWLEDGEMENT: usize = DELIVERY + 1;
 
@@ -69,7 +69,7 @@ const REJECTION_CAUSE: usize = DISTRIBUTION_RESULT + 1;
 
 pub const RECORD_WORDS: usize = REJECTION_CAUSE + 1;
 
-// ---- the entries of a list, and the digits of a number
+// ---- the parts of a record
 
 // SSI, extension present, extension.
 impl Spelt for Identity {
@@ -80,7 +80,9 @@ impl Spelt for Identity {
     ghost spelt = { identity_words };
 
     ghost meant = { identity_from };
+}
 
+impl Stored for Identity {
     fn put(self, words: &mut [u32], at: usize) -> usize {
         put_three(words, at, self.ssi, self.present, self.extension)
     }
@@ -103,7 +105,9 @@ impl Spelt for Number {
     ghost spelt = { number_words };
 
     ghost meant = { number_from };
+}
 
+impl Stored for Number {
     fn put(self, words: &mut [u32], at: usize) -> usize {
         let first = put_word(words, at, self.length.0 as u32);
         put_each(words, first, &self.digits)
@@ -126,7 +130,9 @@ impl Spelt for u8 {
     ghost spelt = { λ b. b ∷ [] };
 
     ghost meant = { λ w. narrow (word w 0) };
+}
 
+impl Stored for u8 {
     fn put(self, words: &mut [u32], at: usize) -> usize {
         put_word(words, at, self as u32)
     }
@@ -136,9 +142,83 @@ impl Spelt for u8 {
     }
 }
 
+// The range type and the identities.
+impl Spelt for Identities {
+    const WIDTH: usize = IDENTITIES_WORDS;
+
+    ghost WIDTH = { identities_width };
+
+    ghost spelt = { identities_words };
+
+    ghost meant = { identities_from };
+}
+
+impl Stored for Identities {
+    fn put(self, words: &mut [u32], at: usize) -> usize {
+        put_list(words, at, self.code, &self.entries)
+    }
+
+    fn read(words: &[u32], at: usize) -> Identities {
+        let (code, entries) = list_from(words, at, Identity::default());
+        Identities { code, entries }
+    }
+}
+
+// The range type and the numbers.
+impl Spelt for Numbers {
+    const WIDTH: usize = NUMBERS_WORDS;
+
+    ghost WIDTH = { numbers_width };
+
+    ghost spelt = { numbers_words };
+
+    ghost meant = { numbers_from };
+}
+
+impl Stored for Numbers {
+    fn put(self, words: &mut [u32], at: usize) -> usize {
+        put_list(words, at, self.code, &self.entries)
+    }
+
+    fn read(words: &[u32], at: usize) -> Numbers {
+        let (code, entries) = list_from(words, at, zero_numbers().entries[0]);
+        Numbers { code, entries }
+    }
+}
+
+// Their number and the services.
+impl Spelt for Services {
+    const WIDTH: usize = SERVICES_WORDS;
+
+    ghost WIDTH = { services_width };
+
+    ghost spelt = { services_words };
+
+    ghost meant = { services_from };
+}
+
+impl Stored for Services {
+    fn put(self, words: &mut [u32], at: usize) -> usize {
+        let first = put_word(words, at, self.count);
+        let end = first + SERVICE_PLACES;
+        words[first..end].copy_from_slice(&self.list);
+        end
+    }
+
+    fn read(words: &[u32], at: usize) -> Services {
+        let first = at + 1;
+        let mut list = [0u32; SERVICE_PLACES];
+        list.copy_from_slice(&words[first..first + SERVICE_PLACES]);
+        Services {
+            count: words[at],
+            list,
+        }
+    }
+}
+
 // ---- to words; each writer returns the place after what it writes
 
-fn put_word(words: &mut [u32], at: usize, word: u32) -> usize
+pub(crate) fn put_word(words: &mut [u32], at: usize, word: u32) -> usize
     requires { at < length words.old }
     ensures { Put words.old at (word ∷ []) 1 words.new result }
 {
@@ -155,32 +235,6 @@ fn put_three(words: &mut [u32], at: usize, first: u32, second: u32, third: u32) 
     end
 }
 
-fn put_identities(words: &mut [u32], at: usize, list: Identities) -> usize
-    requires { at + identities_width ≤ length words.old }
-    ensures { Put words.old at (identities_words list) identities_width words.new result }
-{
-    let first = put_word(words, at, list.code);
-    put_each(words, first, &list.entries)
-}
-
-fn put_numbers(words: &mut [u32], at: usize, list: Numbers) -> usize
-    requires { at + numbers_width ≤ length words.old }
-    ensures { Put words.old at (numbers_words list) numbers_width words.new result }
-{
-    let first = put_word(words, at, list.code);
-    put_each(words, first, &list.entries)
-}
-
-fn put_services(words: &mut [u32], at: usize, services: Services) -> usize
-    requires { at + services_width ≤ length words.old }
-    ensures { Put words.old at (services_words services) services_width words.new result }
-{
-    let first = put_word(words, at, services.count);
-    let end = first + SERVICE_PLACES;
-    words[first..end].copy_from_slice(&services.list);
-    end
-}
-
 fn put_lists(words: &mut [u32], at: usize, lists: Lists) -> usize
     requires { at + lists_width ≤ length words.old }
     ensures { Put words.old at (lists_words lists) lists_width words.new result }
@@ -190,11 +244,11 @@ fn put_lists(words: &mut [u32], at: usize, lists: Lists) -> usize
     let exceptions = lists.exceptions;
     let numbers = lists.numbers;
     let excepted = lists.excepted;
-    let restricted_at = put_identities(words, at, groups);
-    let exceptions_at = put_identities(words, restricted_at, restricted);
-    let numbers_at = put_identities(words, exceptions_at, exceptions);
-    let excepted_at = put_numbers(words, numbers_at, numbers);
-    put_numbers(words, excepted_at, excepted)
+    let restricted_at = groups.put(words, at);
+    let exceptions_at = restricted.put(words, restricted_at);
+    let numbers_at = exceptions.put(words, exceptions_at);
+    let excepted_at = numbers.put(words, numbers_at);
+    excepted.put(words, excepted_at)
 }
 
 fn put_fields(words: &mut [u32], found: Record)
@@ -206,7 +260,7 @@ fn put_fields(words: &mut [u32], found: Record)
     let services = found.services;
     let lists = found.lists;
     let affected_at = put_word(words, PDU_TYPE, found.kind);
-    let asked_at = put_identities(words, affected_at, affected);
+    let asked_at = affected.put(words, affected_at);
     let services_at = put_three(
         words,
         asked_at,
@@ -214,7 +268,7 @@ fn put_fields(words: &mut [u32], found: Record)
         figures.result,
         figures.status,
     );
-    let lists_at = put_services(words, services_at, services);
+    let lists_at = services.put(words, services_at);
     let delivery_at = put_lists(words, lists_at, lists);
     let defined_at = put_three(
         words,
@@ -250,23 +304,6 @@ pub(crate) fn narrow_word(word: u32) -> u8
     u8::try_from(word).unwrap_or(255)
 }
 
-fn identities_from(words: &[u32], at: usize) -> Identities
-    requires { at + identities_width ≤ length words.now }
-    ensures { result ≡ identities_from (drop at words.now) }
-{
-    let none = Identity {
-        ssi: 0,
-        present: 0,
-        extension: 0,
-    };
-    let mut entries = [none; LIST_PLACES];
-    each_from(words, at + 1, &mut entries);
-    Identities {
-        code: words[at],
-        entries,
-    }
-}
-
 // The 24 digits from a place on.
 pub(crate) fn digits_from(words: &[u32], at: usize) -> [u8; 24]
     requires { at + digit_places ≤ length words.now }
@@ -277,45 +314,16 @@ pub(crate) fn digits_from(words: &[u32], at: usize) -> [u8; 24]
     digits
 }
 
-fn numbers_from(words: &[u32], at: usize) -> Numbers
-    requires { at + numbers_width ≤ length words.now }
-    ensures { result ≡ numbers_from (drop at words.now) }
-{
-    let none = Number {
-        length: DigitCount(0),
-        digits: [0u8; DIGIT_PLACES],
-    };
-    let mut entries = [none; LIST_PLACES];
-    each_from(words, at + 1, &mut entries);
-    Numbers {
-        code: words[at],
-        entries,
-    }
-}
-
-fn services_from(words: &[u32], at: usize) -> Services
-    requires { at + services_width ≤ length words.now }
-    ensures { result ≡ services_from (drop at words.now) }
-{
-    let first = at + 1;
-    let mut list = [0u32; SERVICE_PLACES];
-    list.copy_from_slice(&words[first..first + SERVICE_PLACES]);
-    Services {
-        count: words[at],
-        list,
-    }
-}
-
 fn lists_from(words: &[u32], at: usize) -> Lists
     requires { at + lists_width ≤ length words.now }
     ensures { result ≡ lists_from (drop at words.now) }
 {
     Lists {
-        groups: identities_from(words, at),
-        restricted: identities_from(words, at + RESTRICTED),
-        exceptions: identities_from(words, at + EXCEPTIONS),
-        numbers: numbers_from(words, at + RESTRICTED_NUMBERS),
-        excepted: numbers_from(words, at + EXCEPTED_NUMBERS),
+        groups: Identities::read(words, at),
+        restricted: Identities::read(words, at + RESTRICTED),
+        exceptions: Identities::read(words, at + EXCEPTIONS),
+        numbers: Numbers::read(words, at + RESTRICTED_NUMBERS),
+        excepted: Numbers::read(words, at + EXCEPTED_NUMBERS),
     }
 }
 
@@ -342,9 +350,9 @@ fn fields_from(words: &[u32]) -> Record
 {
     Record {
         kind: words[PDU_TYPE],
-        affected: identities_from(words, AFFECTED),
+        affected: Identities::read(words, AFFECTED),
         figures: nine_from(words),
-        services: services_from(words, SERVICE_COUNT),
+        services: Services::read(words, SERVICE_COUNT),
         lists: lists_from(words, GROUPS),
     }
 }

@@ -6,7 +6,7 @@ use Prim.Native.Nat.{ℕ, zero, suc, ◌+◌, ◌-◌, ◌*◌, ◌/◌, ◌%◌
 use native.Mathlib.Numerals.{add-one}
 use native.Mathlib.Omega.{arith}
 use lib.ListN.{length, take, drop, get_or, length-append, length-drop}
-use lib.Seq.{take-nil, take_at, take-add, take-suc, take-take, drop-drop, get_or-drop, length-take-le}
+use lib.Seq.{take-nil, take_at, take-add, take-suc, take-take, drop-drop, length-take-le}
 use lib.Dec.{leb}
 use borrow.Author.Tests.{leb-true, leb-false}
 use Rattle.bits.specs.Bits.{bits_of}
@@ -17,9 +17,8 @@ use Rattle.codec.specs.Parts.{number, absent, element, seq, tested, shaped}
 use Rattle.codec.specs.Places.{nil, cons, places}
 use Rattle.grammar.specs.Grammar.{external, services}
 use Rattle.grammar.specs.declared.record.Services.{Services}
-use Rattle.words.specs.RecordWords.{word, narrow, narrowed}
+use Rattle.words.specs.RecordWords.{word, narrow, narrowed, number_from, services_from}
 use Rattle.words.proofs.LegalRecords.{Small, SmallNumber}
-use Rattle.tally.proofs.Words.{number_at, services_at}
 use Rattle.writer.specs.Inner.{code_bits, CodesAfter}
 use Rattle.writer.proofs.Runs.{low_bits}
 
@@ -101,31 +100,19 @@ module _ (w : ℕ) where
   print-codes refuse (suc m) zero (d ∷ l) e = print-codes refuse m zero l (omega arith)
   print-codes refuse (suc m) (suc n) (d ∷ l) e = ap (λ (x : List Bool). bits_of w d ++ x) (print-codes refuse m n l (omega arith))
 
--- four digits after a number, from words
-pub four-codes : (s : List ℕ) (from start : ℕ) → from + 4 ≤ length s → CodesAfter 4 4 start (take 4 (drop from s))
-    ((((start * 16 + get_or s from 0 % 16) * 16 + get_or s (from + 1) 0 % 16) * 16 + get_or s (from + 2) 0 % 16) * 16 + get_or s (from + 3) 0 % 16)
-four-codes s from start long =
-    let t : List ℕ = drop from s in
-    let inside : 4 ≤ length t = omega (arith, length-drop from s) in
-    let here : from + 0 ≡ from = omega arith in
-    let a : get_or t 0 0 ≡ get_or s from 0 = get_or-drop from s 0 0 ∙ ap (λ (n : ℕ). get_or s n 0) here in
-    let b : get_or t 1 0 ≡ get_or s (from + 1) 0 = get_or-drop from s 1 0 in
-    let c : get_or t 2 0 ≡ get_or s (from + 2) 0 = get_or-drop from s 2 0 in
-    let d : get_or t 3 0 ≡ get_or s (from + 3) 0 = get_or-drop from s 3 0 in
-    subst (λ (run : ℕ). CodesAfter 4 4 start (take 4 t) run)
-    (λ i. (((start * 16 + a i % 16) * 16 + b i % 16) * 16 + c i % 16) * 16 + d i % 16)
-    (more-codes 4 t 3 start _ (omega arith) (more-codes 4 t 2 start _ (omega arith) (more-codes 4 t 1 start _ (omega arith)
-    (more-codes 4 t 0 start start (omega arith) (no-codes 4 start)))))
+-- four digits after a number
+pub four-codes : (t : List ℕ) (start : ℕ) → 4 ≤ length t → CodesAfter 4 4 start (take 4 t)
+    ((((start * 16 + get_or t 0 0 % 16) * 16 + get_or t 1 0 % 16) * 16 + get_or t 2 0 % 16) * 16 + get_or t 3 0 % 16)
+four-codes t start inside =
+    more-codes 4 t 3 start _ (omega arith) (more-codes 4 t 2 start _ (omega arith) (more-codes 4 t 1 start _ (omega arith)
+    (more-codes 4 t 0 start start (omega arith) (no-codes 4 start))))
 
 -- twelve are four, four and four
-pub twelve-codes : (s : List ℕ) (from start x y z : ℕ) → CodesAfter 4 4 start (take 4 (drop from s)) x
-    → CodesAfter 4 4 0 (take 4 (drop (from + 4) s)) y → y < 65536 → CodesAfter 4 4 0 (take 4 (drop (from + 8) s)) z → z < 65536
-    → CodesAfter 4 12 start (take 12 (drop from s)) ((x * 65536 + y) * 65536 + z)
-twelve-codes s from start x y z p q fewer r few =
-    let t : List ℕ = drop from s in
-    let all : (take 4 t ++ take 4 (drop (from + 4) s)) ++ take 4 (drop (from + 8) s) ≡ take 12 t =
-    (λ i. (take 4 t ++ take 4 (sym (drop-drop 4 from s) i)) ++ take 4 (sym (drop-drop 8 from s) i))
-    ∙ ap (λ (l : List ℕ). l ++ take 4 (drop 8 t)) (sym (take-add 4 4 t)) ∙ sym (take-add 8 4 t) in
+pub twelve-codes : (t : List ℕ) (start x y z : ℕ) → CodesAfter 4 4 start (take 4 t) x → CodesAfter 4 4 0 (take 4 (drop 4 t)) y → y < 65536
+    → CodesAfter 4 4 0 (take 4 (drop 8 t)) z → z < 65536 → CodesAfter 4 12 start (take 12 t) ((x * 65536 + y) * 65536 + z)
+twelve-codes t start x y z p q fewer r few =
+    let all : (take 4 t ++ take 4 (drop 4 t)) ++ take 4 (drop 8 t) ≡ take 12 t =
+    ap (λ (l : List ℕ). l ++ take 4 (drop 8 t)) (sym (take-add 4 4 t)) ∙ sym (take-add 8 4 t) in
     subst (λ (l : List ℕ). CodesAfter 4 12 start l ((x * 65536 + y) * 65536 + z)) all
     (codes-then 4 _ _ 8 4 start (x * 65536 + y) z (codes-then 4 _ _ 4 4 start x y p q fewer) r few)
 
@@ -163,60 +150,60 @@ halves n early late v long he hl = sym (take-used (take 24 v) n (length-take-le 
         let twelve : early ≡ 12 = omega arith in
         take-add early late v ∙ ap (λ (i : ℕ). take early v ++ take late (drop i v)) twelve
 
-module _ (s : List ℕ) (at : ℕ) (long : at + 25 ≤ length s) (small : SmallNumber (number_at s at)) where
-  pub length-small : word s at < 255
+module _ (s : List ℕ) (long : 25 ≤ length s) (small : SmallNumber (number_from s)) where
+  pub length-small : word s 0 < 255
+  unfolding number_from
   length-small = omega (arith, small.small.0)
 
   -- its length and the digits that stand with it, and the others
-  pub number-front : (early late x : ℕ) → early ≡ min (word s at) 12 → early + late ≡ min (word s at) 24
-      → CodesAfter 4 12 (word s at) (take 12 (drop (at + 1) s)) x
-      → external.print (number_at s at) ≡ bits_of (5 + 4 * early) (x / 2 ^ (48 - 4 * early)) ++ code_bits 4 (take late (drop (at + 13) s))
-  unfolding external shaped seq element tested number bits_of
+  pub number-front : (early late x : ℕ) → early ≡ min (word s 0) 12 → early + late ≡ min (word s 0) 24
+      → CodesAfter 4 12 (word s 0) (take 12 (drop 1 s)) x
+      → external.print (number_from s) ≡ bits_of (5 + 4 * early) (x / 2 ^ (48 - 4 * early)) ++ code_bits 4 (take late (drop 13 s))
+  unfolding external number_from shaped seq element tested number bits_of
   number-front early late x he hl hx =
-      let n : ℕ = word s at in
-      let v : List ℕ = drop (at + 1) s in
-      let w : List ℕ = drop (at + 13) s in
-      let thirteen : at + 1 + 12 ≡ at + 13 = omega arith in
-      let later : drop 12 v ≡ w = drop-drop 12 (at + 1) s ∙ ap (λ (k : ℕ). drop k s) thirteen in
+      let n : ℕ = word s 0 in
+      let v : List ℕ = drop 1 s in
+      let w : List ℕ = drop 13 s in
+      let later : drop 12 v ≡ w = drop-drop 12 1 s in
       let same : narrow n ≡ n = omega (arith, small.small.0) in
       let plain : narrowed (take 24 v) ≡ take 24 v = narrowed-small (take 24 v) small.small.1 in
       let early-bits : bits_of (5 + 4 * early) (x / 2 ^ (48 - 4 * early)) ≡ bits_of 5 n ++ code_bits 4 (take early v) =
-      first-codes 4 12 (48 - 4 * early) v early n x (omega arith) (omega (arith, length-drop (at + 1) s)) (omega arith) hx 5
+      first-codes 4 12 (48 - 4 * early) v early n x (omega arith) (omega (arith, length-drop 1 s)) (omega arith) hx 5
       in
       ap₂ (λ (a b : List Bool). a ++ b) (ap (bits_of 5) same)
       (print-codes 4 _ 24 (narrow n) (narrowed (take 24 v)) small.digits
       ∙ ap (code_bits 4) (ap₂ (λ (k : ℕ) (l : List ℕ). take k l) same plain
-      ∙ halves n early late v (omega (arith, length-drop (at + 1) s)) he hl ∙ ap (λ (l : List ℕ). take early v ++ take late l) later)
+      ∙ halves n early late v (omega (arith, length-drop 1 s)) he hl ∙ ap (λ (l : List ℕ). take early v ++ take late l) later)
       ∙ code_bits_append 4 (take early v) (take late w))
       ∙ sym (append_assoc (bits_of 5 n) (code_bits 4 (take early v)) (code_bits 4 (take late w)))
       ∙ ap (λ (l : List Bool). l ++ code_bits 4 (take late w)) (sym early-bits)
 
   -- the others, after k bits that stand before them
-  pub number-rest : (k late x y : ℕ) → k ≤ 8 → late ≤ 12 → CodesAfter 4 12 (x % 256) (take 12 (drop (at + 13) s)) y
-      → bits_of (k + 4 * late) (y / 2 ^ (48 - 4 * late)) ≡ bits_of k x ++ code_bits 4 (take late (drop (at + 13) s))
+  pub number-rest : (k late x y : ℕ) → k ≤ 8 → late ≤ 12 → CodesAfter 4 12 (x % 256) (take 12 (drop 13 s)) y
+      → bits_of (k + 4 * late) (y / 2 ^ (48 - 4 * late)) ≡ bits_of k x ++ code_bits 4 (take late (drop 13 s))
   number-rest k late x y few twelve hy =
-      let w : List ℕ = drop (at + 13) s in
-      first-codes 4 12 (48 - 4 * late) w late (x % 256) y twelve (omega (arith, length-drop (at + 13) s)) (omega arith) hy k
+      let w : List ℕ = drop 13 s in
+      first-codes 4 12 (48 - 4 * late) w late (x % 256) y twelve (omega (arith, length-drop 13 s)) (omega arith) hy k
       ∙ ap (λ (l : List Bool). l ++ code_bits 4 (take late w)) (low_bits k 8 x few)
 
 -- ---- services
 
 -- a lead of k bits, the number of services, and as many of them
-pub services-run : (s : List ℕ) (at used k lead x : ℕ) → at + 8 ≤ length s → used ≡ min (word s at) 7
-    → CodesAfter 3 7 (lead * 8 + word s at % 8) (take 7 (drop (at + 1) s)) x
-    → (seq (number k) (λ v. services)).print (lead, services_at s at) ≡ bits_of (k + 3 + 3 * used) (x / 2 ^ (21 - 3 * used))
-unfolding services shaped seq element tested number
-services-run s at used k lead x long few hx =
-    let n : ℕ = word s at in
-    let v : List ℕ = drop (at + 1) s in
+pub services-run : (s : List ℕ) (used k lead x : ℕ) → 8 ≤ length s → used ≡ min (word s 0) 7
+    → CodesAfter 3 7 (lead * 8 + word s 0 % 8) (take 7 (drop 1 s)) x
+    → (seq (number k) (λ v. services)).print (lead, services_from s) ≡ bits_of (k + 3 + 3 * used) (x / 2 ^ (21 - 3 * used))
+unfolding services services_from shaped seq element tested number
+services-run s used k lead x long few hx =
+    let n : ℕ = word s 0 in
+    let v : List ℕ = drop 1 s in
     let codes : List Bool = code_bits 3 (take used v) in
-    let full : length (take 7 v) ≡ 7 = length-take-le 7 v (omega (arith, length-drop (at + 1) s)) in
+    let full : length (take 7 v) ≡ 7 = length-take-le 7 v (omega (arith, length-drop 1 s)) in
     ap (λ (l : List Bool). bits_of k lead ++ (bits_of 3 n ++ l))
     (print-codes 3 _ 7 n (take 7 v) full
     ∙ ap (code_bits 3) (sym (take-used (take 7 v) n full few) ∙ take-take used 7 v (omega arith)))
     ∙ sym (append_assoc (bits_of k lead) (bits_of 3 n) codes)
     ∙ ap (λ (l : List Bool). l ++ codes) (sym (bits_of-join k 3 lead n))
-    ∙ sym (first-codes 3 7 (21 - 3 * used) v used (lead * 8 + n % 8) x (omega arith) (omega (arith, length-drop (at + 1) s)) (omega arith) hx
+    ∙ sym (first-codes 3 7 (21 - 3 * used) v used (lead * 8 + n % 8) x (omega arith) (omega (arith, length-drop 1 s)) (omega arith) hx
     (k + 3))
 
 -- elements that are the bits of a lead, before the services and what follows them

@@ -39,7 +39,8 @@ module _ (t : Option PduType) (w : List ℕ) {width run : ℕ} (wide : width ≡
       rw (e, no-lists t (figures_from w) e, no_bits (services_from (drop 29 w)) size-no_services, no_bits (lists_from (drop 37 w)) size-no_part)
       (append-nil _ ∙ printed)
 
-  pub listed-print : (form_of t).services ≡ true → (part : ℕ) → part ≡ part_in t (figures_from w) → (figured t).print (from_record (record_from w)).1.1
+  pub listed-print : (form_of t).services ≡ true → (part : ℕ) → part ≡ part_in t (figures_from w)
+      → (figured t).print (from_record (record_from w)).1.1
       ≡ (seq (number width) (λ x. services)).print (run % 32, services_from (drop 29 w)) ++ (part_of part).print (lists_from (drop 37 w))
   unfolding seq record_from
   listed-print e part of =

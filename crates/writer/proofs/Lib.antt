@@ -1,6 +1,7 @@
 pub mod Fills
 pub mod Puts
 pub mod PutsEntries
+pub mod Listed
 pub mod Writes
 pub mod Runs
 pub mod Codes

@@ -9,10 +9,7 @@ use lib.ListN.{length, take, length-append}
 use Rattle.bits.specs.Bits.{bits}
 use Rattle.codec.specs.Codec.{Codec}
 use Rattle.codec.specs.Parts.{number, element, seq, tested, shaped}
-use Rattle.grammar.specs.Grammar.{identities}
 use Rattle.writer.specs.Inner.{Room, Puts}
-use Rattle.grammar.specs.declared.site.ListKind.{ListKind}
-use Rattle.grammar.specs.declared.record.Identities.{Identities}
 use Rattle.codec.proofs.Sizes.{Within}
 
 -- a whole of two parts, put as they are
@@ -56,35 +53,37 @@ module _ {A B : Type 0} {c : Codec A} (d : A → Codec B) {a : A} {b : B} {s : L
   unfolding seq
   put_then p q = join refl p (q (right refl h p))
 
--- ---- a part under another shape, and a part with a test after it
+-- ---- a part that is the same bits as another, and one under another shape or with a test after it
+
+module _ {A B : Type 0} {c : Codec A} {d : Codec B} {a : A} {b : B} (same : d.print b ≡ c.print a) {s : List ℕ} {at : ℕ} where
+  pub room_as : Room d b s at → Room c a s at
+  room_as h = record { short = omega (arith, h.short, ap length same); fits = omega (arith, h.fits, ap length same) }
+
+  pub put_as : {t : List ℕ} {m : ℕ} → Puts c a s t at m → Puts d b s t at m
+  put_as p = record {
+    there = p.there ∙ ap (λ (l : List Bool). take at (bits s) ++ l) (sym same);
+    next = p.next ∙ ap (λ (l : List Bool). at + length l) (sym same);
+    kept = p.kept;
+  }
 
 module _ {A B : Type 0} {c : Codec A} (to : A → B) (from : B → A) (there : (a : A) → c.clean a ≡ true → c.fault a ≡ 0 → from (to a) ≡ a)
     (back : (b : B) → to (from b) ≡ b) {b : B} {s : List ℕ} {at : ℕ} where
   pub room-shape : Room (shaped c to from there back) b s at → Room c (from b) s at
   unfolding shaped
-  room-shape h = record { short = h.short; fits = h.fits }
+  room-shape h = room_as refl h
 
   pub put-shape : {t : List ℕ} {m : ℕ} → Puts c (from b) s t at m → Puts (shaped c to from there back) b s t at m
   unfolding shaped
-  put-shape p = record { there = p.there; next = p.next; kept = p.kept }
-
-module _ {A : Type 0} {c : Codec A} (refuse into : A → ℕ) {a : A} {s : List ℕ} {at : ℕ} where
-  pub room-test : Room (tested c refuse into) a s at → Room c a s at
-  unfolding tested
-  room-test h = record { short = h.short; fits = h.fits }
-
-  pub put-test : {t : List ℕ} {m : ℕ} → Puts c a s t at m → Puts (tested c refuse into) a s t at m
-  unfolding tested
-  put-test p = record { there = p.there; next = p.next; kept = p.kept }
+  put-shape p = put_as refl p
 
 module _ (w : ℕ) (refuse : ℕ → ℕ) {v : ℕ} {s : List ℕ} {at : ℕ} where
   pub room-element : Room (element w refuse) v s at → Room (number w) v s at
-  unfolding element
-  room-element h = room-test refuse (λ v. 0) h
+  unfolding element tested
+  room-element h = room_as refl h
 
   pub put_element : {t : List ℕ} {m : ℕ} → Puts (number w) v s t at m → Puts (element w refuse) v s t at m
-  unfolding element
-  put_element p = put-test refuse (λ v. 0) p
+  unfolding element tested
+  put_element p = put_as refl p
 
 -- ---- a part of no bits
 
@@ -103,14 +102,3 @@ put-none {c} {a} {s} {at} h =
       next = sym (ap (λ (l : List Bool). at + length l) e ∙ add-zero at);
       kept = refl;
     }
-
--- ---- in each kind of list, identities are put alike
-
-module _ (j k : ListKind) {l : Identities} {s : List ℕ} {at : ℕ} where
-  pub room-listing : Room (identities j) l s at → Room (identities k) l s at
-  unfolding identities shaped seq element tested
-  room-listing h = record { short = h.short; fits = h.fits }
-
-  pub put-listing : {t : List ℕ} {end : ℕ} → Puts (identities j) l s t at end → Puts (identities k) l s t at end
-  unfolding identities shaped seq element tested
-  put-listing p = record { there = p.there; next = p.next; kept = p.kept }

@@ -42,66 +42,68 @@ size-unused {A} c z h m =
 
 -- ---- the loop
 
--- of m entries of k words each from `from` on, of which the PDU carries the first n, the first i are put; the next stands at `place` and goes to
--- `at`,
--- and with the others put there all of them are
-pub record Putting {A : Type 0} (c z : Codec A) (f : List ℕ → A) (k m n : ℕ) (words : List ℕ) (from : ℕ) (s : List ℕ) (start i place : ℕ)
-    (t : List ℕ) (at : ℕ) : Type 0 where
+-- of m entries of k words each, of which the PDU carries the first n, the first i are put; the next goes to `at`, and with the others put
+-- there all of them are
+pub record Putting {A : Type 0} (c z : Codec A) (f : List ℕ → A) (k m n : ℕ) (words : List ℕ) (s : List ℕ) (start i : ℕ) (t : List ℕ)
+    (at : ℕ) : Type 0 where
   pub done : i ≤ n
-  pub there : place ≡ from + k * i
   pub kept : length t ≡ length s
-  pub room : Room (places c z (m - i) (n - i)) (entries_from f k (m - i) (drop place words)) t at
-  pub rest : (u : List ℕ) (end : ℕ) → Puts (places c z (m - i) (n - i)) (entries_from f k (m - i) (drop place words)) t u at end
-      → Puts (places c z m n) (entries_from f k m (drop from words)) s u start end
+  pub room : Room (places c z (m - i) (n - i)) (entries_from f k (m - i) (drop (k * i) words)) t at
+  pub rest : (u : List ℕ) (end : ℕ) → Puts (places c z (m - i) (n - i)) (entries_from f k (m - i) (drop (k * i) words)) t u at end
+      → Puts (places c z m n) (entries_from f k m words) s u start end
 
-module _ {A : Type 0} {c z : Codec A} {f : List ℕ → A} {k m n : ℕ} {words : List ℕ} {from : ℕ} {s : List ℕ} {start : ℕ} where
-  pub putting-start : Room (places c z m n) (entries_from f k m (drop from words)) s start → Putting c z f k m n words from s start 0 from s start
-  putting-start h = record {
-    done = omega arith;
-    there = omega arith;
-    kept = refl;
-    room = rw (sub-zero m, sub-zero n) h;
-    rest = λ u end p. rw (sub-zero m, sub-zero n) at p;
-  }
+module _ {A : Type 0} {c z : Codec A} {f : List ℕ → A} {k m n : ℕ} {words : List ℕ} {s : List ℕ} {start : ℕ} where
+  pub putting-start : Room (places c z m n) (entries_from f k m words) s start → Putting c z f k m n words s start 0 s start
+  putting-start h =
+      let none : k * 0 ≡ 0 = omega arith in
+      record {
+        done = omega arith;
+        kept = refl;
+        room = rw (none, sub-zero m, sub-zero n) h;
+        rest = λ u end p. rw (none, sub-zero m, sub-zero n) at p;
+      }
 
-  module _ {i place : ℕ} {t : List ℕ} {at : ℕ} (h : Putting c z f k m n words from s start i place t at) where
+  module _ {i : ℕ} {t : List ℕ} {at : ℕ} (h : Putting c z f k m n words s start i t at) where
+    next : k * i + k ≡ k * (i + 1)
+    next = omega arith
+
     module _ (inside : i < n) (few : n ≤ m) where
       here : Room (cons c (places c z (m - (i + 1)) (n - (i + 1))))
-          (f (drop place words) ∷ entries_from f k (m - (i + 1)) (drop (place + k) words)) t at
-      here = rw (places-next c z m n i (omega arith) inside, entries_next f k m i words place (omega arith)) at h.room
+          (f (drop (k * i) words) ∷ entries_from f k (m - (i + 1)) (drop (k * i + k) words)) t at
+      here = rw (places-next c z m n i (omega arith) inside, entries_next f k m i words (k * i) (omega arith)) at h.room
 
-      pub putting-room : Room c (f (drop place words)) t at
+      pub putting-room : Room c (f (drop (k * i) words)) t at
       putting-room = entry_first _ here
 
-      pub putting-next : {u : List ℕ} {next : ℕ} → length u ≡ length t → Puts c (f (drop place words)) t u at next
-          → Putting c z f k m n words from s start (i + 1) (place + k) u next
-      putting-next e p = record {
+      pub putting-next : {u : List ℕ} {end : ℕ} → length u ≡ length t → Puts c (f (drop (k * i) words)) t u at end
+          → Putting c z f k m n words s start (i + 1) u end
+      putting-next {u} {end} e p = record {
         done = omega arith;
-        there = omega (arith, h.there);
         kept = e ∙ h.kept;
-        room = entry_next _ here p;
-        rest = λ v end q. h.rest v end (rw (places-next c z m n i (omega arith) inside, entries_next f k m i words place (omega arith))
-            (entry-then _ here p q));
+        room = subst (λ (q : ℕ). Room (places c z (m - (i + 1)) (n - (i + 1))) (entries_from f k (m - (i + 1)) (drop q words)) u end) next
+            (entry_next _ here p);
+        rest = λ v last q. h.rest v last
+            (rw (places-next c z m n i (omega arith) inside, entries_next f k m i words (k * i) (omega arith)) (entry-then _ here p
+            (subst (λ (x : ℕ). Puts (places c z (m - (i + 1)) (n - (i + 1))) (entries_from f k (m - (i + 1)) (drop x words)) u v end last)
+            (sym next) q)));
       }
 
     -- after the last that is used
-    pub putting-done : Within 0 z → n ≤ i → Puts (places c z m n) (entries_from f k m (drop from words)) s t start at
+    pub putting-done : Within 0 z → n ≤ i → Puts (places c z m n) (entries_from f k m words) s t start at
     putting-done none le =
         let last : n - i ≡ 0 = omega arith in
         h.rest t at (rw last (put-none (size-unused c z none (m - i))))
 
 -- what is so of every entry is so of the one at a place
-pub each-entry : {A : Type 0} (P : A → Type 0) (f : List ℕ → A) (k m i : ℕ) (w : List ℕ) (from : ℕ) {place : ℕ} → Each P
-    (entries_from f k m (drop from w)) → i < m
-    → place ≡ from + k * i → P (f (drop place w))
+pub each-entry : {A : Type 0} (P : A → Type 0) (f : List ℕ → A) (k m i : ℕ) (w : List ℕ) → Each P (entries_from f k m w) → i < m
+    → P (f (drop (k * i) w))
 unfolding entries_from
-each-entry P f k zero i w from e h p = absurd (omega arith)
-each-entry P f k (suc m) zero w from e h p =
-    let z : from ≡ from + k * 0 = omega arith in
-    subst (λ (n : ℕ). P (f (drop n w))) (z ∙ sym p) e.0
-each-entry P f k (suc m) (suc i) w from {place} e h p =
-    let z : place ≡ from + k + k * i = omega arith in
-    each-entry P f k m i w (from + k) (subst (λ (v : List ℕ). Each P (entries_from f k m v)) (drop-drop k from w) e.1) (omega arith) z
+each-entry P f k zero i w e h = absurd (omega arith)
+each-entry P f k (suc m) zero w e h = let z : 0 ≡ k * 0 = omega arith in subst (λ (n : ℕ). P (f (drop n w))) z e.0
+each-entry P f k (suc m) (suc i) w e h =
+    let z : k + k * i ≡ k * suc i = omega arith in
+    subst (λ (n : ℕ). P (f (drop n w))) z
+    (subst (λ (v : List ℕ). P (f v)) (drop-drop (k * i) k w) (each-entry P f k m i (drop k w) e.1 (omega arith)))
 
 -- how many are used, by an equation
 module _ {A : Type 0} (c z : Codec A) (m : ℕ) {n k : ℕ} {l : List A} {s : List ℕ} {at : ℕ} (e : n ≡ k) where

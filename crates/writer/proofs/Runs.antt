@@ -121,7 +121,8 @@ module _ {A : Type 0} {c : Codec A} {a : A} (w x : ℕ) (rest : List Bool) (same
   unfolding number
   room-front = record { short = omega (arith, h.short, size, length-bits_of w x); fits = omega (arith, h.fits, size, length-bits_of w x) }
 
-  module _ {t : List ℕ} {m : ℕ} (p : Puts (number w) x s t at m) (k n y : ℕ) (wide : 8 ≤ w) (few : k ≤ 8) (over : bits_of (k + n) y ≡ bits_of k x ++ rest) where
+  module _ {t : List ℕ} {m : ℕ} (p : Puts (number w) x s t at m) (k n y : ℕ) (wide : 8 ≤ w) (few : k ≤ 8)
+      (over : bits_of (k + n) y ≡ bits_of k x ++ rest) where
     next_place : m ≡ at + w
     unfolding number
     next_place = omega (arith, p.next, length-bits_of w x)

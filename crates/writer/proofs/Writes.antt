@@ -78,7 +78,8 @@ pub room-refused : (bits : ℕ) (fits : Bool) {k : ℕ} → pick {A = Result Uni
 room-refused bits true e = never cc
 room-refused bits false e = let n : 8 ≡ _ = cc e in ap (λ (k : ℕ). Err k) n
 
-pub room-there : (bits : ℕ) (fits : Bool) → pick {A = Result Unit ℕ} fits (Ok tt) (Err 8) ≡ Ok tt → written bits (pick fits 0 8) ≡ Ok (record { 0 = bits })
+pub room-there : (bits : ℕ) (fits : Bool) → pick {A = Result Unit ℕ} fits (Ok tt) (Err 8) ≡ Ok tt
+    → written bits (pick fits 0 8) ≡ Ok (record { 0 = bits })
 room-there bits true e = refl
 room-there bits false e = never cc
 

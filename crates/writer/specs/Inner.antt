@@ -3,10 +3,13 @@ use Rattle.std.specs.Prelude.{◌≡◌, Bool, List, [], ◌∷◌, ◌++◌, �
 use Rattle.bits.specs.Bits.{bits, bits_of}
 use Rattle.bits.specs.Lists.{Each}
 use Rattle.codec.specs.Codec.{Codec}
-use Rattle.codec.specs.Parts.{seq}
-use Rattle.grammar.specs.Grammar.{part_of}
+use Rattle.codec.specs.Parts.{number, seq}
+use Rattle.codec.specs.Places.{places}
+use Rattle.grammar.specs.SiteSheet.{entries_of}
+use Rattle.grammar.specs.Grammar.{identity, no_identity, part_of}
 use Rattle.grammar.specs.Rows.{part_in, figures_of, services_of}
 use Rattle.grammar.specs.declared.site.PduType.{PduType}
+use Rattle.grammar.specs.declared.record.Identity.{Identity}
 use Rattle.grammar.specs.declared.record.Figures.{Figures}
 use Rattle.grammar.specs.declared.record.Services.{Services}
 use Rattle.grammar.specs.declared.record.Lists.{Lists}
@@ -22,6 +25,14 @@ pub record Puts {A : Type 0} (c : Codec A) (a : A) (before after : List ℕ) (at
   pub there : take end (bits after) ≡ take at (bits before) ++ c.print a
   pub next : end ≡ at + length (c.print a)
   pub kept : length after ≡ length before
+
+-- a range type and its entries, of which the PDU carries as many as it says
+abbrev pub listing : {A : Type 0} → Codec A → Codec A → Codec (ℕ × List A)
+listing used unused = seq (number 4) (λ code. places used unused 8 (entries_of code))
+
+-- the groups, and two lists of entries
+abbrev pub three : {A : Type 0} → Codec A → Codec A → Codec ((ℕ × List Identity) × ((ℕ × List A) × (ℕ × List A)))
+three used unused = seq (listing identity no_identity) (λ g. seq (listing used unused) (λ r. listing used unused))
 
 -- no length and no digit is 255, which stands for a word that is wider than a byte
 abbrev pub Small : Lists → Type 0

@@ -2,7 +2,12 @@
 // changes no byte.
 #![tactic(auto)]
 
-mod put;
+mod elements;
+mod identities;
+mod lists;
+mod numbers;
+mod record;
+mod services;
 
 ghost use Rattle.std.specs.Prelude.{◌≡◌, ◌++◌, ◌≤◌, length, drop, leb, Ok, Err};
 ghost use Rattle.bits.specs.Bits.{pick};
@@ -12,12 +17,11 @@ ghost use Rattle.words.specs.RecordWords.{record_from};
 ghost use Rattle.writer.specs.Inner.{Small};
 ghost use Rattle.writer.specs.Write.{length_of, write_refusal, written, write_is, out_is, write_words_is, write_words_out};
 
-use crate::put::put_record;
+use crate::record::put_record;
 use bits::BitCount;
 use grammar::record::Record;
 use grammar::site::kind_refusal;
 use tally::tally_words;
-use words::record;
 use words::record::RECORD_WORDS;
 
 // The length in bits, or the number with which the record is refused; the bytes of the PDU, and all after them as they were.
@@ -25,7 +29,7 @@ pub fn write(r: Record, out: &mut [u8]) -> Result<BitCount, u32>
     ensures { (result ≡ write_is r out.old) × (out.new ≡ out_is r out.old) }
 {
     let mut spelt = [0u32; RECORD_WORDS];
-    record::put_record(&mut spelt, r);
+    words::record::put_record(&mut spelt, r);
     write_words(&spelt, out)
 }
 

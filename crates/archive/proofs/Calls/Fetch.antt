@@ -1,5 +1,6 @@
 -- What the search finds is what is held for the key, and where its body stands. Assumes nothing.
 use Rattle.std.specs.Prelude.{Result, Ok, Err, Option, None, Some}
+use Rattle.std.specs.Option.{option_map}
 use mathlib.Core.Path.{◌≡◌, refl, sym, ap, ◌∙◌, subst}
 use mathlib.Core.Bool.{Bool, true, false}
 use mathlib.Core.List.{List, [], ◌∷◌}
@@ -30,8 +31,7 @@ use Rattle.archive.proofs.Bytes.Spliced.{place_in}
 
 -- the body of an entry whose body begins at a place, and what a place says of its key
 abbrev pub body_at : ℕ → Option Entry → Option Body
-body_at off None = None
-body_at off (Some e) = Some (record { off = off; bits = e.bits; day = e.day })
+body_at off = option_map (λ e. record { off = off; bits = e.bits; day = e.day })
 
 abbrev pub fetched_of : Place → Option Body
 fetched_of p = body_at p.off p.entry

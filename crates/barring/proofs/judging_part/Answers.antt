@@ -1,12 +1,13 @@
 -- 9 comes before 7; then each answer of the archive is the definition's own case. Assumes nothing.
-use Rattle.std.specs.Prelude.{Ok}
 use mathlib.Core.Path.{◌≡◌, sym, ap, ◌∙◌}
+use Rattle.std.proofs.Common.{rules}
+use Rattle.std.proofs.lemmas.Result.{err_from_is_err_and}
 use Prim.Native.Nat.{ℕ}
 use borrow.Author.Tests.{ne_eqb}
 use Rattle.rules.specs.Request.{request_refusal}
 use Rattle.archive.specs.Restoring.{fetch_is}
 use Rattle.barring.specs.Decide.{key_for, judging_part}
-use Rattle.barring.proofs.Decided.{part-fetched}
+use Rattle.barring.proofs.Decided.{part-fetched, mapped}
 use Rattle.barring.proofs.judging_part.Goals.{After-fetch}
 use Rattle.barring.proofs.judging_part.Goals as goal
 
@@ -27,15 +28,15 @@ fetches c =
     sym
     (c.fetch.ensures
     ∙ ap (λ (part : ℕ). fetch_is a.archive.now (record { network = a.request.user.network; ssi = a.request.user.ssi; part = part }))
-    c.part_for-part.ensures)
+    c.part_for.ensures)
 
-pub returns-in-Ok-Some : goal.returns-in-Ok-Some
-returns-in-Ok-Some c =
-    part-fetched _ _ (ranged (goal.at.returns-in-Ok-Some c).After-fetch) (fetches (goal.at.returns-in-Ok-Some c).After-fetch ∙ c.in-Ok-Some.is ∙ ap Ok c.in-Ok-Some.field-0-is)
+pub returns-in_err-held : goal.returns-in_err-held
+returns-in_err-held c =
+    let p = err_from_is_err_and c.from_residual.result c.from_residual.ensures.1 in
+    rw (p.1, p.2)
+    (part-fetched _ _ (ranged (goal.at.returns-in_err-held c).After-fetch) (fetches (goal.at.returns-in_err-held c).After-fetch ∙ c.in_err-held.was))
 
-pub returns-in-Ok-None : goal.returns-in-Ok-None
-returns-in-Ok-None c =
-    part-fetched _ _ (ranged (goal.at.returns-in-Ok-None c).After-fetch) (fetches (goal.at.returns-in-Ok-None c).After-fetch ∙ c.in-Ok-None.is ∙ ap Ok c.in-Ok-None.field-0-is)
-
-pub returns-in-Err : goal.returns-in-Err
-returns-in-Err c = part-fetched _ _ (ranged (goal.at.returns-in-Err c).After-fetch) (fetches (goal.at.returns-in-Err c).After-fetch ∙ c.in-Err.is)
+pub returns : goal.returns
+returns c =
+    let f = part-fetched _ _ (ranged (goal.at.returns c).After-fetch) (fetches (goal.at.returns c).After-fetch ∙ c.in_ok-held.was) in
+    mapped c.in_ok-held.held (search rules) ∙ f

@@ -17,7 +17,7 @@ use Rattle.archive.specs.Refusals.{plain}
 use Rattle.words.specs.RecordWords.{word}
 use Rattle.words.specs.RequestWords.{are_destination, are_group, are_request, is_request, request_from}
 use Rattle.barring.specs.Decide.{decide_is}
-use Rattle.boc.specs.Calls.{decided_number, decide_answer}
+use Rattle.boc.specs.Calls.{told_number, decide_answer}
 use Rattle.promises.specs.Answers.{OneOf, Exactly}
 use Rattle.promises.specs.Calls.{Checked, wrong, right, OfDestination, identity, number, OfGroup, given, not-given, OfRequest}
 use Rattle.promises.specs.Demand1.Reading.{told}
@@ -103,11 +103,11 @@ given-record s n words = go (eqb words 520) refl
     go false f e = absurd (omega (arith, e))
 
 -- what is decided are a request's words
-pub asked : (b w : List ℕ) → decided_number (decide_answer b w) ≡ 0 → (is_request w ≡ true) × (decided_number (decide_is b (request_from w)) ≡ 0)
+pub asked : (b w : List ℕ) → told_number (decide_answer b w) ≡ 0 → (is_request w ≡ true) × (told_number (decide_is b (request_from w)) ≡ 0)
 unfolding decide_answer
 asked b w = go (is_request w) refl
   where
-    go : (t : Bool) → is_request w ≡ t → decided_number (pick t (decide_is b (request_from w)) (Err (plain 9))) ≡ 0
-        → (is_request w ≡ true) × (decided_number (decide_is b (request_from w)) ≡ 0)
+    go : (t : Bool) → is_request w ≡ t → told_number (pick t (decide_is b (request_from w)) (Err (plain 9))) ≡ 0
+        → (is_request w ≡ true) × (told_number (decide_is b (request_from w)) ≡ 0)
     go true f e = (f, e)
     go false f e = absurd (omega (arith, e))

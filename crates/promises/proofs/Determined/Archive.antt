@@ -27,6 +27,9 @@ fetch_determined = by_equations (λ κs a x v p. (p, refl))
 pub check_determined : Determined archive.check.Kinds.ps archive.check.Kinds.r archive.check.Reads.Learnt
 check_determined = by_equations (λ κs a x v p. (p, refl))
 
+pub plain_determined : Determined archive.refusal.Refusal.plain.Kinds.ps archive.refusal.Refusal.plain.Kinds.r archive.refusal.Refusal.plain.Reads.Learnt
+plain_determined = by_equations (λ κs a x v p. (p, refl))
+
 pub in_range_determined : Determined archive.in_range.Kinds.ps archive.in_range.Kinds.r archive.in_range.Reads.Learnt
 in_range_determined = by_equations (λ κs a x v p. (p, refl))
 

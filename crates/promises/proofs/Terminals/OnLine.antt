@@ -15,6 +15,7 @@ use Rattle.terminals.specs.Lines.{Says, line_of}
 use Rattle.terminals.specs.Profiles.{is_table, reset_is, reset_out, fields_refusal, names, set_in, without_text, settles, set_line}
 use Rattle.terminals.specs.Reading.{text_of}
 use Rattle.terminals.specs.Answers.{read_is, read_out, line_is, table_after, out_after}
+use Rattle.terminals.specs.declared.Refusal.{Refusal}
 use Rattle.terminals.specs.declared.layers.Place.{Place}
 use Rattle.terminals.specs.declared.lines.Fields.{Fields}
 use Rattle.terminals.specs.declared.lines.Line.{Line}
@@ -41,7 +42,7 @@ settles-number : (f : Fields) → returned (settles f) ≡ returned (fields_refu
 unfolding settles
 settles-number f = go (fields_refusal f)
   where
-    go : (o : Result (Unit {0}) ℕ) → returned (without_text o) ≡ returned o
+    go : (o : Result (Unit {0}) Refusal) → returned (without_text o) ≡ returned o
     go (Ok done) = refl
     go (Err k) = refl
 
@@ -78,7 +79,7 @@ module _ (s t : List ℕ) where
 
     -- ---- the table of refusals
 
-    by-fields : (f : Fields) {k : Result (Unit {0}) ℕ} → IsTable t → Says s (Set f) → Judged f k → Gives s t room (returned k)
+    by-fields : (f : Fields) {k : Result (Unit {0}) Refusal} → IsTable t → Says s (Set f) → Judged f k → Gives s t room (returned k)
     by-fields f h y (bad-value b) = value f h y b
     by-fields f h y (bad-count n b) = count f h y n b
     by-fields f h y (good n m) = sets f h y n m
@@ -143,7 +144,8 @@ module _ (s t : List ℕ) where
   set-leaves f e k z = rw (e, k, z)
 
   module _ (out : List ℕ) (old : ℕ) where
-    set-length : (f : Fields) → is_table t ≡ true → line_of s ≡ Some (Set f) → fields_refusal f ≡ Ok tt → line_length (line_is s t (length out)) old ≡ 0
+    set-length : (f : Fields) → is_table t ≡ true → line_of s ≡ Some (Set f) → fields_refusal f ≡ Ok tt
+        → line_length (line_is s t (length out)) old ≡ 0
     unfolding line_is settles
     set-length f e k z = rw (e, k, z)
 
@@ -180,7 +182,7 @@ module _ (s t : List ℕ) where
     unfolding line_is table_after out_after
     bad-stays e k = (rw (e, k), rw (e, k), rw (e, k))
 
-    set-stays : (f : Fields) → is_table t ≡ true → line_of s ≡ Some (Set f) → {n : ℕ} → fields_refusal f ≡ Err n → Stays
+    set-stays : (f : Fields) → is_table t ≡ true → line_of s ≡ Some (Set f) → {n : Refusal} → fields_refusal f ≡ Err n → Stays
     unfolding line_is table_after out_after settles set_line
     set-stays f e k z = (rw (e, k, z), rw (e, k), rw (e, k, z))
 
@@ -195,7 +197,7 @@ module _ (s t : List ℕ) where
         reading e k true r = absurd (z (of-read (length out) e k ∙ fits (length out) (leb-true (length (text_of t)) (length out) r)))
         reading e k false r = read_stays e k (leb-false (length (text_of t)) (length out) r)
 
-        setting : (f : Fields) → is_table t ≡ true → line_of s ≡ Some (Set f) → (o : Result (Unit {0}) ℕ) → fields_refusal f ≡ o → Stays
+        setting : (f : Fields) → is_table t ≡ true → line_of s ≡ Some (Set f) → (o : Result (Unit {0}) Refusal) → fields_refusal f ≡ o → Stays
         setting f e k (Ok done) n = absurd (z (of-set (length out) f e k ∙ ap returned n))
         setting f e k (Err m) n = set-stays f e k n
 

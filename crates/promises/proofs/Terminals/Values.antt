@@ -10,6 +10,8 @@ use Rattle.bits.specs.Bits.{guard}
 use Rattle.bits.proofs.Tests.{both, both⁻¹, never, differ}
 use Rattle.terminals.specs.Layers.{layer_at}
 use Rattle.terminals.specs.Profiles.{is_among, is_value, takes, fields_refusal}
+use Rattle.terminals.specs.declared.Refusal.{Refusal}
+use Rattle.terminals.specs.declared.Refusal.TheVariants as refuses
 use Rattle.terminals.specs.declared.lines.Fields.{Fields}
 use Rattle.terminals.proofs.Places.{each}
 use Rattle.boc.specs.Serial.{returned}
@@ -68,9 +70,9 @@ not_named = refl
 
 -- ---- what is wrong with the fields
 
-pub data Judged (f : Fields) : Result (Unit {0}) ℕ → Type 0 where
-  bad-value : BadValue f → Judged f (Err 16)
-  bad-count : (BadValue f → ⊥) → BadCount f → Judged f (Err 17)
+pub data Judged (f : Fields) : Result (Unit {0}) Refusal → Type 0 where
+  bad-value : BadValue f → Judged f (Err refuses.BadValue)
+  bad-count : (BadValue f → ⊥) → BadCount f → Judged f (Err refuses.SurplusField)
   good : (BadValue f → ⊥) → (BadCount f → ⊥) → Judged f (Ok tt)
 
 module _ (f : Fields) where
@@ -116,7 +118,10 @@ module _ (f : Fields) where
     where
       go : (p : Bool) → leb f.profile 3 ≡ p → (l : Bool) → leb f.layer 4 ≡ l → (v : Bool) → is_value (layer_at f.layer) f.third ≡ v
           → (t : Bool) → takes (layer_at f.layer) f.third ≡ t → (o : Bool) → f.fourth ≡ o
-          → Judged f (guard p (Err 16) (guard l (Err 16) (guard v (Err 16) (guard t (Err 17) (guard (not o) (Err 17) (Ok tt))))))
+          → Judged f
+          (guard p (Err refuses.BadValue)
+          (guard l (Err refuses.BadValue)
+          (guard v (Err refuses.BadValue) (guard t (Err refuses.SurplusField) (guard (not o) (Err refuses.SurplusField) (Ok tt))))))
       go false p l' l v' v t' t o' o = bad-value (says.profile (leb-false f.profile 3 p))
       go true p false l v' v t' t o' o = bad-value (says.layer (leb-false f.layer 4 l))
       go true p true l false v t' t o' o = bad-value (no_value f.third refl (leb-true f.layer 4 l) v)
@@ -128,23 +133,23 @@ module _ (f : Fields) where
           good (values-good (leb-true f.profile 3 p) (leb-true f.layer 4 l) v) (counts-good t o)
 
 -- where 0 is returned, nothing is wrong
-pub passes : {f : Fields} {k : Result (Unit {0}) ℕ} → Judged f k → returned k ≡ 0 → k ≡ Ok tt
+pub passes : {f : Fields} {k : Result (Unit {0}) Refusal} → Judged f k → returned k ≡ 0 → k ≡ Ok tt
 passes (bad-value b) e = absurd (omega arith)
 passes (bad-count n b) e = absurd (omega arith)
 passes (good n m) e = refl
 
 -- what is wrong gives the number
-pub gives-16 : {f : Fields} {k : Result (Unit {0}) ℕ} → Judged f k → BadValue f → k ≡ Err 16
+pub gives-16 : {f : Fields} {k : Result (Unit {0}) Refusal} → Judged f k → BadValue f → k ≡ Err refuses.BadValue
 gives-16 (bad-value b) h = refl
 gives-16 (bad-count n b) h = absurd (n h)
 gives-16 (good n m) h = absurd (n h)
 
-pub gives-17 : {f : Fields} {k : Result (Unit {0}) ℕ} → Judged f k → (BadValue f → ⊥) → BadCount f → k ≡ Err 17
+pub gives-17 : {f : Fields} {k : Result (Unit {0}) Refusal} → Judged f k → (BadValue f → ⊥) → BadCount f → k ≡ Err refuses.SurplusField
 gives-17 (bad-value b) h c = absurd (h b)
 gives-17 (bad-count n b) h c = refl
 gives-17 (good n m) h c = absurd (m c)
 
-pub gives-0 : {f : Fields} {k : Result (Unit {0}) ℕ} → Judged f k → (BadValue f → ⊥) → (BadCount f → ⊥) → k ≡ Ok tt
+pub gives-0 : {f : Fields} {k : Result (Unit {0}) Refusal} → Judged f k → (BadValue f → ⊥) → (BadCount f → ⊥) → k ≡ Ok tt
 gives-0 (bad-value b) h c = absurd (h b)
 gives-0 (bad-count n b) h c = absurd (c b)
 gives-0 (good n m) h c = refl

@@ -1,12 +1,10 @@
 -- 520 words or 9; then the walk's refusal, or the words of the record that it accepts. Assumes nothing.
 use mathlib.Core.Path.{◌≡◌, sym, ap, ◌∙◌}
 use mathlib.Core.Bool.{true, false}
-use native.Mathlib.Omega.{arith}
 use borrow.Author.Tests.{eq-eqb, ne_eqb}
 use lib.ListN.{length}
 use Rattle.std.proofs.Common.{Err, rules}
 use Rattle.words.specs.RecordWords.{are_record}
-use Rattle.words.proofs.Putting.{put_whole}
 use Rattle.reader.specs.Words.{read_words_is, read_words}
 use Rattle.reader.proofs.Parts.{fills-is}
 use Rattle.reader.specs.Read.{answer_of}
@@ -35,7 +33,7 @@ fill_record-requires c =
     let a = accepted (goal.at.fill_record-requires c).In_ok-walk in
     record {
       few = a.few;
-      room = omega (arith, c.if-words-ne-RECORD_WORDS.false);
+      room = c.if-words-ne-RECORD_WORDS.false;
       reads = record { value = a.found; end = a.end; read = a.read };
     }
 
@@ -43,7 +41,7 @@ pub returns : goal.returns
 unfolding read_words_is read_words
 returns c =
     let a = accepted (goal.at.returns c).In_ok-walk in
-    let left = put_whole c.if-words-ne-RECORD_WORDS.false (fills-is c.fill_record.ensures a.read).1 in record {
+    let left = fills-is c.fill_record.ensures a.read in record {
       value = rw (whole (goal.at.returns c).Else-words-ne-RECORD_WORDS, a.same);
       words_after = rw (whole (goal.at.returns c).Else-words-ne-RECORD_WORDS, a.same) left;
     }

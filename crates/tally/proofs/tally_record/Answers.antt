@@ -26,7 +26,8 @@ after-ss c =
     (refusing 6 (only ss_type) c.element-after_ss.ensures refl))
 
 pub element-after_kind-requires : goal.element-after_kind-requires
-element-after_kind-requires c = (omega arith, fits-element 5 kind_refusal (fits-first _ (after-ss (goal.at.element-after_kind-requires c).After-element-after_ss)))
+element-after_kind-requires c =
+    (omega arith, fits-element 5 kind_refusal (fits-first _ (after-ss (goal.at.element-after_kind-requires c).After-element-after_ss)))
 
 pub rest-requires : goal.rest-requires
 unfolding record_from

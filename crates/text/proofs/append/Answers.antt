@@ -29,11 +29,3 @@ returns c =
       out_after = all.1;
       laid = λ h. laid;
     }
-
-pub overflow_add-end : goal.overflow_add-end
-overflow_add-end c =
-    omega (arith, room c)
-
-pub slice_bounds-copy_from_slice-end : goal.slice_bounds-copy_from_slice-end
-slice_bounds-copy_from_slice-end c =
-    omega (arith, room c)

@@ -32,7 +32,8 @@ tallied c = c.tally_words-sum.ensures.of-record (eq-eqb _ 520 c.requires)
 pub returns-then-not-sum : goal.returns-then-not-sum
 returns-then-not-sum c =
     let a = c.args in
-    rw (not-clean (record_from a.words.now) a.room (said-no (tallied (goal.at.returns-then-not-sum c).After-tally_words-sum).clean (not-true _ c.if-not-sum.true)))
+    let t = tallied (goal.at.returns-then-not-sum c).After-tally_words-sum in
+    rw (not-clean (record_from a.words.now) a.room (said-no t.clean (not-true _ c.if-not-sum.true)))
 
 size : (c : After-tally_words-sum) → c.tally_words-sum.result.bits ≡ length_of
     (record_from c.args.words.now)
@@ -57,7 +58,8 @@ pub returns-then-fault-ne0 : goal.returns-then-fault-ne0
 returns-then-fault-ne0 c =
     let n : ℕ = length_of (record_from c.args.words.now) in
     let t = (goal.at.returns-then-fault-ne0 c).After-tally_words-sum in
-    sym (ap (written n) (given (goal.at.returns-then-fault-ne0 c).Else-not-sum) ∙ written-first n c.tally_words-sum.result.refusal (short t) c.if-fault-ne0.true)
+    sym (ap (written n) (given (goal.at.returns-then-fault-ne0 c).Else-not-sum)
+    ∙ written-first n c.tally_words-sum.result.refusal (short t) c.if-fault-ne0.true)
 
 -- where there is no fault
 faultless : (c : Else-fault-ne0) → let a = c.args in

@@ -58,5 +58,5 @@ returns c =
     record {
       value = list (goal.at.returns c).Start;
       read = rw end at c.requires.reads.read;
-      says = c.in_range.ensures ∙ sym (ap₂ (in_range c.args.missing c.args.user) low high);
+      says = c.in_range.ensures ∙ sym (ap₂ (in_range c.args.wanted.missing c.args.wanted.user) low high);
     }

@@ -43,7 +43,8 @@ few c = omega (arith, count-is c, number_small 3 (parts (goal.at.After-window-wi
 
 near : (c : After-window-window) → c.args.at + 3 ≤ 4096
 near c =
-    number_fits c.args.s.now c.args.at 3 (omega arith) c.requires.few (record { value = _; end = _; read = (parts (goal.at.After-window-window c).Start).head })
+    let head = (parts (goal.at.After-window-window c).Start).head in
+    number_fits c.args.s.now c.args.at 3 (omega arith) c.requires.few (record { value = _; end = _; read = head })
 
 listed : (c : After-window-window) → let v = c.requires.reads.value in
     Read (listing (c.window-window.result / 2 ^ 54)) (bits c.args.s.now) (c.args.at + 3) v.list c.requires.reads.end
@@ -65,7 +66,8 @@ here c = let a = c.args in let i = c.loop-i.i in
     let r = along-next c.loop-i.invariant (omega arith) in
     let n = (element-says 3 service_refusal (bits a.s.now) (a.at + 3 + 3 * i) r.read.same).0 in
     let place : a.at + 3 + 3 * i ≡ a.at + (3 + 3 * i) = omega arith in
-    let v = inside_is a.s.now a.at c.window-window.ensures 3 (omega arith) (3 + 3 * i) place (omega (arith, few (goal.at.After-is_covering c).After-window-window)) (record { same = n }) in
+    let w = (goal.at.After-is_covering c).After-window-window in
+    let v = inside_is a.s.now a.at c.window-window.ensures 3 (omega arith) (3 + 3 * i) place (omega (arith, few w)) (record { same = n }) in
     let shift : 57 - (3 + 3 * i) - 3 ≡ 51 - 3 * i = omega arith in
     let end : r.end ≡ a.at + 3 + 3 * (i + 1) = number-end (bits a.s.now) (a.at + 3 + 3 * i) 3 n ∙ omega arith in
     record {
@@ -86,7 +88,8 @@ whole c e =
 
 pub returns-then-is_covering : goal.returns-then-is_covering
 returns-then-is_covering c =
-    whole (goal.at.returns-then-is_covering c).After-window-window (along-found c.loop-i.invariant (omega arith) (here (goal.at.returns-then-is_covering c).After-is_covering) c.if-is_covering.true)
+    let here-is = here (goal.at.returns-then-is_covering c).After-is_covering in
+    whole (goal.at.returns-then-is_covering c).After-window-window (along-found c.loop-i.invariant (omega arith) here-is c.if-is_covering.true)
 
 pub loop-i-preserved : goal.loop-i-preserved
 loop-i-preserved c =

@@ -9,9 +9,10 @@ use Rattle.rules.proofs.matching.number_among.Given as goal
 
 abbrev pub invariant-loop-j : goal.invariant-loop-j
 invariant-loop-j l =
-    (l.found ≡ false) × (same (slice l.j l.places l.e.digits) (slice l.j l.places l.digits) ≡ is_number l.length.0 l.digits l.e)
+    (l.found ≡ false)
+    × (same (slice l.j l.places l.e.digits) (slice l.j l.places l.number.digits) ≡ is_number l.number.length.0 l.number.digits l.e)
 
 abbrev pub invariant-entries : goal.invariant-entries
 invariant-entries l =
-    (l.found ≡ false)
-    × (some (is_number l.length.0 l.digits) (slice l.e-index l.e-index-end l.e-items) ≡ some (is_number l.length.0 l.digits) (take l.e-index-end l.e-items))
+    let f = is_number l.number.length.0 l.number.digits in
+    (l.found ≡ false) × (some f (slice l.e-index l.e-index-end l.e-items) ≡ some f (take l.e-index-end l.e-items))

@@ -9,22 +9,22 @@ use Rattle.bits.specs.Lists.{every}
 use Rattle.bits.proofs.Lists.{drop_min}
 use Rattle.rules.specs.Request.{is_unused}
 use Rattle.rules.proofs.Search.{summed, sum-end}
-use Rattle.rules.proofs.request.unused_are_zero.Goals.{After-least-n}
+use Rattle.rules.proofs.request.unused_are_zero.Goals.{After-min-n}
 use Rattle.rules.proofs.request.unused_are_zero.Goals as goal
 
 -- what is not used is what the length leaves
-rest : (c : After-least-n)
+rest : (c : After-min-n)
     → let a = c.args in
-    let unused = take (24 - c.least-n.result) (drop c.least-n.result a.digits) in
+    let unused = take (24 - c.min-n.result) (drop c.min-n.result a.digits) in
     every is_unused (take (length unused) unused) ≡ every is_unused (drop a.length.0 a.digits)
 rest c =
     let a = c.args in
-    let left = drop c.least-n.result a.digits in
+    let left = drop c.min-n.result a.digits in
     let long : 24 ≡ length a.digits = omega arith in
-    let size : 24 - c.least-n.result ≡ length left = omega (arith, length-drop c.least-n.result a.digits) in
+    let size : 24 - c.min-n.result ≡ length left = omega (arith, length-drop c.min-n.result a.digits) in
     ap (every is_unused)
-    (take-length (take (24 - c.least-n.result) left) ∙ ap (λ (n : ℕ). take n left) size ∙ take-length left
-    ∙ ap (λ (u : ℕ). drop u a.digits) (c.least-n.ensures ∙ ap (min a.length.0) long)
+    (take-length (take (24 - c.min-n.result) left) ∙ ap (λ (n : ℕ). take n left) size ∙ take-length left
+    ∙ ap (λ (u : ℕ). drop u a.digits) (c.min-n.ensures ∙ ap (min a.length.0) long)
     ∙ drop_min a.length.0 a.digits)
 
 pub loop-digit-preserved : goal.loop-digit-preserved
@@ -37,4 +37,4 @@ loop-digit-preserved c = (
 
 pub returns : goal.returns
 returns c =
-    sum-end c.loop-digit-test.false is_unused _ c.loop-digit.sum c.loop-digit.invariant.1 ∙ rest (goal.at.returns c).After-least-n
+    sum-end c.loop-digit-test.false is_unused _ c.loop-digit.sum c.loop-digit.invariant.1 ∙ rest (goal.at.returns c).After-min-n

@@ -1,6 +1,6 @@
 -- None used is above 12, and none unused above 0. Assumes nothing.
 use mathlib.Core.Path.{◌≡◌, ◌∙◌, ap}
-use Prim.Native.Nat.{◌+◌, ◌-◌, min}
+use Prim.Native.Nat.{◌+◌, min}
 use Rattle.codec.specs.Codec.{first}
 use Rattle.words.specs.RecordWords.{narrow}
 use Rattle.tally.proofs.Digits.{digits-fit, digits_tallied}
@@ -18,15 +18,13 @@ overflow_add-result c =
     omega (
       arith,
       c.bits.ensures,
-      digits-fit a.words.now (narrow a.n) a.from c.min-used.result c.requires.0 (few (goal.at.overflow_add-result c).After-min-used)
-          c.requires.1,
+      digits-fit a.words.now (narrow a.n) c.min-used.result c.requires.0 (few (goal.at.overflow_add-result c).After-min-used) c.requires.1,
     )
 
 pub returns : goal.returns
 returns c =
     let a = c.args in
-    let rest : a.from + 24 - (a.from + c.min-used.result) ≡ 24 - c.min-used.result = omega arith in
-    digits_tallied a.words.now (narrow a.n) a.from c.min-used.result c.requires.0 (few (goal.at.returns c).After-min-used)
-    c.are_legal-legal.ensures (rw rest at c.none_above-unused.ensures) (search rules)
+    digits_tallied a.words.now (narrow a.n) c.min-used.result c.requires.0 (few (goal.at.returns c).After-min-used)
+    c.are_legal-legal.ensures c.none_above-unused.ensures (search rules)
     (c.first_refusal.ensures ∙ ap (first a.self.refusal) c.refusal_unless.ensures)
     (ap (◌+◌ a.self.bits) c.bits.ensures)

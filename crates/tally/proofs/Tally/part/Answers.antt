@@ -1,8 +1,6 @@
 -- By the part: identities, numbers, or nothing. Assumes nothing.
-use lib.ListN.{length-drop}
 use borrow.Author.Tests.{eq-eqb, ne_eqb}
 use Rattle.tally.proofs.Unused.{uncarried-part, skipped}
-use native.Mathlib.Omega.{arith}
 use Rattle.tally.proofs.Tally.part.Goals as goal
 
 pub identity_part-requires : goal.identity_part-requires
@@ -24,4 +22,4 @@ pub returns : goal.returns
 returns c =
     let r = c.args.part in
     rw (ne_eqb r 1 c.if-part-eq1.false, ne_eqb r 2 c.if-part-eq2.false)
-    (skipped (uncarried-part _ (omega (arith, length-drop c.args.at c.args.words.now, c.requires.0))) c.unused.ensures)
+    (skipped (uncarried-part _ c.requires.0) c.unused.ensures)

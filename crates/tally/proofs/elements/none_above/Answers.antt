@@ -21,8 +21,10 @@ tested c =
     let a = c.args in
     let d : ℕ = get_or a.words.now c.loop-word.word-index 0 in
     elim c.if-most-word.branch [
-      | then-most-word w ↦ w.none-is ∙ sym (ap (λ (b : Bool). c.loop-word.none && b) (lt-leb d a.most w.if-most-word.true) ∙ and-false c.loop-word.none)
-      | else-most-word w ↦ w.none-is ∙ sym (ap (λ (b : Bool). c.loop-word.none && b) (le-leb d a.most w.if-most-word.false) ∙ and-true c.loop-word.none)
+      | then-most-word w ↦
+          w.none-is ∙ sym (ap (λ (b : Bool). c.loop-word.none && b) (lt-leb d a.most w.if-most-word.true) ∙ and-false c.loop-word.none)
+      | else-most-word w ↦
+          w.none-is ∙ sym (ap (λ (b : Bool). c.loop-word.none && b) (le-leb d a.most w.if-most-word.false) ∙ and-true c.loop-word.none)
     ]
 
 pub loop-word-init : goal.loop-word-init

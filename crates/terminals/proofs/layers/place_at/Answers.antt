@@ -35,9 +35,6 @@ found c e =
     ap (place_by l i c.layer_of-row.result) (sym e)
     ∙ ap (λ (r : Layer). place_by l i r r.first) c.layer_of-row.ensures ∙ sym (place_at l i c.layer_with-layer.ensures)
 
-pub overflow_sub-result : goal.overflow_sub-result
-overflow_sub-result c = omega (arith, c.layer_with-layer.ensures.from, ap (λ (r : Layer). r.start) c.layer_of-row.ensures)
-
 pub returns-in-Some : goal.returns-in-Some
 returns-in-Some c = found (goal.at.returns-in-Some c).After-layer_of-row c.in-Some.is
 

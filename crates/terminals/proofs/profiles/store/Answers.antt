@@ -12,7 +12,8 @@ use Rattle.terminals.specs.declared.layers.Layer.{Layer}
 use Rattle.terminals.proofs.Places.{ends}
 use Rattle.terminals.proofs.Fields.{Settled, settled, value_of, not_taken}
 use Rattle.terminals.proofs.Setting.{filled, set_all, set-one}
-use Rattle.terminals.proofs.profiles.store.Goals.{After-layer_of-row, In-Some-Some, In_default, in_default-via-in-Some+in_default, in_default-via-in_default}
+use Rattle.terminals.proofs.profiles.store.Goals.{After-layer_of-row, In-Some-Some, In_default}
+use Rattle.terminals.proofs.profiles.store.Goals.{in_default-via-in-Some+in_default, in_default-via-in_default}
 use Rattle.terminals.proofs.profiles.store.Goals as goal
 
 fits : (c : After-layer_of-row) → Settled c.args.fields
@@ -33,6 +34,9 @@ given c =
     let e = c.layer_of-row.ensures in
     let first = same_Some _ _ (sym c.in-Some-Some.is-0 ∙ ap (λ (r : Layer). r.first) e ∙ v.named) in
     (omega (arith, v.low), omega (arith, v.high, ap (λ (r : Layer). r.count) e))
+
+pub layer_of-row-requires : goal.layer_of-row-requires
+layer_of-row-requires c = (settled c.args.fields c.requires.0).layer
 
 pub overflow_cast-profile : goal.overflow_cast-profile
 overflow_cast-profile c = omega (arith, (fits (goal.at.overflow_cast-profile c).After-layer_of-row).profile)

@@ -28,7 +28,3 @@ returns c =
     let over : length (lines_text (drop c.loop-index.index places) (drop c.loop-index.index t)) ≡ 0 =
     ap length (lines-over t c.loop-index.index c.requires (omega arith)) in
     (omega arith, omega arith)
-
-pub overflow_add-size : goal.overflow_add-size
-overflow_add-size c =
-    omega (arith, c.line_length-size.ensures.1)

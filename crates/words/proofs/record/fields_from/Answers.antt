@@ -8,8 +8,8 @@ returns c =
     let w = c.args.words.now in
     λ i. record {
       kind = word w 0;
-      affected = c.identities_from.ensures i;
+      affected = c.read.ensures i;
       figures = c.nine_from.ensures i;
-      services = c.services_from.ensures i;
+      services = c.read-2.ensures i;
       lists = c.lists_from.ensures i;
     }

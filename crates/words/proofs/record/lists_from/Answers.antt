@@ -10,8 +10,8 @@ unfolding lists_from
 returns c =
     let a = c.args in
     let w = a.words.now in
-    let r = c.identities_from-2.ensures ∙ ap identities_from (sym (drop-drop restricted_at a.at w)) in
-    let x = c.identities_from-3.ensures ∙ ap identities_from (sym (drop-drop exceptions_at a.at w)) in
-    let n = c.numbers_from.ensures ∙ ap numbers_from (sym (drop-drop numbers_at a.at w)) in
-    let y = c.numbers_from-2.ensures ∙ ap numbers_from (sym (drop-drop excepted_at a.at w)) in
-    λ i. record { groups = c.identities_from.ensures i; restricted = r i; exceptions = x i; numbers = n i; excepted = y i }
+    let r = c.read-2.ensures ∙ ap identities_from (sym (drop-drop restricted_at a.at w)) in
+    let x = c.read-3.ensures ∙ ap identities_from (sym (drop-drop exceptions_at a.at w)) in
+    let n = c.read-4.ensures ∙ ap numbers_from (sym (drop-drop numbers_at a.at w)) in
+    let y = c.read-5.ensures ∙ ap numbers_from (sym (drop-drop excepted_at a.at w)) in
+    λ i. record { groups = c.read.ensures i; restricted = r i; exceptions = x i; numbers = n i; excepted = y i }

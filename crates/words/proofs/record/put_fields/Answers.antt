@@ -9,8 +9,8 @@ unfolding record_words
 returns c =
     put_whole c.requires
     (then (omega arith) c.put_word-affected_at.ensures
-    (then (omega arith) c.put_identities-asked_at.ensures
+    (then (omega arith) c.put-asked_at.ensures
     (then (omega arith) c.put_three-services_at.ensures
-    (then (omega arith) c.put_services-lists_at.ensures
+    (then (omega arith) c.put-lists_at.ensures
     (then (omega arith) c.put_lists-delivery_at.ensures
     (then (omega arith) c.put_three-defined_at.ensures c.put_three.ensures))))))

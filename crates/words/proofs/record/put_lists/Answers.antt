@@ -8,7 +8,7 @@ pub returns : goal.returns
 unfolding lists_words
 returns c =
     let room = c.requires in
-    then (omega arith) c.put_identities-restricted_at.ensures
-    (then (omega arith) c.put_identities-exceptions_at.ensures
-    (then (omega arith) c.put_identities-numbers_at.ensures
-    (then (omega arith) c.put_numbers-excepted_at.ensures c.put_numbers.ensures)))
+    then (omega arith) c.put-restricted_at.ensures
+    (then (omega arith) c.put-exceptions_at.ensures
+    (then (omega arith) c.put-numbers_at.ensures
+    (then (omega arith) c.put-excepted_at.ensures c.put.ensures)))

@@ -1,30 +1,13 @@
--- The count, then as many. Assumes nothing.
+-- The count, then as many services. Assumes nothing.
 use Rattle.std.proofs.Common.{rules}
-use mathlib.Core.Path.{sym, ap, ◌∙◌}
-use Rattle.codec.specs.Parts.{absent, element}
-use Rattle.codec.specs.Places.{places}
-use Rattle.codec.specs.Reading.{reached}
-use Rattle.codec.proofs.Reading.{read_at-absent}
-use Rattle.codec.proofs.Onward.{exit, found, ends}
-use Rattle.grammar.specs.SiteSheet.{count_refusal, service_refusal}
-use Rattle.grammar.specs.Grammar.{services}
-use Rattle.grammar.proofs.Codes.{between_le}
-use Rattle.grammar.proofs.Steps.{services-at}
+use Rattle.std.specs.Prelude.{Ok}
+use mathlib.Core.Path.{sym, ◌∙◌}
+use Rattle.codec.specs.Parts.{element}
+use Rattle.grammar.specs.SiteSheet.{service_refusal}
 use Rattle.walk.specs.Inner.{pass, bits_of}
-use Rattle.walk.proofs.Numbers.{element-says}
-use Rattle.walk.proofs.Passes.{pass-stays, pass-then, pass-places}
+use Rattle.walk.proofs.Lists.{pass-services}
 use Rattle.walk.proofs.exact.Pdu.pass_services.Goals as goal
-
-pub returns-in_err-count : goal.returns-in_err-count
-returns-in_err-count c =
-    exit c.from_residual.ensures.1
-    ∙ ap reached (sym (services-at _ _ ∙ ends _ _ (c.in_err-count.ensures count_refusal (λ v k p. search rules))))
 
 pub returns : goal.returns
 unfolding pass
-returns c =
-    let l = bits_of c.args.self in
-    let read = found _ (c.in_ok-count.ensures count_refusal (λ v k p. search rules)) in
-    c.repeated.ensures (pass (element 3 service_refusal) l) (λ at r p. search rules) (pass-stays (element 3 service_refusal) l)
-    ∙ sym (pass-places (element 3 service_refusal) absent 0 l (read_at-absent _) 7 _ _ (between_le 1 7 _ (element-says _ _ _ _ read).1))
-    ∙ sym (pass-then services l _ _ (places (element 3 service_refusal) absent 7) _ (services-at _ _) read)
+returns c = c.pass_counted.ensures (element 3 service_refusal) (λ at r p. search rules) ∙ sym (pass-services (bits_of c.args.self) (Ok c.args.at))

@@ -1,0 +1,7 @@
+-- A code and entries. Assumes nothing.
+use Rattle.words.specs.RecordWords.{numbers_from}
+use Rattle.words.proofs.record.NumbersStored.read.Goals as goal
+
+pub returns : goal.returns
+unfolding numbers_from
+returns c = λ i. record { code = (c.list_from-code.ensures i).0; entries = (c.list_from-code.ensures i).1 }
