@@ -20,6 +20,7 @@ use walk::Refusal;
 use words::record::{RECORD_WORDS, record_from};
 
 // Reads the PDU of n bits in s into the words of its record: 9 for another number of words than a record's, then as `read`.
+#[inline(never)]
 pub fn read_words(s: &[u8], n: BitCount, words: &mut [u32]) -> Result<(), Refusal>
     ensures value { result ≡ read_words_is s.now n.0 (length words.old) }
     ensures words_after { words.new ≡ read_words s.now n.0 words.old }

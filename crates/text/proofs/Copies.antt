@@ -1,21 +1,37 @@
--- Bytes laid in a buffer: by a part that is lent on, before others that were laid first; and where there is room for them or not.
+-- Bytes copied to a buffer: by a loop, by a part that is lent on, before others that were laid first; and where there is room for them or not.
 -- Assumes nothing.
 use mathlib.Core.Path.{◌≡◌, refl, sym, ap, ◌∙◌}
 use mathlib.Core.Bool.{false}
-use mathlib.Core.List.{List, ◌++◌, append_assoc}
-use Prim.Native.Nat.{ℕ, ◌+◌, ◌-◌, ◌≤◌}
+use mathlib.Core.List.{List, [], ◌∷◌, ◌++◌, append_assoc, append-nil}
+use Prim.Native.Nat.{ℕ, zero, suc, ◌+◌, ◌-◌, ◌≤◌, ◌<◌}
 use native.Mathlib.Omega.{arith}
-use native.Mathlib.Nat.{add-sub_cancel_left}
+use native.Mathlib.Nat.{le_of_suc-le-suc, not-suc-le-zero, add-sub_cancel_left}
+use native.Mathlib.Numerals.{add-one}
 use borrow.Author.Tests.{le-leb}
 use lib.Dec.{leb}
-use lib.ListN.{length, take, drop, length-append}
-use lib.Seq.{take-add, drop-drop, length-take-le}
+use lib.ListN.{length, get_or, take, drop, set, length-append, drop_of_length-le}
+use lib.Seq.{take_all, take-add, drop-drop, length-take-le}
 use Rattle.bits.specs.Bits.{splice}
 use Rattle.bits.specs.Inner.{Laid}
 use Rattle.bits.proofs.Laying.{then, first_fits, rest-fits}
 use Rattle.bits.proofs.Lists.{length_part}
 use Rattle.bits.proofs.Splices.{splice_at}
 use Rattle.text.specs.Laying.{end_at, laid_at}
+
+-- a turn's store takes the copy of i bytes to the copy of one more
+pub copied-one : (src dst : List ℕ) (i : ℕ) → i < length src → i < length dst
+    → set (take i src ++ drop i dst) i (get_or src i 0) ≡ take (i + 1) src ++ drop (i + 1) dst
+copied-one src dst i h k = rw add-one (go src dst i h k)
+  where
+    go : (src dst : List ℕ) (i : ℕ) → i < length src → i < length dst
+        → set (take i src ++ drop i dst) i (get_or src i 0) ≡ take (suc i) src ++ drop (suc i) dst
+    go [] dst i h k = absurd (not-suc-le-zero h)
+    go (x ∷ xs) [] i h k = absurd (not-suc-le-zero k)
+    go (x ∷ xs) (y ∷ ys) zero h k = refl
+    go (x ∷ xs) (y ∷ ys) (suc i) h k = ap (λ (l : List ℕ). x ∷ l) (go xs ys i (le_of_suc-le-suc h) (le_of_suc-le-suc k))
+
+pub copied_all : (src dst : List ℕ) (i : ℕ) → length src ≤ i → length dst ≤ i → take i src ++ drop i dst ≡ src
+copied_all src dst i h k = rw (take_all i src h, drop_of_length-le dst k) (append-nil src)
 
 -- what a part that is lent on leaves, where the writer left s in it
 pub lent : (out s : List ℕ) (at : ℕ) {s' : List ℕ} → s' ≡ s

@@ -27,8 +27,18 @@ pub fn append(out: &mut [u8], at: usize, bytes: &[u8]) -> usize
         return at;
     }
     let end = at + bytes.len();
-    out[at..end].copy_from_slice(bytes);
+    copy(&mut out[at..end], bytes);
     end
+}
+
+// Copies bytes to a part that is as long. By a loop: std's `copy_from_slice` would be a call of `memmove`, which the library for C needs nowhere else.
+fn copy(part: &mut [u8], bytes: &[u8])
+    requires { length bytes.now ≡ length part.old }
+    ensures { part.new ≡ bytes.now }
+{
+    for i in 0..bytes.len() {
+        part[i] = bytes[i];
+    }
 }
 
 // How many digits a number has.
@@ -36,7 +46,10 @@ pub fn digits_of(n: usize) -> usize
     ensures value { result ≡ length (decimal n) }
     ensures bound { result ≤ 20 }
 {
-    n.max(1).ilog10() as usize + 1
+    if n < 10 {
+        return 1;
+    }
+    n.ilog10() as usize + 1
 }
 
 // Writes the digits of a number between two places, the last one first.

@@ -15,7 +15,7 @@ pub struct Pdu<'a> {
 }
 
 // A buffer, and the length of the archive in it, which a line may set to any number.
-#[derive(Drop)]
+#[derive(Clone, Copy)]
 pub struct Held {
     pub length: usize,
     pub bytes: [u8; LONG],

@@ -8,7 +8,7 @@ use std::io;
 use std::io::Write;
 
 // The PDU given last, and its record.
-#[derive(Drop)]
+#[derive(Clone, Copy)]
 pub struct Last {
     pub bits: usize,
     pub bytes: [u8; 520],

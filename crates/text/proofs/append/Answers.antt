@@ -1,6 +1,5 @@
 -- Where there is room: what the writer leaves in the part that is lent on is the bytes, and all around it stays. Assumes nothing.
 use Prim.Native.Nat.{◌+◌, ◌≤◌}
-use native.Mathlib.Omega.{arith}
 use borrow.Author.Tests.{leb-true}
 use lib.ListN.{length}
 use Rattle.bits.proofs.Tests.{said-no, said-yes}
@@ -23,7 +22,7 @@ room c = leb-true _ _ (said-yes c.has_room.ensures c.if-not-has_room.false)
 pub returns : goal.returns
 returns c =
     let a = c.args in
-    let laid = lent a.out.now a.bytes.now a.at c.copy_from_slice.ensures.after in
+    let laid = lent a.out.now a.bytes.now a.at c.copy.ensures in
     let all = by-laid (room (goal.at.returns c).Else-not-has_room) laid in record {
       value = all.0;
       out_after = all.1;
