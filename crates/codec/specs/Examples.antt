@@ -5,7 +5,7 @@ use Rattle.codec.specs.Codec.{Codec, ok, no, first}
 use Rattle.codec.specs.Parts.{number, absent, element, tested, seq, ◌>>=◌}
 use Rattle.codec.specs.Places.{nil, cons, places}
 use Rattle.codec.specs.Whole.{whole_parse}
-use Rattle.codec.specs.Reading.{got, refused, read_at, said, reached, element_of, tested_is}
+use Rattle.codec.specs.Reading.{got, refused, read_at, said, reached, resume, element_of, tested_is}
 
 unfoldable some : ℕ → ℕ
 some n = pick (ltb 0 n) 0 3
@@ -75,6 +75,12 @@ elements : (element_of (0x49 ∷ 0x80 ∷ []) 11 5 6 ≡ got 12 11)
 unfolding element_of read_at number bits bits_of value
 elements = (refl, refl, refl, refl)
 
+-- the same read by who stands at place 6, and by who was refused with 3 at place 2
+resumed : (resume (Ok (record { at = 6 })) (element_of (0x49 ∷ 0x80 ∷ []) 11 5) ≡ got 12 11)
+    × (resume (Err (record { number = 3; at = 2 })) (element_of (0x49 ∷ 0x80 ∷ []) 11 5) ≡ refused 3 2)
+unfolding resume element_of read_at number bits bits_of value
+resumed = (refl, refl)
+
 -- a number that was read from place 6 to 11, under its test: passed; refused where it begins; what stood before is passed on
 tested-numbers : (tested_is (Ok (record { at = 6 })) (Ok (12, record { at = 11 })) 0 ≡ Ok (12, record { at = 11 }))
     × (tested_is (Ok (record { at = 6 })) (Ok (13, record { at = 11 })) 10 ≡ Err (record { number = 10; at = 6 }))
@@ -87,5 +93,6 @@ tested-numbers = (refl, refl, refl, refl)
 results : (said (element_of (0x49 ∷ 0x80 ∷ []) 11 5 6) ≡ Ok (12, record { at = 11 }))
     × (said (element_of (0x49 ∷ 0x80 ∷ []) 11 5 7) ≡ Err (record { number = 2; at = 7 }))
     × (reached (element_of (0x49 ∷ 0x80 ∷ []) 11 5 6) ≡ Ok (record { at = 11 }))
+    × (reached (element_of (0x49 ∷ 0x80 ∷ []) 11 5 7) ≡ Err (record { number = 2; at = 7 }))
 unfolding element_of read_at number bits bits_of value
-results = (refl, refl, refl)
+results = (refl, refl, refl, refl)

@@ -26,12 +26,12 @@ use Rattle.archive.specs.Restoring.{lookup}
 use Rattle.archive.specs.declared.contents.Key.{Key}
 use Rattle.archive.specs.declared.refusal.Refusal.{Refusal}
 use Rattle.reload.specs.Define.{define_of, stands}
-use Rattle.reload.specs.Reload.{record_of, reload_is, reload_out}
+use Rattle.reload.specs.Reload.{reloaded_refusal, record_of, reload_is, reload_out}
 use Rattle.reload.specs.declared.Definition.{Definition}
 use Rattle.reload.specs.declared.Target.{Target}
 use Rattle.reload.proofs.Standing.{define-stands}
 use Rattle.archive.proofs.Model.Found.{held-agrees}
-use Rattle.boc.specs.Calls.{told_refusal, reloaded_length}
+use Rattle.boc.specs.Calls.{reloaded_length}
 use Rattle.promises.specs.Answers.{OneOf}
 use Rattle.promises.specs.Archive as archive
 use Rattle.promises.specs.Archive.{IsArchive, Ranged}
@@ -75,7 +75,7 @@ module _ (t : Target) (b : List ℕ) (key : Key) (d : Definition) (out : List �
 
   module _ (n : ℕ) (e : reload_is t b key d out ≡ Ok (record { 0 = n })) (k : IsArchive b) (h : Held) (x : Holds b key k h) where
     done : Success t b key d out
-    done = succeeded t b key d out (ap (λ (x : Result BitCount Refusal). (told_refusal x).number) e)
+    done = succeeded t b key d out (ap (λ (x : Result BitCount Refusal). (reloaded_refusal x).number) e)
 
     found_as : lookup key (reading b).held ≡ Some h
     found_as = holds b key done.ranged k h x
@@ -116,7 +116,7 @@ module _ (t : Target) (b : List ℕ) (key : Key) (d : Definition) (out : List �
     not-lost s e =
         let w = defined t b key d h in
         let twelve : writes.number w out ≡ 12 =
-        ap (λ (f : Refusal). f.number) (sym (wrote-number t b key d out r a k h x (is-standing t _ _ s)) ∙ ap told_refusal e) in
+        ap (λ (f : Refusal). f.number) (sym (wrote-number t b key d out r a k h x (is-standing t _ _ s)) ∙ ap reloaded_refusal e) in
         differ (sym (subst (OneOf (0 ∷ 3 ∷ 4 ∷ 8 ∷ [])) twelve ((writing.promise).table w out).listed))
 
     lost-exactly : (reload_is t b key d out ≡ Err (plain 12)) ↔ ((y : Record) → Puttable t d (record_of h) y → ⊥)

@@ -23,7 +23,7 @@ use Rattle.archive.specs.Reading.{reading}
 use Rattle.archive.specs.Filing.{same_key}
 use Rattle.archive.specs.Refusals.{plain}
 use Rattle.archive.specs.Checking.{check_is, if_archive}
-use Rattle.archive.specs.Keeping.{over, empty_is, empty_out, capture_out}
+use Rattle.archive.specs.Keeping.{stored_refusal, over, empty_is, empty_out, capture_out}
 use Rattle.archive.specs.Restoring.{restore_out}
 use Rattle.archive.specs.History.{Offer, kept_of, answer_to, after, after_all, offered_for, latest, last_accepted}
 use Rattle.archive.specs.declared.contents.Key.{Key}
@@ -37,7 +37,7 @@ use Rattle.reload.specs.declared.Target.{Target}
 use Rattle.words.specs.RequestWords.{request_from}
 use Rattle.barring.specs.Decide.{key_for, part_in, judged_by, decide_is}
 use Rattle.barring.specs.Decision.{decision_of, verdict_of}
-use Rattle.boc.specs.Calls.{told_refusal, told_number, stored_length, empty_number, restored_length, restored_day, key_of, restore_answer}
+use Rattle.boc.specs.Calls.{told_number, stored_length, empty_number, restored_length, restored_day, key_of, restore_answer}
 use Rattle.boc.specs.Calls.{reloaded_length}
 use Rattle.boc.specs.Calls.{decided_verdict, decide_answer}
 use Rattle.promises.specs.Sequences.{Call, returned, gone_on, gone_on_all, last_zero, begun, Promise}
@@ -61,7 +61,7 @@ archives = archive-kept.promise
 -- no capture is refused with 0
 zero-taken : (b : List ℕ) (o : Offer) (f : Refusal) → answer_to b o ≡ Err f → f.number ≡ 0 → ⊥
 zero-taken b o f e z =
-    let w = ((capture.promise).success b o.pdu o.bits o.day o.lent (ap (λ (a : Result ℕ Refusal). (told_refusal a).number) e ∙ z)).0 in
+    let w = ((capture.promise).success b o.pdu o.bits o.day o.lent (ap (λ (a : Result ℕ Refusal). (stored_refusal a).number) e ∙ z)).0 in
     never cc
 
 goes : (a : Result ℕ Refusal) (b out : List ℕ) (old : ℕ) → ((f : Refusal) → a ≡ Err f → f.number ≡ 0 → ⊥)

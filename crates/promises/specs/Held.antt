@@ -9,11 +9,10 @@ use Rattle.judging.specs.Judge.{may_hold}
 use Rattle.archive.specs.Model.{length_of, within_limits}
 use Rattle.archive.specs.Reading.{is_archive}
 use Rattle.archive.specs.Refusals.{plain}
-use Rattle.archive.specs.Keeping.{captured, placed, capture_is, capture_out}
+use Rattle.archive.specs.Keeping.{stored_refusal, captured, placed, capture_is, capture_out}
 use Rattle.archive.specs.Examples.{calls}
 use Rattle.archive.proofs.Model.Checked.{archive_checked}
 use Rattle.archive.specs.declared.refusal.Refusal.{Refusal}
-use Rattle.boc.specs.Calls.{told_refusal}
 
 -- an INTERROGATE ACK (PDU type 12) that accepts (interrogation result 1 or 2), for one user (affected range type 1)
 pub record Holdable (r : Record) : Type 0 where
@@ -61,7 +60,7 @@ module _ (b s : List ℕ) (n day room : ℕ) (dated : day < 65536) (archive : is
 
   not-6 : may_hold (found_in (read_is s n)) ≡ true → capture_is b s n day room ≡ Err (plain 6) → ⊥
   not-6 m e =
-      let refused : Result ℕ Refusal → ℕ = λ a. (told_refusal a).number in
+      let refused : Result ℕ Refusal → ℕ = λ a. (stored_refusal a).number in
       by-test (λ (a : Result ℕ Refusal). refused a ≡ 6 → ⊥) fits (λ x. omega (arith, x)) (λ x. omega (arith, x)) (ap refused (sym (answer true m) ∙ e))
 
   pub gives-6 : (capture_is b s n day room ≡ Err (plain 6)) ↔ (Holdable (found_in (read_is s n)) → ⊥)
@@ -77,7 +76,7 @@ nothing = 0x00 ∷ 0x00 ∷ 0x01 ∷ 0x00 ∷ 0x00 ∷ []
 
 -- the number of the answer to a PDU of n bits, of day 300
 abbrev number : List ℕ → ℕ → ℕ
-number s n = (told_refusal (capture_is nothing s n 300 100)).number
+number s n = (stored_refusal (capture_is nothing s n 300 100)).number
 
 -- results 1 and 2, with three empty lists: held
 accepting : (number (0x49 ∷ 0x82 ∷ 0x00 ∷ 0x00 ∷ 0x0a ∷ 0x21 ∷ 0x20 ∷ 0x00 ∷ []) 63 ≡ 0)

@@ -16,11 +16,12 @@ use Rattle.codec.specs.Whole.{whole_parse}
 use Rattle.codec.specs.Reading.{answer, read_at}
 use Rattle.codec.proofs.Whole.{whole-sound}
 use Rattle.grammar.specs.Grammar.{pdu}
+use Rattle.grammar.specs.Zero.{zero_record}
 use Rattle.grammar.specs.declared.record.Record.{Record}
 use Rattle.walk.specs.Walk as walk
 use Rattle.walk.specs.declared.Head.{Head}
 use Rattle.walk.specs.declared.Refusal.{Refusal}
-use Rattle.words.specs.RecordWords.{record_words, given_record}
+use Rattle.words.specs.RecordWords.{record_words, given_record, records}
 use Rattle.words.proofs.Given.{record-found}
 use Rattle.words.proofs.LegalRecords.{record-sized}
 use Rattle.words.proofs.RecordInverse.{record-long, record-back}
@@ -104,10 +105,14 @@ module _ (s : List ℕ) (n : ℕ) where
 
 -- ---- the record that the words give back
 
--- what reading accepts is read back from its words
-pub read_back : (s : List ℕ) (n : ℕ) → answer_of (read_is s n) ≡ Ok tt → given_record (read_words s n (replicate 520 0)) ≡ Some (found_in (read_is s n))
+given-zeros : given_record (replicate 520 0) ≡ Some zero_record
+unfolding given_record records
+given-zeros = refl
+
+-- what reading accepts is read back from its words, and zeros are read back as the record that stands for a refusal
+pub found_back : (s : List ℕ) (n : ℕ) → given_record (read_words s n (replicate 520 0)) ≡ Some (found_in (read_is s n))
 unfolding read_is read_words
-read_back s n = go (framed s n) (whole_parse pdu (bits_in n s)) refl
+found_back s n = go (framed s n) (whole_parse pdu (bits_in n s)) refl
   where
     given_back : (r : Record) → Legal pdu r → given_record (record_words r) ≡ Some r
     given_back r l =
@@ -115,7 +120,7 @@ read_back s n = go (framed s n) (whole_parse pdu (bits_in n s)) refl
         record-found (record_words r) (eq-eqb _ 520 (record-long r f)) ∙ ap (λ (x : Record). Some x) (record-back r f)
 
     go : (t : Bool) (o : Outcome Record) → whole_parse pdu (bits_in n s) ≡ o → let q = pick t (answered o) (refusing 1 None) in
-        answer_of q ≡ Ok tt → given_record (if_accepted (answer_of q) (record_words (found_in q)) (replicate 520 0)) ≡ Some (found_in q)
-    go true (ok r at left) e a = given_back r (whole-sound pdu (bits_in n s) r at left e).0
-    go true (no k p) e a = never cc
-    go false o e a = never cc
+        given_record (if_accepted (answer_of q) (record_words (found_in q)) (replicate 520 0)) ≡ Some (found_in q)
+    go true (ok r at left) e = given_back r (whole-sound pdu (bits_in n s) r at left e).0
+    go true (no k p) e = given-zeros
+    go false o e = given-zeros

@@ -1,5 +1,5 @@
 -- What was written in decimal is a field, and says the same number. Assumes nothing.
-use mathlib.Core.Path.{◌≡◌, refl, ap, ◌∙◌}
+use mathlib.Core.Path.{◌≡◌, refl, ap, ◌∙◌, subst}
 use mathlib.Core.Bool.{Bool, true, false}
 use mathlib.Core.List.{List, [], ◌∷◌, ◌++◌, append_assoc}
 use Prim.Native.Nat.{ℕ, zero, suc, ◌+◌, ◌-◌, ◌*◌, ◌/◌, ◌%◌, ◌^◌, ◌≤◌, ◌<◌}
@@ -7,10 +7,11 @@ use native.Mathlib.Omega.{arith}
 use native.Mathlib.Nat.{pow-suc}
 use borrow.Author.Tests.{ltb-true, lt-ltb, le-leb}
 use lib.ListN.{length, take, drop, length-append}
-use lib.Seq.{take-append_seam, drop-append_seam}
+use lib.Seq.{take-append_seam, drop-append_seam, length-take-le}
 use lib.Dec.{ltb}
 use Rattle.bits.specs.Bits.{pick}
-use Rattle.text.specs.Decimal.{digit, digits, decimal}
+use Rattle.text.specs.Laying.{laid_at}
+use Rattle.text.specs.Decimal.{digit, digits, decimal, item}
 use Rattle.text.specs.Field.{is_digit, run, number_from, number_of, field_of, field_at}
 use Rattle.std.specs.Prelude.{Some}
 use Rattle.text.proofs.Decimals.{within}
@@ -65,3 +66,20 @@ field-decimal n widest before rest h w e =
     let number : number_of (take m (drop at (before ++ (decimal n ++ rest)))) ≡ n =
     ap (λ (s : List ℕ). number_of (take m s)) there ∙ ap number_of (take-append_seam (decimal n) rest) ∙ p.number in
     rw (all, le-leb 1 m p.some, le-leb m widest w, le-leb m 9 (within 8 n h), number) refl
+
+-- what `write_item` wrote from a place on is read there as the same number, where what stands behind it does not begin with a digit;
+-- so is what `write_number` wrote, which has no word after it (`item_alone`)
+pub item-read : (out : List ℕ) (at n widest : ℕ) (word : List ℕ) → at + length (item n word) ≤ length out → n < 10 ^ 9 → length (decimal n) ≤ widest
+    → run (word ++ drop (at + length (item n word)) out) ≡ 0
+    → field_at (laid_at out at (item n word)) at widest ≡ Some (n, at + length (decimal n))
+unfolding laid_at item
+item-read out at n widest word room few w e =
+    let s : List ℕ = decimal n ++ word in
+    let before : List ℕ = take at out in
+    let behind : List ℕ = drop (at + length s) out in
+    let size : length before ≡ at = length-take-le at out (omega arith) in
+    let laid : laid_at out at s ≡ before ++ (decimal n ++ (word ++ behind)) =
+    rw (le-leb (at + length s) (length out) room) (ap (λ (x : List ℕ). before ++ x) (append_assoc (decimal n) word behind)) in
+    ap (λ (x : List ℕ). field_at x at widest) laid
+    ∙ subst (λ (k : ℕ). field_at (before ++ (decimal n ++ (word ++ behind))) k widest ≡ Some (n, k + length (decimal n))) size
+    (field-decimal n widest before (word ++ behind) few w e)

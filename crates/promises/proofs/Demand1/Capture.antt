@@ -19,7 +19,7 @@ use Rattle.archive.specs.Refusals.{plain, of_pdu}
 use Rattle.archive.specs.Checking.{check_is}
 use Rattle.walk.specs.declared.Refusal as pdu
 use Rattle.archive.specs.declared.refusal.Refusal.{Refusal}
-use Rattle.archive.specs.Keeping.{held_for, captured, capture_is}
+use Rattle.archive.specs.Keeping.{stored_refusal, held_for, captured, capture_is}
 use Rattle.archive.specs.Restoring.{lookup}
 use Rattle.archive.specs.declared.contents.Key.{Key}
 use Rattle.archive.proofs.Model.Bodies as bodies
@@ -27,7 +27,6 @@ use Rattle.archive.proofs.Model.Rules.{all_fit, archive-formed}
 use Rattle.archive.proofs.Model.Put.{is_none, rules-put}
 use Rattle.archive.proofs.Calls.Capture.{offered-agrees, no-day, no-archive, capture-leaves}
 use Rattle.archive.proofs.Calls.Limits.{full_for, eight}
-use Rattle.boc.specs.Calls.{told_refusal}
 use Rattle.promises.specs.Answers.{OneOf}
 use Rattle.promises.specs.Held.{may_be-held}
 use Rattle.promises.specs.Archive as said
@@ -142,10 +141,10 @@ module _ (b s : List ℕ) (n day room : ℕ) where
     placed = eight b s n day room o.dated (archive o.archive) o.accepted may
 
     offered : Both (answer b s n day room)
-    offered = subst Both (sym (ap told_refusal placed)) (go is_full refl (ltb 65536 size) refl (ltb room size) refl)
+    offered = subst Both (sym (ap stored_refusal placed)) (go is_full refl (ltb 65536 size) refl (ltb room size) refl)
       where
         go : (p : Bool) → is_full ≡ p → (q : Bool) → ltb 65536 size ≡ q → (t : Bool) → ltb room size ≡ t
-            → Both (told_refusal (pick (p || (q || t)) (Err (plain 8)) (Ok size)))
+            → Both (stored_refusal (pick (p || (q || t)) (Err (plain 8)) (Ok size)))
         go true e q f t g = (full o (is-full e), refl)
         go false e true f t g = (too_long o (omega (arith, long, ltb-true 65536 size f)), refl)
         go false e false f true g = (no_room o (omega (arith, long, ltb-true room size g)), refl)
@@ -155,7 +154,7 @@ module _ (b s : List ℕ) (n day room : ℕ) where
             (success o (λ x. differ (sym (full_is x) ∙ e)) l h, refl)
 
     over : is_full || (ltb 65536 size || ltb room size) ≡ true → answer b s n day room ≡ plain 8
-    over e = ap told_refusal (placed ∙ ap (λ (t : Bool). pick t (Err (plain 8)) (Ok size)) e)
+    over e = ap stored_refusal (placed ∙ ap (λ (t : Bool). pick t (Err (plain 8)) (Ok size)) e)
 
     fits : (Full b s n o.archive → ⊥) → length (result b s n day) ≤ 65536 → length (result b s n day) ≤ room → capture_is b s n day room ≡ Ok size
     fits f l h =
@@ -176,7 +175,7 @@ module _ (b s : List ℕ) (n day room : ℕ) where
   dated-row dated = go (check_is b) refl (answer_of (read_is s n)) refl (may_hold (found_in (read_is s n))) refl
     where
       to : {f : Refusal} → capture_is b s n day room ≡ Err f → Both f → Both (answer b s n day room)
-      to e h = subst Both (sym (ap told_refusal e)) h
+      to e h = subst Both (sym (ap stored_refusal e)) h
 
       unread-row : IsArchive b → (k : ℕ) (p : Option ℕ) → answer_of (read_is s n) ≡ Err (read.told k p) → Both (answer b s n day room)
       unread-row a zero p f = absurd (accepted-not f)
@@ -203,19 +202,19 @@ module _ (b s : List ℕ) (n day room : ℕ) where
       go true e = dated-row (omega (arith, leb-true day 65535 e))
       go false e =
           let late = leb-false day 65535 e in
-          subst Both (sym (ap told_refusal (no-day b s n day room late))) (undated late, refl)
+          subst Both (sym (ap stored_refusal (no-day b s n day room late))) (undated late, refl)
 
   or-true : (p : Bool) {q : Bool} → q ≡ true → p || q ≡ true
   or-true true e = refl
   or-true false e = e
 
   back : (x : Refusal) → Given b s n day room x → answer b s n day room ≡ x
-  back x (success o f l h) = ap told_refusal (fits o f l h)
-  back x (undated late) = ap told_refusal (no-day b s n day room late)
-  back x (damaged y d k) = ap told_refusal (no-archive b s n day room d ((broken.refuses b y).1 k))
-  back x (unread m p d e f) = ap told_refusal (pdu-refused b s n day room d e f)
+  back x (success o f l h) = ap stored_refusal (fits o f l h)
+  back x (undated late) = ap stored_refusal (no-day b s n day room late)
+  back x (damaged y d k) = ap stored_refusal (no-archive b s n day room d ((broken.refuses b y).1 k))
+  back x (unread m p d e f) = ap stored_refusal (pdu-refused b s n day room d e f)
   back x (not-kept d e f g) =
-      ap told_refusal (may-not b s n day room d e f (false-unless _ (λ t. g ((may_be-held (found_in (read_is s n))).0 t))))
+      ap stored_refusal (may-not b s n day room d e f (false-unless _ (λ t. g ((may_be-held (found_in (read_is s n))).0 t))))
   back x (full o f) = over o (ap (λ (p : Bool). p || (ltb 65536 size || ltb room size)) (full_is o f))
   back x (too_long o h) = over o (or-true is_full (ap (λ (q : Bool). q || ltb room size) (lt-ltb 65536 size (omega (arith, long o, h)))))
   back x (no_room o h) = over o (or-true is_full (or-true (ltb 65536 size) (lt-ltb room size (omega (arith, long o, h)))))

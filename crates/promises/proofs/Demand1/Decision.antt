@@ -21,9 +21,8 @@ use Rattle.archive.specs.Reading.{reading}
 use Rattle.archive.specs.Refusals.{plain}
 use Rattle.archive.specs.Checking.{check_is, if_archive}
 use Rattle.archive.specs.declared.refusal.Refusal.{Refusal}
-use Rattle.boc.specs.Calls.{told_refusal}
 use Rattle.barring.specs.Decide.{judged_by, part_in, decide_is}
-use Rattle.barring.specs.Decision.{decision_of, verdict_of}
+use Rattle.barring.specs.Decision.{decided_refusal, decision_of, verdict_of}
 use Rattle.barring.specs.declared.Decision.{Decision}
 use Rattle.promises.specs.Answers.{OneOf}
 use Rattle.promises.specs.Demand1.Decision.{answer, Ranged, Given, success, unranged, damaged, Promise}
@@ -41,7 +40,7 @@ broken = broken-kept.promise
 abbrev Decided : Result Decision Refusal → Type 0
 Decided d = Verdict (verdict_of d) d
 
-verdict-number : {n : ℕ} {d : Result Decision Refusal} → Verdict n d → told_refusal d ≡ plain 0
+verdict-number : {n : ℕ} {d : Result Decision Refusal} → Verdict n d → decided_refusal d ≡ plain 0
 verdict-number outside-group = refl
 verdict-number restricted-service = refl
 verdict-number restricted-address = refl
@@ -96,17 +95,17 @@ module _ (q : Request) where
         to e h = subst Both (sym e) h
 
         go : (t : Bool) → test q ≡ t → (c : Result (Unit {0}) Refusal) → check_is b ≡ c → Both (answer b q)
-        go false e c f = to (ap told_refusal (by false c e f)) (unranged (λ r. differ (sym (passes q r) ∙ e)), refl)
+        go false e c f = to (ap decided_refusal (by false c e f)) (unranged (λ r. differ (sym (passes q r) ∙ e)), refl)
         go true e (Err x) f =
             let k = (broken.refuses b x).0 f in
-            to (ap told_refusal (by true (Err x) e f)) (damaged x (in-range q e) k, subst (OneOf (0 ∷ 9 ∷ 7 ∷ [])) (sym (seven k)) refl)
+            to (ap decided_refusal (by true (Err x) e f)) (damaged x (in-range q e) k, subst (OneOf (0 ∷ 9 ∷ 7 ∷ [])) (sym (seven k)) refl)
         go true e (Ok _) f =
-            to (ap told_refusal (by true (Ok tt) e f) ∙ verdict-number decided) (success (in-range q e) ((broken.passes b).0 f), refl)
+            to (ap decided_refusal (by true (Ok tt) e f) ∙ verdict-number decided) (success (in-range q e) ((broken.passes b).0 f), refl)
 
     back : (f : Refusal) → Given b q f → answer b q ≡ f
-    back f (success r a) = ap told_refusal (by true (Ok tt) (passes q r) ((broken.passes b).1 a)) ∙ verdict-number decided
-    back f (unranged r) = ap told_refusal (by false (check_is b) (false-unless (test q) (λ e. r (in-range q e))) refl)
-    back f (damaged x r k) = ap told_refusal (by true (Err x) (passes q r) ((broken.refuses b x).1 k))
+    back f (success r a) = ap decided_refusal (by true (Ok tt) (passes q r) ((broken.passes b).1 a)) ∙ verdict-number decided
+    back f (unranged r) = ap decided_refusal (by false (check_is b) (false-unless (test q) (λ e. r (in-range q e))) refl)
+    back f (damaged x r k) = ap decided_refusal (by true (Err x) (passes q r) ((broken.refuses b x).1 k))
 
     -- what is decided is in its range, and from an archive
     pub accepted : (f : Refusal) → Given b q f → f.number ≡ 0 → Ranged q × (check_is b ≡ Ok tt)

@@ -11,12 +11,11 @@ use borrow.Author.Tests.{ltb-true, ltb-false, leb-true, leb-false, lt-ltb, le-lt
 use Rattle.bits.specs.Bits.{pick}
 use Rattle.archive.specs.Model.{header_width, header_bytes, bytes_of}
 use Rattle.archive.specs.Refusals.{plain}
-use Rattle.archive.specs.Keeping.{leaves, empty_of, empty_is, empty_out}
+use Rattle.archive.specs.Keeping.{stored_refusal, leaves, empty_of, empty_is, empty_out}
 use Rattle.promises.specs.Answers.{OneOf}
 use Rattle.promises.specs.Demand1.Empty.{number, Given, success, unranged, no_room, Promise}
 use Rattle.promises.proofs.Tables.{exactly}
 use Rattle.archive.specs.declared.refusal.Refusal.{Refusal}
-use Rattle.boc.specs.Calls.{told_refusal}
 
 abbrev answer_by : Bool → Bool → Result ℕ Refusal
 answer_by ranged room = pick ranged (pick room (Ok header_width) (Err (plain 8))) (Err (plain 9))
@@ -29,14 +28,14 @@ module _ (home room : ℕ) where
   unfolding empty_is
   row = go (ltb home 16777216) refl (leb header_width room) refl
     where
-      go : (p : Bool) → ltb home 16777216 ≡ p → (q : Bool) → leb header_width room ≡ q → Both (told_refusal (answer_by p q)).number
+      go : (p : Bool) → ltb home 16777216 ≡ p → (q : Bool) → leb header_width room ≡ q → Both (stored_refusal (answer_by p q)).number
       go true e true f = (success (ltb-true _ _ e) (leb-true _ _ f), refl)
       go true e false f = (no_room (ltb-true _ _ e) (leb-false _ _ f), refl)
       go false e q f = (unranged (ltb-false _ _ e), refl)
 
   -- the number of an answer
-  numbered : {a : Result ℕ Refusal} → empty_is home room ≡ a → number home room ≡ (told_refusal a).number
-  numbered e = ap (λ (x : Result ℕ Refusal). (told_refusal x).number) e
+  numbered : {a : Result ℕ Refusal} → empty_is home room ≡ a → number home room ≡ (stored_refusal a).number
+  numbered e = ap (λ (x : Result ℕ Refusal). (stored_refusal x).number) e
 
   back : (k : ℕ) → Given home room k → number home room ≡ k
   unfolding empty_is

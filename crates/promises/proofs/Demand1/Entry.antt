@@ -8,7 +8,7 @@ use lib.ListN.{length}
 use Rattle.archive.specs.Model.{Held, Archive}
 use Rattle.archive.specs.Reading.{reading}
 use Rattle.archive.specs.Checking.{check_is}
-use Rattle.archive.specs.Restoring.{held_nth, listed_as, entry_is}
+use Rattle.archive.specs.Restoring.{listed_refusal, held_nth, listed_as, entry_is}
 use Rattle.archive.specs.declared.refusal.Refusal.{Refusal}
 use Rattle.archive.proofs.Model.Rules.{archive-formed}
 use Rattle.promises.specs.Answers.{OneOf}
@@ -23,7 +23,6 @@ use Rattle.promises.proofs.Broken as broken-kept
 use Rattle.promises.proofs.Broken.{seven}
 use Rattle.promises.proofs.Demand1.Restore.{restored-held}
 use Rattle.archive.specs.declared.contents.Entry.{Entry}
-use Rattle.boc.specs.Calls.{told_refusal}
 
 abbrev archives : said.Promise
 archives = archive-kept.promise
@@ -50,8 +49,8 @@ module _ (b : List ℕ) (index : ℕ) where
   row : Both (answer b index)
   row = go (check_is b) refl (held_nth (reading b).held index) refl
     where
-      to : {r : Result Entry Refusal} → entry_is b index ≡ r → Both (told_refusal r) → Both (answer b index)
-      to e h = subst Both (sym (ap told_refusal e)) h
+      to : {r : Result Entry Refusal} → entry_is b index ≡ r → Both (listed_refusal r) → Both (answer b index)
+      to e h = subst Both (sym (ap listed_refusal e)) h
 
       go : (c : Result (Unit {0}) Refusal) → check_is b ≡ c → (o : Option Held) → held_nth (reading b).held index ≡ o → Both (answer b index)
       go (Err x) e o f =
@@ -68,10 +67,10 @@ module _ (b : List ℕ) (index : ℕ) where
   stood k {h} s = subst (λ (a : Archive). StandsAt a.held index h) (archives.one-reading b k) s
 
   back : (f : Refusal) → Given b index f → answer b index ≡ f
-  back f (success k h s) = ap told_refusal (asked k (stands_nth (stood k s)))
-  back f (damaged x k) = ap told_refusal (no-archive ((broken.refuses b x).1 k))
+  back f (success k h s) = ap listed_refusal (asked k (stands_nth (stood k s)))
+  back f (damaged x k) = ap listed_refusal (no-archive ((broken.refuses b x).1 k))
   back f (beyond k l) =
-      ap told_refusal (asked k (none_nth (reading b).held index (subst (λ (a : Archive). length a.held ≤ index) (archives.one-reading b k) l)))
+      ap listed_refusal (asked k (none_nth (reading b).held index (subst (λ (a : Archive). length a.held ≤ index) (archives.one-reading b k) l)))
 
   succeeds : (f : Refusal) → Given b index f → f.number ≡ 0
       → (k : IsArchive b) × (h : Held) × StandsAt k.archive.held index h × (entry_is b index ≡ Ok h.entry)

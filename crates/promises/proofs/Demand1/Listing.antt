@@ -12,10 +12,9 @@ use Rattle.bits.specs.Bits.{pick}
 use Rattle.archive.specs.Reading.{reading}
 use Rattle.archive.specs.Refusals.{plain}
 use Rattle.archive.specs.Checking.{check_is, if_archive}
-use Rattle.archive.specs.Keeping.{leaves, over}
+use Rattle.archive.specs.Keeping.{stored_refusal, leaves, over}
 use Rattle.archive.specs.Listing.{listing, list_is, list_out}
 use Rattle.archive.specs.declared.refusal.Refusal.{Refusal}
-use Rattle.boc.specs.Calls.{told_refusal}
 use Rattle.promises.specs.Answers.{OneOf}
 use Rattle.promises.specs.Archive as said
 use Rattle.promises.specs.Archive.{IsArchive}
@@ -62,7 +61,7 @@ module _ (b : List ℕ) where
     unfolding list_is
     row = go (check_is b) refl (leb (length text) room) refl
       where
-        go : (c : Result (Unit {0}) Refusal) → check_is b ≡ c → (q : Bool) → leb (length text) room ≡ q → Both (told_refusal (answer_by c q))
+        go : (c : Result (Unit {0}) Refusal) → check_is b ≡ c → (q : Bool) → leb (length text) room ≡ q → Both (stored_refusal (answer_by c q))
         go (Err x) e q f =
             let k = (broken.refuses b x).0 e in
             (damaged x k, subst (OneOf (0 ∷ 7 ∷ 8 ∷ [])) (sym (seven k)) refl)
@@ -79,7 +78,7 @@ module _ (b : List ℕ) where
 
     back : (f : Refusal) → Given b room f → answer b room ≡ f
     unfolding list_is
-    back n (success k h) = ap told_refusal (fits k h)
+    back n (success k h) = ap stored_refusal (fits k h)
     back n (damaged x k) = rw ((broken.refuses b x).1 k)
     back n (no_room k h) = rw (archive k, lt-leb (length text) room (omega (arith, same_length k, h)))
 

@@ -23,9 +23,8 @@ use Rattle.archive.specs.Keeping.{over}
 use Rattle.archive.specs.Restoring.{lookup}
 use Rattle.archive.specs.declared.contents.Key.{Key}
 use Rattle.archive.specs.declared.refusal.Refusal.{Refusal}
-use Rattle.boc.specs.Calls.{told_refusal}
 use Rattle.reload.specs.Define.{is_definition, stands}
-use Rattle.reload.specs.Reload.{record_of, as_written, reloaded, reload_is, define_bytes, reload_out}
+use Rattle.reload.specs.Reload.{reloaded_refusal, record_of, as_written, reloaded, reload_is, define_bytes, reload_out}
 use Rattle.reload.specs.declared.Definition.{Definition}
 use Rattle.reload.specs.declared.Target.{Target}
 use Rattle.reload.proofs.Reloading.{out_of_range, no-archive, reload-held, reload-leaves}
@@ -56,7 +55,7 @@ abbrev numbers : List ℕ
 numbers = 0 ∷ 9 ∷ 7 ∷ 11 ∷ 12 ∷ 8 ∷ []
 
 -- the refusal of what writing answers
-as_number : (w : Result BitCount ℕ) → told_refusal (as_written w) ≡ plain (written_number w)
+as_number : (w : Result BitCount ℕ) → reloaded_refusal (as_written w) ≡ plain (written_number w)
 as_number (Ok n) = refl
 as_number (Err k) = refl
 
@@ -85,7 +84,7 @@ module _ (t : Target) (b : List ℕ) (key : Key) (d : Definition) (out : List �
       wrote s = found (Some h) is_held ∙ rw (stands-is t d.definition (record_of h).lists a.definition s)
 
       pub wrote-number : Standing t b key d h → answer t b key d out ≡ plain (writes.number (defined t b key d h) out)
-      wrote-number s = ap told_refusal (wrote s) ∙ as_number (write_is (defined t b key d h) out)
+      wrote-number s = ap reloaded_refusal (wrote s) ∙ as_number (write_is (defined t b key d h) out)
 
       fits : Standing t b key d h → bytes_for (length_of (defined t b key d h)) ≤ length out → writes.number (defined t b key d h) out ≡ 0
       fits s l = (((writing.promise).table (defined t b key d h) out).exactly 0).1 (writes.success (legal s) l)
@@ -106,23 +105,23 @@ module _ (t : Target) (b : List ℕ) (key : Key) (d : Definition) (out : List �
           let full = (((writing.promise).table (defined t b key d h) out).exactly 8).1 (writes.no_room (legal r a k h x s) (leb-false _ _ f)) in
           to (wrote-number r a k h x s ∙ ap plain full) (no_room r a k h x s (leb-false _ _ f), refl)
       by r a k h x false e u f =
-          to (ap told_refusal (found r a k (Some h) (is_held r a k h x)) ∙ rw e)
+          to (ap reloaded_refusal (found r a k (Some h) (is_held r a k h x)) ∙ rw e)
           (lost r a k h x (λ s. differ (sym (stands-is t _ _ a.definition s) ∙ e)), refl)
 
       go : (p : Bool) → in_range key ≡ p → (q : Bool) → is_definition d ≡ q → (c : Result (Unit {0}) Refusal) → check_is b ≡ c
           → (l : Option Held) → lookup key (reading b).held ≡ l → Both (answer t b key d out)
       go false e q f c g l i =
-          to (ap told_refusal (out_of_range t b key d out (rw e refl))) (unranged (λ x. differ (sym (ranged b key x.0) ∙ e)), refl)
+          to (ap reloaded_refusal (out_of_range t b key d out (rw e refl))) (unranged (λ x. differ (sym (ranged b key x.0) ∙ e)), refl)
       go true e false f c g l i =
-          to (ap told_refusal (out_of_range t b key d out (rw (e, f) refl))) (unranged (λ x. differ (sym (asked_is d x.1) ∙ f)), refl)
+          to (ap reloaded_refusal (out_of_range t b key d out (rw (e, f) refl))) (unranged (λ x. differ (sym (asked_is d x.1) ∙ f)), refl)
       go true e true f (Err x) g l i =
           let k = (broken.refuses b x).0 g in
-          to (ap told_refusal (no-archive t b key d out e f g))
+          to (ap reloaded_refusal (no-archive t b key d out e f g))
           (damaged x ((archives.in-range key).0 e) (is-asked d f) k, subst (OneOf numbers) (sym (seven k)) refl)
       go true e true f (Ok _) g None i =
           let r = (archives.in-range key).0 e in
           let k = (broken.passes b).0 g in
-          to (ap told_refusal (found r (is-asked d f) k None i)) (not-held r (is-asked d f) k (none-by b key r k i), refl)
+          to (ap reloaded_refusal (found r (is-asked d f) k None i)) (not-held r (is-asked d f) k (none-by b key r k i), refl)
       go true e true f (Ok _) g (Some h) i =
           let r = (archives.in-range key).0 e in
           let k = (broken.passes b).0 g in
@@ -131,12 +130,12 @@ module _ (t : Target) (b : List ℕ) (key : Key) (d : Definition) (out : List �
   back : (f : Refusal) → Given t b key d (length out) f → answer t b key d out ≡ f
   back f (success r a k h x s l) = wrote-number r a k h x s ∙ ap plain (fits r a k h x s l)
   back f (unranged r) =
-      ap told_refusal (out_of_range t b key d out
+      ap reloaded_refusal (out_of_range t b key d out
       (false-unless _ (λ e. let p = both (in_range key) (is_definition d) e in r ((archives.in-range key).0 p.0, is-asked d p.1))))
-  back f (damaged x r a k) = ap told_refusal (no-archive t b key d out (ranged b key r) (asked_is d a) ((broken.refuses b x).1 k))
-  back f (not-held r a k x) = ap told_refusal (found r a k None (holds-none b key r k x))
+  back f (damaged x r a k) = ap reloaded_refusal (no-archive t b key d out (ranged b key r) (asked_is d a) ((broken.refuses b x).1 k))
+  back f (not-held r a k x) = ap reloaded_refusal (found r a k None (holds-none b key r k x))
   back f (lost r a k h x s) =
-      ap told_refusal (found r a k (Some h) (is_held r a k h x)) ∙ rw (false-unless (stands t d.definition (record_of h).lists) (λ e. s (is-standing t _ _ e)))
+      ap reloaded_refusal (found r a k (Some h) (is_held r a k h x)) ∙ rw (false-unless (stands t d.definition (record_of h).lists) (λ e. s (is-standing t _ _ e)))
   back f (no_room r a k h x s l) =
       wrote-number r a k h x s
       ∙ ap plain ((((writing.promise).table (defined t b key d h) out).exactly 8).1 (writes.no_room (legal r a k h x s) l))

@@ -15,12 +15,11 @@ use Rattle.archive.specs.Reading.{reading}
 use Rattle.archive.specs.Refusals.{plain}
 use Rattle.archive.specs.Checking.{check_is}
 use Rattle.archive.specs.Keeping.{over}
-use Rattle.archive.specs.Restoring.{lookup, delivered, body_of, restore_is, restore_out}
+use Rattle.archive.specs.Restoring.{restored_refusal, lookup, delivered, body_of, restore_is, restore_out}
 use Rattle.archive.specs.declared.contents.Key.{Key}
 use Rattle.archive.specs.declared.refusal.Refusal.{Refusal}
 use Rattle.archive.specs.declared.Restored.{Restored}
 use Rattle.archive.proofs.Calls.Restore.{out_of_range, no-archive, as-delivered, restore-leaves}
-use Rattle.boc.specs.Calls.{told_refusal}
 use Rattle.promises.specs.Answers.{OneOf}
 use Rattle.promises.specs.Archive as archive
 use Rattle.promises.specs.Archive.{IsArchive, Ranged, HeldFor}
@@ -76,11 +75,11 @@ module _ (b : List ℕ) (key : Key) where
     row : Both (answer b key room)
     row = go (in_range key) refl (check_is b) refl held refl
       where
-        to : {r : Result Restored Refusal} → restore_is b key room ≡ r → Both (told_refusal r) → Both (answer b key room)
-        to e h = subst Both (sym (ap told_refusal e)) h
+        to : {r : Result Restored Refusal} → restore_is b key room ≡ r → Both (restored_refusal r) → Both (answer b key room)
+        to e h = subst Both (sym (ap restored_refusal e)) h
 
         by : (h : Held) → Ranged key → (k : IsArchive b) → Holds b key k h → (t : Bool) → leb (body_size h) room ≡ t
-            → Both (told_refusal {A = Restored} (pick t (Ok (record { bits = h.entry.bits; day = h.entry.day })) (Err (plain 8))))
+            → Both (restored_refusal (pick t (Ok (record { bits = h.entry.bits; day = h.entry.day })) (Err (plain 8))))
         by h r k d true f = (success r k h d (leb-true _ _ f), refl)
         by h r k d false f = (no_room r k h d (leb-false _ _ f), refl)
 
@@ -100,11 +99,11 @@ module _ (b : List ℕ) (key : Key) where
             to (asked r k (Some h) g) (by h r k (held_by r k h g) (leb (body_size h) room) refl)
 
     back : (f : Refusal) → Given b key room f → answer b key room ≡ f
-    back f (success r k h d l) = ap told_refusal (asked r k (Some h) (holds r k h d)) ∙ rw (le-leb _ _ l)
-    back f (unranged r) = ap told_refusal (out_of_range b key room (false-unless _ (λ e. r ((archives.in-range key).0 e))))
-    back f (damaged x r k) = ap told_refusal (no-archive b key room (ranged r) ((broken.refuses b x).1 k))
-    back f (not-held r k d) = ap told_refusal (asked r k None (holds-none r k d))
-    back f (no_room r k h d l) = ap told_refusal (asked r k (Some h) (holds r k h d)) ∙ rw (lt-leb _ _ l)
+    back f (success r k h d l) = ap restored_refusal (asked r k (Some h) (holds r k h d)) ∙ rw (le-leb _ _ l)
+    back f (unranged r) = ap restored_refusal (out_of_range b key room (false-unless _ (λ e. r ((archives.in-range key).0 e))))
+    back f (damaged x r k) = ap restored_refusal (no-archive b key room (ranged r) ((broken.refuses b x).1 k))
+    back f (not-held r k d) = ap restored_refusal (asked r k None (holds-none r k d))
+    back f (no_room r k h d l) = ap restored_refusal (asked r k (Some h) (holds r k h d)) ∙ rw (lt-leb _ _ l)
 
   -- what is held is given back
   pub restored-held : (out : List ℕ) → Ranged key → (k : IsArchive b) (h : Held) → Holds b key k h → body_size h ≤ length out

@@ -3,13 +3,12 @@
 use Rattle.std.specs.Prelude.{◌≡◌, refl, List, [], ◌∷◌, ◌++◌, ℕ, suc, ◌≤◌, ◌<◌, length, replicate, Ok, Err, Option, Some, None}
 use Rattle.reader.specs.Read.{read_is, answer_of, found_in}
 use Rattle.archive.specs.Model.{Held, bytes_of}
-use Rattle.archive.specs.Keeping.{over, captured, capture_is, capture_out}
+use Rattle.archive.specs.Keeping.{stored_refusal, over, captured, capture_is, capture_out}
 use Rattle.archive.specs.Refusals.{plain, of_pdu, of_body}
 use Rattle.archive.specs.Filing.{filing_of, body_agrees}
 use Rattle.archive.specs.Examples.{calls, profile_a}
 use Rattle.archive.specs.declared.refusal.Refusal.{Refusal}
 use Rattle.archive.specs.declared.contents.Entry.{Entry}
-use Rattle.boc.specs.Calls.{told_refusal}
 use Rattle.promises.specs.Answers.{Exactly}
 use Rattle.promises.specs.Held.{Holdable}
 use Rattle.promises.specs.Archive.{Agrees, IsArchive, HeldFor}
@@ -17,7 +16,7 @@ use Rattle.promises.specs.Broken.{number_of, Broken}
 use Rattle.promises.specs.Demand1.Reading as read
 
 abbrev pub answer : List ℕ → List ℕ → ℕ → ℕ → ℕ → Refusal
-answer b s n day room = told_refusal (capture_is b s n day room)
+answer b s n day room = stored_refusal (capture_is b s n day room)
 
 -- a day, an archive, and a legal PDU that it may hold
 pub record Offered (b s : List ℕ) (n day : ℕ) : Type 0 where

@@ -11,9 +11,8 @@ use Rattle.rules.specs.declared.request.Request.{Request}
 use Rattle.archive.specs.Refusals.{plain}
 use Rattle.archive.specs.Examples.{calls}
 use Rattle.archive.specs.declared.refusal.Refusal.{Refusal}
-use Rattle.boc.specs.Calls.{told_refusal}
 use Rattle.barring.specs.Decide.{decide_is}
-use Rattle.barring.specs.Decision.{verdict_of}
+use Rattle.barring.specs.Decision.{decided_refusal, verdict_of}
 use Rattle.barring.specs.declared.Decision.{Decision}
 use Rattle.barring.specs.declared.Decision.TheVariants.{Allowed, Barred, NotHeld}
 use Rattle.promises.specs.Answers.{Exactly}
@@ -21,7 +20,7 @@ use Rattle.promises.specs.Archive.{IsArchive}
 use Rattle.promises.specs.Broken.{number_of, Broken}
 
 abbrev pub answer : List ℕ → Request → Refusal
-answer b q = told_refusal (decide_is b q)
+answer b q = decided_refusal (decide_is b q)
 
 -- ---- a request in its range
 

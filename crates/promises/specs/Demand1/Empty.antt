@@ -1,12 +1,11 @@
 -- Demand 1, the empty archive: "9, 8. Each is given exactly then."
 use Rattle.std.specs.Prelude.{◌≡◌, refl, List, [], ◌∷◌, ℕ, ◌/◌, ◌%◌, ◌≤◌, ◌<◌, length, Ok, Err}
-use Rattle.archive.specs.Keeping.{over, empty_is, empty_out}
+use Rattle.archive.specs.Keeping.{stored_refusal, over, empty_is, empty_out}
 use Rattle.archive.specs.declared.refusal.Refusal.{Refusal}
-use Rattle.boc.specs.Calls.{told_refusal}
 use Rattle.promises.specs.Answers.{Exactly}
 
 abbrev pub number : ℕ → ℕ → ℕ
-number home room = (told_refusal (empty_is home room)).number
+number home room = (stored_refusal (empty_is home room)).number
 
 -- the home network in three bytes, the most significant first, and the entry count 0 in two
 abbrev pub header : ℕ → List ℕ

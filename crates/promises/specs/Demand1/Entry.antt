@@ -2,16 +2,15 @@
 use Rattle.std.specs.Prelude.{◌≡◌, List, [], ◌∷◌, ℕ, ◌+◌, ◌/◌, ◌≤◌, length, Ok}
 use Rattle.archive.specs.Model.{Held}
 use Rattle.archive.specs.Keeping.{over}
-use Rattle.archive.specs.Restoring.{entry_is, restore_is, restore_out}
+use Rattle.archive.specs.Restoring.{listed_refusal, entry_is, restore_is, restore_out}
 use Rattle.archive.specs.Refusals.{plain}
 use Rattle.archive.specs.declared.refusal.Refusal.{Refusal}
-use Rattle.boc.specs.Calls.{told_refusal}
 use Rattle.promises.specs.Answers.{Exactly}
 use Rattle.promises.specs.Archive.{IsArchive, StandsAt}
 use Rattle.promises.specs.Broken.{number_of, Broken}
 
 abbrev pub answer : List ℕ → ℕ → Refusal
-answer b index = told_refusal (entry_is b index)
+answer b index = listed_refusal (entry_is b index)
 
 -- the table of refusals, as far as this goes
 pub data Given (b : List ℕ) (index : ℕ) : Refusal → Type 0 where

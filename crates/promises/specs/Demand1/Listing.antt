@@ -1,18 +1,17 @@
 -- Demand 1, the listing that `contents` prints: 7, then 8. Each is given exactly then, with 7 its entry and place.
 use Rattle.std.specs.Prelude.{◌≡◌, refl, List, [], ◌∷◌, ℕ, ◌≤◌, ◌<◌, length, replicate, Ok, Err}
-use Rattle.archive.specs.Keeping.{over}
+use Rattle.archive.specs.Keeping.{stored_refusal, over}
 use Rattle.text.specs.Decimal.{digits, decimal, item}
 use Rattle.archive.specs.Listing.{two_items, first_line, lines, listing, list_is, list_out}
 use Rattle.archive.specs.Refusals.{plain}
 use Rattle.archive.specs.Examples.{calls}
 use Rattle.archive.specs.declared.refusal.Refusal.{Refusal}
-use Rattle.boc.specs.Calls.{told_refusal}
 use Rattle.promises.specs.Answers.{Exactly}
 use Rattle.promises.specs.Archive.{IsArchive}
 use Rattle.promises.specs.Broken.{number_of, Broken}
 
 abbrev pub answer : List ℕ → ℕ → Refusal
-answer b room = told_refusal (list_is b room)
+answer b room = stored_refusal (list_is b room)
 
 -- the table of refusals, as far as the listing goes
 pub data Given (b : List ℕ) (room : ℕ) : Refusal → Type 0 where

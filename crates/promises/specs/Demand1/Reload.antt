@@ -13,9 +13,8 @@ use Rattle.archive.specs.Keeping.{over}
 use Rattle.archive.specs.Refusals.{plain}
 use Rattle.archive.specs.declared.contents.Key.{Key}
 use Rattle.archive.specs.declared.refusal.Refusal.{Refusal}
-use Rattle.boc.specs.Calls.{told_refusal}
 use Rattle.reload.specs.Define.{define_of}
-use Rattle.reload.specs.Reload.{record_of, reload_is, reload_out}
+use Rattle.reload.specs.Reload.{reloaded_refusal, record_of, reload_is, reload_out}
 use Rattle.reload.specs.declared.Definition.{Definition}
 use Rattle.reload.specs.declared.Target.{Target}
 use Rattle.reload.specs.declared.Target.TheVariants.{Define, DefineExternal}
@@ -25,7 +24,7 @@ use Rattle.promises.specs.Broken.{number_of, Broken}
 use Rattle.promises.specs.Demand1.Restore.{Holds}
 
 abbrev pub answer : Target → List ℕ → Key → Definition → List ℕ → Refusal
-answer t b key d out = told_refusal (reload_is t b key d out)
+answer t b key d out = reloaded_refusal (reload_is t b key d out)
 
 -- a definition type that table 28 names, two bits, and an acknowledgement only where delivery is requested (note 3 of tables 10 and 12)
 pub record Asked (d : Definition) : Type 0 where

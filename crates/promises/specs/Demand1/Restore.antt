@@ -3,18 +3,17 @@ use Rattle.std.specs.Prelude.{◌≡◌, refl, List, [], ◌∷◌, ◌++◌, �
 use Rattle.archive.specs.Model.{Held, in_range}
 use Rattle.archive.specs.Filing.{filing_of, body_agrees}
 use Rattle.archive.specs.Keeping.{over}
-use Rattle.archive.specs.Restoring.{restore_is, restore_out}
+use Rattle.archive.specs.Restoring.{restored_refusal, restore_is, restore_out}
 use Rattle.archive.specs.Refusals.{plain, of_body}
 use Rattle.archive.specs.Examples.{calls, profile_a, part_of5, bytes_a}
 use Rattle.archive.specs.declared.refusal.Refusal.{Refusal}
 use Rattle.archive.specs.declared.contents.Key.{Key}
-use Rattle.boc.specs.Calls.{told_refusal}
 use Rattle.promises.specs.Answers.{Exactly}
 use Rattle.promises.specs.Archive.{IsArchive, Ranged, HeldFor}
 use Rattle.promises.specs.Broken.{number_of, Broken}
 
 abbrev pub answer : List ℕ → Key → ℕ → Refusal
-answer b key room = told_refusal (restore_is b key room)
+answer b key room = restored_refusal (restore_is b key room)
 
 module _ (b : List ℕ) (key : Key) where
   -- an archive holds this PDU for the user and part

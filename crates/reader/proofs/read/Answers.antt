@@ -4,7 +4,7 @@ use Rattle.std.proofs.Common.{Ok, Err, Some, rules}
 use Rattle.words.specs.RecordWords.{given_record}
 use Rattle.reader.specs.Words.{read_words_is}
 use Rattle.reader.specs.Read.{found_in, read_is}
-use Rattle.reader.proofs.Walked.{with-found, only_refused, read_back}
+use Rattle.reader.proofs.Walked.{with-found, only_refused, found_back}
 use Rattle.reader.proofs.read.Goals.{In_ok-read_words, After-record_from}
 use Rattle.reader.proofs.read.Goals as goal
 
@@ -24,12 +24,7 @@ accepted c =
 
 -- is what the words give
 given : (c : After-record_from) → let a = c.args in c.record_from.result ≡ Some (found_in (read_is a.s.now a.n.0))
-unfolding read_words_is
-given c =
-    let a = c.args in
-    c.record_from.ensures
-    ∙ ap given_record c.read_words.ensures.words_after
-    ∙ read_back a.s.now a.n.0 (sym c.read_words.ensures.value ∙ c.in_ok-read_words.was)
+given c = let a = c.args in c.record_from.ensures ∙ ap given_record c.read_words.ensures.words_after ∙ found_back a.s.now a.n.0
 
 pub unwrap-requires : goal.unwrap-requires
 unwrap-requires c = rw (given c)
